@@ -36,7 +36,7 @@ documents=$prefix/share/doc/udfburn
 list=$root$documents/installed
 
 if [ -n "$uninstall" ]; then
-    [ -f "$list" ] || { echo "install.sh: $list is not there" >&2; exit 1; }
+    [ -f "$list" ] || { echo "install.sh: $list is missing" >&2; exit 1; }
     while IFS= read -r path; do
         echo "$path"
         rm -f "$root$path"
@@ -55,7 +55,7 @@ fi
 udfburn=${UDFBURN:-crates/udfburn/out/udfburn}
 udfburnd=${UDFBURND:-crates/udfburnd/out/udfburnd}
 for program in "$udfburn" "$udfburnd"; do
-    [ -x "$program" ] || { echo "install.sh: $program is not there: build it by rt, or name it by UDFBURN and UDFBURND" >&2; exit 1; }
+    [ -x "$program" ] || { echo "install.sh: $program is missing: build it with rt, or name it with UDFBURN and UDFBURND" >&2; exit 1; }
 done
 library=${LIBRARY:-}
 libdir=${LIBDIR:-$prefix/lib}

@@ -1,4 +1,5 @@
-/* author IMAGE LABEL FOLDER: makes a volume and stores a folder on it. Files have at most a mebibyte.
+/* author IMAGE LABEL FOLDER: makes a volume and stores a folder on it. Files have at most a mebibyte. If it was
+ * interrupted, delete the image and run it again.
  *
  *     cc author.c $(pkg-config --cflags --libs udfburn) -o author
  */

@@ -11,12 +11,13 @@
  */
 #include <inttypes.h>
 #include <stdio.h>
+#include <string.h>
 #include <time.h>
 
 #include <udfburn.h>
 
 /* A volume has room for at most 921 MB and 4,096 files and directories: parts of this size fill it. */
-enum { PART = 256 * 1024, PARTS_OF_FOLDER = 512, PATH_ROOM = 256, TRIES = 3 };
+enum { PART = 256 * 1024, PARTS_OF_FOLDER = 512, LONGEST_NAME = 254, PATH_ROOM = 300, TRIES = 3 };
 
 /* Who writes. Take a number of your own: all recorders that may continue each other's streams share one. */
 static const uint64_t CLIENT = UINT64_C(0x7265636f7264);
@@ -120,8 +121,9 @@ static int32_t record(struct recorder *recorder) {
 }
 
 int main(int argc, char **argv) {
-    if (argc != 3) {
-        fprintf(stderr, "usage: record IMAGE NAME < STREAM\n");
+    /* No path may be cut to the room for it: parts would seem to be there that are not. */
+    if (argc != 3 || strlen(argv[2]) > LONGEST_NAME) {
+        fprintf(stderr, "usage: record IMAGE NAME < STREAM, with a NAME of at most %d bytes\n", LONGEST_NAME);
         return 2;
     }
     struct recorder recorder = {argv[1], argv[2], NULL, 0, 0};

@@ -17,6 +17,9 @@
 
 static const uint64_t CLIENT = 1;   /* nobody else writes to this volume */
 
+/* Of the format. Take another one for each disc, and keep it: it finishes a format that was interrupted. */
+static const uint64_t MOMENT = UINT64_C(1764201600000000);
+
 struct disc {
     struct burn_drive *drive;
     uint32_t blocks;            /* that the medium has room for */
@@ -47,7 +50,7 @@ static int32_t disc_read(void *context, uint32_t address, uint32_t count, void *
     return status != 1 || done != size;
 }
 
-/* Writes blocks behind those that are written, and returns when they have left the drive's buffer. */
+/* Writes blocks after those that are written, and returns when they have left the drive's buffer. */
 static int32_t disc_write(void *context, uint32_t address, uint32_t count, const void *blocks) {
     enum { FLUSH = 1 };
     struct disc *disc = context;
@@ -96,12 +99,9 @@ static int store_all(udfburn *volume, char **files) {
 static int record(struct disc *disc, const char *label, char **files) {
     const struct udfburn_drive drive = {disc, disc_capacity, disc_next, disc_read, disc_write};
     udfburn *volume = NULL;
-    uint32_t next;
-    int32_t status = disc_next(disc, &next) == 0 ? UDFBURN_OK : UDFBURN_DEVICE;
-    if (status == UDFBURN_OK && next == 0) {
-        status = udfburn_format_drive(&drive, label, (uint64_t)time(NULL) * 1000000);
-    }
-    if (status == UDFBURN_OK) {
+    int32_t status = udfburn_open_drive(&drive, &volume);
+    /* A format writes nothing on a medium that holds something else. */
+    if (status == UDFBURN_VOLUME && udfburn_format_drive(&drive, label, MOMENT) == UDFBURN_OK) {
         status = udfburn_open_drive(&drive, &volume);
     }
     if (status != UDFBURN_OK) {

@@ -42,18 +42,18 @@ static int is_same(const struct udfburn_drive *one, const struct udfburn_drive *
         && one->read == other->read && one->write == other->write;
 }
 
-/* Enters a port under a number that is free, unless its drive is there already. */
+/* Enters a port under the least number that is free, unless its drive is there already. The ports are in order. */
 static int enter(struct port *port) {
     int is_new = 1;
     pthread_mutex_lock(&ports_lock);
-    port->number = FIRST_NUMBER;
-    for (struct port *other = ports; other; other = other->next) {
+    for (const struct port *other = ports; other; other = other->next)
         if (is_same(&other->drive, &port->drive)) is_new = 0;
-        if (other->number >= port->number) port->number = other->number + 1;
-    }
     if (is_new) {
-        port->next = ports;
-        ports = port;
+        struct port **gap = &ports;
+        port->number = FIRST_NUMBER;
+        for (; *gap && (*gap)->number == port->number; gap = &(*gap)->next) port->number++;
+        port->next = *gap;
+        *gap = port;
     }
     pthread_mutex_unlock(&ports_lock);
     return is_new;
@@ -85,6 +85,23 @@ static int32_t make_port(const struct udfburn_drive *drive, struct port **made) 
     return UDFBURN_OK;
 }
 
+/* The core tries a call that a signal interrupted again, so no other failure may look like one. */
+static int failed(void) {
+    errno = EIO;
+    return -1;
+}
+
+static int next_of(const struct port *port, uint32_t *address) {
+    return port->drive.next(port->drive.context, address) || *address > port->capacity ? failed() : 0;
+}
+
+/* UDFBURN_VOLUME where more is written than a volume may have. */
+static int32_t check_length(const struct port *port) {
+    uint32_t next;
+    if (next_of(port, &next)) return UDFBURN_DEVICE;
+    return next > UDFBURN_GREATEST_CAPACITY ? UDFBURN_VOLUME : UDFBURN_OK;
+}
+
 int32_t udfburn_format_drive(const struct udfburn_drive *drive, const char *label, uint64_t moment) {
     struct port *port;
     if (!is_whole(drive) || !label) return UDFBURN_ARGUMENT;
@@ -92,7 +109,9 @@ int32_t udfburn_format_drive(const struct udfburn_drive *drive, const char *labe
     if (status != UDFBURN_OK) return status;
     uint32_t capacity = port->capacity < UDFBURN_GREATEST_CAPACITY ? port->capacity : UDFBURN_GREATEST_CAPACITY;
     if (capacity < UDFBURN_LEAST_CAPACITY || moment >= UDFBURN_MOMENT_LIMIT) status = UDFBURN_VOLUME;
-    else status = udfburn_core_format_fd(port->number, (const uint8_t *)label, strlen(label), moment, capacity);
+    if (status == UDFBURN_OK) status = check_length(port);
+    if (status == UDFBURN_OK)
+        status = udfburn_core_format_fd(port->number, (const uint8_t *)label, strlen(label), moment, capacity);
     release(port);
     return status;
 }
@@ -104,7 +123,9 @@ int32_t udfburn_open_drive(const struct udfburn_drive *drive, udfburn **out) {
     int32_t status = make_port(drive, &port);
     if (status != UDFBURN_OK) return status;
     udfburn *handle = udfburn_new_handle();
-    status = handle ? udfburn_open_number(handle, port->number, out) : UDFBURN_MEMORY;
+    status = handle ? check_length(port) : UDFBURN_MEMORY;
+    if (status == UDFBURN_OK) status = udfburn_open_number(handle, port->number, out);
+    else udfburn_close(handle);
     if (status == UDFBURN_OK) {
         (*out)->port = port;
         (*out)->release = release;
@@ -115,16 +136,6 @@ int32_t udfburn_open_drive(const struct udfburn_drive *drive, udfburn **out) {
 }
 
 /* ---- The calls of the core ---- */
-
-/* The core tries a call that a signal interrupted again, so no other failure may look like one. */
-static int failed(void) {
-    errno = EIO;
-    return -1;
-}
-
-static int next_of(const struct port *port, uint32_t *address) {
-    return port->drive.next(port->drive.context, address) || *address > port->capacity ? failed() : 0;
-}
 
 /* Of `count` bytes from `offset` on: the blocks that they are. */
 static int blocks_of(size_t count, off_t offset, uint32_t *address, uint32_t *blocks) {

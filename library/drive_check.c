@@ -17,7 +17,7 @@ struct trial {
     uint8_t *blocks;
 };
 
-/* The block of an address. No two are equal, and each eighth is zeros behind its first bytes. */
+/* The block of an address. No two are equal, and each eighth is zeros after its first bytes. */
 static void fill(uint32_t address, uint8_t *block) {
     uint32_t state = address * 2654435761u + 1;
     for (int i = 0; i < UDFBURN_BLOCK; i++) {

@@ -4,12 +4,23 @@
 
 #include "udfburn.h"
 
+#include <sys/types.h>
+
+/* A file that this process works on. */
+struct udfburn_file {
+    int32_t fd;                 /* -1: none */
+    int32_t must_have_name;     /* since it was opened by its path */
+    dev_t device;
+    ino_t number;               /* on its device */
+    struct udfburn_file *next;
+};
+
 /* A volume that is open. */
 struct udfburn {
     void *core;
-    int32_t named;              /* the descriptor of a file that was opened by its path and must keep a name, else -1 */
+    struct udfburn_file file;
     int32_t ended;              /* what udfburn_answer() returns from now on, or UDFBURN_OK */
-    int32_t lost;               /* the file lost its name: no answer is given any more */
+    int32_t lost;               /* the file is not there any more: no answer is given */
     unsigned length_bytes;      /* of the frame that has begun: how many bytes of its length came */
     uint32_t length;            /* these bytes, and then how many bytes of its payload are missing */
     void *port;                 /* of a caller's drive, else NULL */
@@ -25,8 +36,39 @@ int32_t udfburn_open_number(udfburn *handle, int32_t number, udfburn **out);
 /* Whether the stream stands between two frames, and no answer waits. */
 int udfburn_between_frames(const udfburn *handle);
 
-/* UDFBURN_DEVICE, from then on, where the file lost its name: what it holds goes with the handle. */
-int32_t udfburn_check_name(udfburn *handle);
+/* UDFBURN_DEVICE, from then on, where the file lost its name, or the descriptor is not of this file any more. */
+int32_t udfburn_check_file(udfburn *handle);
+
+/* ---- Files ---- */
+
+/* A name, and the folder that it is in. So the folder that is synced is the one that has the name. */
+struct udfburn_place {
+    int folder;
+    const char *name;
+};
+
+/* Opens the folder of a path, which the caller closes. */
+int32_t udfburn_find_place(const char *path, struct udfburn_place *place);
+
+int32_t udfburn_sync_folder(const struct udfburn_place *place);
+
+/* A descriptor of the regular file, or -1. */
+int udfburn_open_regular(const struct udfburn_place *place);
+
+/* The same, of a file that is made if the name is free. */
+int udfburn_open_or_make(const struct udfburn_place *place);
+
+/* Takes a file up that has at most so many whole blocks. UDFBURN_VOLUME: it has more. UDFBURN_DEVICE: no image can be had by
+ * this descriptor, or this process works on the file already. A lock does not show that, since duplicates of a descriptor
+ * have one together. The structure stays where it is until udfburn_leave_file(). */
+int32_t udfburn_enter_file(struct udfburn_file *file, int32_t fd, uint32_t capacity);
+
+/* Before the descriptor is closed, or at once after it: another file that gets its number on the device is refused until then. */
+void udfburn_leave_file(struct udfburn_file *file);
+
+/* Whether its descriptor is of this file, with a name if it must have one. Who closes a descriptor of the library's by
+ * mistake may get its number for another file. */
+int udfburn_has_file(const struct udfburn_file *file);
 
 /* ---- The core. A handle is what udfburn_core_new wrote, and the slices are never NULL. ---- */
 

@@ -419,7 +419,7 @@ int32_t udfburn_last_number(udfburn *handle, uint64_t client, uint64_t *number) 
     }
     int32_t status = ready(handle);
     if (status == UDFBURN_OK) {
-        status = udfburn_check_name(handle);
+        status = udfburn_check_file(handle);
     }
     return status == UDFBURN_OK ? udfburn_core_last_number(handle->core, client, number) : status;
 }

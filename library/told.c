@@ -6,7 +6,7 @@
 int32_t udfburn_status(udfburn *handle, struct udfburn_status *status) {
     struct udfburn_core_status found;
     if (!handle || !status) return UDFBURN_ARGUMENT;
-    if (udfburn_check_name(handle) != UDFBURN_OK) return UDFBURN_DEVICE;
+    if (udfburn_check_file(handle) != UDFBURN_OK) return UDFBURN_DEVICE;
     int32_t outcome = udfburn_core_status(handle->core, &found);
     if (outcome != UDFBURN_OK) return outcome;
     if (found.label_length >= sizeof status->label) return UDFBURN_VOLUME;
@@ -25,7 +25,7 @@ int32_t udfburn_status(udfburn *handle, struct udfburn_status *status) {
 int32_t udfburn_log(udfburn *handle, struct udfburn_commit *commit) {
     struct udfburn_core_commit found;
     if (!handle || !commit) return UDFBURN_ARGUMENT;
-    if (udfburn_check_name(handle) != UDFBURN_OK) return UDFBURN_DEVICE;
+    if (udfburn_check_file(handle) != UDFBURN_OK) return UDFBURN_DEVICE;
     int32_t outcome = udfburn_core_log(handle->core, commit->address, &found);
     if (outcome != UDFBURN_OK) return outcome;
     commit->moment = found.moment;

@@ -16,9 +16,10 @@
  *     }
  *
  * THREADS. A handle (`udfburn *`) serves one call at a time. Different threads may use it one after the other, if they
- * order their calls, for example with a lock. Different handles share nothing. The library starts no thread, keeps no
- * signal handler and prints nothing. Do not call it from a signal handler. In a child after fork(), use no handle of the
- * parent.
+ * order their calls, for example with a lock. Different handles are independent. The library starts no thread, keeps no
+ * signal handler and prints nothing. Do not call it from a signal handler. In a child after fork(), the only call on a
+ * handle of the parent is udfburn_close(). It takes nothing from the parent. Until then the child shares the lock of the
+ * file, even when the parent has closed its handle or ended. A program that the child starts does not.
  *
  * MEMORY. It uses malloc, realloc and free. When an allocation fails, the call returns UDFBURN_MEMORY. Results that you
  * must free are freed with udfburn_free().
@@ -26,8 +27,10 @@
  * STACK. A call needs 64 KiB of stack. Give a thread that calls the library at least 128 KiB, and what your drive's
  * functions need.
  *
- * TEXT. Paths of the host's file system are passed on as they are. Paths on the volume and labels are UTF-8. A path on
- * the volume begins with a slash, has no empty name, and no slash at its end; "/" alone is the root.
+ * TEXT. All texts end with a zero byte. Paths of the host's file system are passed on as they are. Paths on the volume and
+ * labels are UTF-8. A path on the volume begins with a slash, has no empty name, and no slash at its end; "/" alone is the
+ * root. A name is not "." or "..", and has at most 254 characters, or 127 if one of them is above U+00FF. A label has 1 to
+ * 30, or 1 to 15. U+FEFF, U+FFFE and characters above U+FFFF are not valid.
  *
  * MOMENTS are microseconds since 1970-01-01 UTC, below UDFBURN_MOMENT_LIMIT.
  *
@@ -54,7 +57,7 @@ extern "C" {
 #define UDFBURN_LEAST_CAPACITY 512                    /* blocks of a volume */
 #define UDFBURN_GREATEST_CAPACITY 450000              /* blocks of a volume */
 #define UDFBURN_FILE_LIMIT 1048576                    /* bytes of a file */
-#define UDFBURN_MOMENT_LIMIT 4102444800000000u        /* the first moment that a volume cannot tell */
+#define UDFBURN_MOMENT_LIMIT 4102444800000000u        /* the first moment that a volume cannot record */
 
 /* ---- Statuses ------------------------------------------------------------------------------------------------------ */
 
@@ -85,8 +88,8 @@ enum {
     UDFBURN_TREE_FULL = 42,     /* the tree has 4,096 files and directories */
     UDFBURN_NOT_DIRECTORY = 43, /* it is a file, and a directory is needed (queries only) */
 
-    /* The request is not committed, and changed nothing. */
-    UDFBURN_STALE = 48,         /* the number is older than the four requests whose replies are kept */
+    /* The call committed nothing, and changed nothing. */
+    UDFBURN_STALE = 48,         /* the number was committed before, and its reply is not kept any more */
     UDFBURN_GAP = 49,           /* the number is above the client's next one */
     UDFBURN_CLIENTS_FULL = 50,  /* the volume has 64 clients and takes no further one */
     UDFBURN_FULL = 51,          /* the medium has no room for it; a smaller request may still fit */
@@ -110,30 +113,35 @@ typedef struct udfburn udfburn;
  * format with the same label, moment and capacity was interrupted: that format is finished. A volume that these three
  * made, with no commit yet, stays as it is: that is success too. Every other file stays as it is, and the status is
  * UDFBURN_VOLUME. After UDFBURN_OK the volume and its name are on the disk.
- *   The path's last part may not be a symbolic link. The moment is stored; give each volume one of its own.
- * UDFBURN_TEXT: the label is not valid; it takes 2 to 31 bytes on the medium. UDFBURN_VOLUME: also a moment or a capacity
- * that is out of range. UDFBURN_DEVICE, UDFBURN_MEMORY, UDFBURN_ARGUMENT. A file that was created for the call may be left
- * empty on failure. */
+ *   Give each volume a moment of its own: readers show it as the volume's UUID. Keep it until the call returns UDFBURN_OK,
+ * so that you can finish a format that was interrupted. A loss of power may leave one that cannot be finished: the status
+ * is UDFBURN_VOLUME. Until that UDFBURN_OK nothing of yours is in the file, so you may delete it and format again.
+ *   The path's last part may not be a symbolic link, and its folder must be readable.
+ * UDFBURN_TEXT: the label is not valid. UDFBURN_VOLUME: also a moment or a capacity that is out of range. UDFBURN_DEVICE,
+ * UDFBURN_MEMORY, UDFBURN_ARGUMENT. A file that was created for the call may be left empty on failure. */
 int32_t udfburn_format(const char *path, const char *label, uint64_t moment, uint32_t capacity);
 
 /* The same on an open descriptor, which must be of a regular file, open for reading and writing, without O_APPEND. The
- * descriptor belongs to the library from the call on, which closes it, whatever the status is. Sync the folder yourself
- * if the file is new. */
+ * descriptor belongs to the library from the call on, which closes it, whatever the status is: do not close it, and do
+ * not use it. If the file is new, sync its folder yourself. */
 int32_t udfburn_format_fd(int32_t fd, const char *label, uint64_t moment, uint32_t capacity);
 
 /* Open the volume in the file at `path`, and set `*out`. The file is locked (flock) until udfburn_close(): a second open
  * of it returns UDFBURN_DEVICE, in this process or in another. The file is synced before anything is read, and its name
  * too. If it loses its last name while it is open, calls on the handle return UDFBURN_DEVICE.
- *   The path's last part may not be a symbolic link.
+ *   The path's last part may not be a symbolic link, and its folder must be readable. The file must be writable.
  * UDFBURN_VOLUME: the file holds no volume, or a damaged one. UDFBURN_DEVICE, UDFBURN_MEMORY, UDFBURN_ARGUMENT. `*out` is
  * NULL on failure. */
 int32_t udfburn_open(const char *path, udfburn **out);
 
-/* The same on an open descriptor, as in udfburn_format_fd(). That the file keeps its name is for you to see to. */
+/* The same on an open descriptor, as in udfburn_format_fd(). That the file keeps its name is for you to see to.
+ *   A duplicate of the descriptor (by dup, fork or a socket) has the same lock. In this process a second open by one
+ * returns UDFBURN_DEVICE all the same. Let no other process open the file by one while this handle is open. */
 int32_t udfburn_open_fd(int32_t fd, udfburn **out);
 
-/* A new volume in memory. You write its blocks to the medium yourself: see udfburn_next_block(). Statuses as
- * udfburn_format(). */
+/* A new volume in memory. You write its blocks to the medium yourself: see udfburn_next_block(). All its blocks stay in
+ * memory until udfburn_close(). To go on later with a volume that is on a medium, open it as a drive of your own.
+ *   Statuses as udfburn_format(). */
 int32_t udfburn_open_memory(const char *label, uint64_t moment, uint32_t capacity, udfburn **out);
 
 /* Close a volume and free the handle. Nothing is written: all that was acknowledged is on the medium already. NULL is
@@ -149,10 +157,11 @@ void udfburn_close(udfburn *handle);
  *
  * Use one of two ways:
  *   - Set the number to 0. The call takes the client's next number and writes it into the structure before it does
- *     anything. After UDFBURN_DEVICE, call again with the same structure. After UDFBURN_MEMORY, close the handle, open the
- *     volume again, and do the same. For another request set the number to 0 again.
- *   - Number requests yourself, and store each number with its request before you send it. After a crash send the last
- *     one again, or ask udfburn_last_number(): a number that is not above it is committed.
+ *     anything. After UDFBURN_DEVICE, call again with the same structure. After UDFBURN_MEMORY, or if it fails again, close
+ *     the handle, open the volume again, and do the same. For another request set the number to 0 again.
+ *   - Number requests yourself, and store each number and moment with its request before you send it. After a crash send
+ *     the last one again, with the same number and moment. udfburn_last_number() says which numbers are committed, but not
+ *     whether they were refused: before you delete a source, send its request again, or look at the tree.
  *
  * The calls return UDFBURN_OK when the change is committed and durable (of a volume in memory: when its blocks can be
  * taken), 33 to 42 when the request is committed and refused, and the other statuses as said above. UDFBURN_ARGUMENT: also
@@ -160,7 +169,7 @@ void udfburn_close(udfburn *handle);
 struct udfburn_request {
     uint64_t client;            /* above 0 */
     uint64_t number;            /* above 0; or 0: the client's next number, which the call writes here */
-    uint64_t moment;            /* the time that the volume shows for the change */
+    uint64_t moment;            /* the time that the volume shows for the change; it may be before that of another */
     uint32_t commit;            /* out: the commit of the request, from 1 on; 0: it is not known to be committed */
     uint32_t repeated;          /* out: 1 if it was committed before this call, else 0 */
 };
@@ -182,7 +191,7 @@ int32_t udfburn_rename(udfburn *handle, struct udfburn_request *request, const c
 /* Remove a file or an empty directory. */
 int32_t udfburn_remove(udfburn *handle, struct udfburn_request *request, const char *path);
 
-/* The number of the client's last committed request. `*number` is 0 if the volume knows no request of it. */
+/* The number of the client's last committed request, done or refused. `*number` is 0 if the volume knows none of it. */
 int32_t udfburn_last_number(udfburn *handle, uint64_t client, uint64_t *number);
 
 /* ---- Queries ------------------------------------------------------------------------------------------------------- */
@@ -208,14 +217,14 @@ struct udfburn_name {
     int32_t kind;               /* UDFBURN_FILE or UDFBURN_DIRECTORY */
 };
 
-/* The names of a directory, in stored order. `*names` is one block, strings included: free it with one udfburn_free(). On
- * failure `*names` is NULL and `*count` is 0. */
+/* The names of a directory, a new one after the others. `*names` is one block, strings included: free it with one
+ * udfburn_free(). On failure `*names` is NULL and `*count` is 0. */
 int32_t udfburn_list(udfburn *handle, const char *path, struct udfburn_name **names, size_t *count);
 
 /* Free a result. NULL is allowed. */
 void udfburn_free(void *memory);
 
-/* A volume at a glance. */
+/* A volume at a glance. C++ needs the word `struct` too, since a function has the same name. */
 struct udfburn_status {
     uint64_t moment;            /* of the newest commit, or of the format */
     uint32_t capacity;          /* in blocks */
@@ -258,9 +267,11 @@ int32_t udfburn_log(udfburn *handle, struct udfburn_commit *commit);
 /* Take `count` bytes of the stream of messages, cut anywhere, and answer every message that is complete. Each answer is
  * made after its commit is on the medium. The answers wait in the handle until udfburn_take().
  *   UDFBURN_MEMORY and UDFBURN_TOO_LONG end the stream: the answers that wait may be taken, some message may have been
- * run without an answer, and every later call returns the same status. Close the handle and open it again, and repeat
- * each request that has no answer, with its number.
- *   UDFBURN_DEVICE: the file lost its name. No answer waits, and every later call returns the same. */
+ * run without an answer, and every later call returns the same status, except udfburn_status() and udfburn_log(). Close
+ * the handle and open the volume again, and repeat each request that has no answer, with its number.
+ *   UDFBURN_DEVICE: the file lost its name. No answer waits, and every later call returns the same. Other failures of the
+ * file or the drive are answers.
+ *   UDFBURN_ARGUMENT: NULL. The stream goes on. */
 int32_t udfburn_answer(udfburn *handle, const void *bytes, size_t count);
 
 /* How many bytes of answers wait. */
@@ -271,16 +282,19 @@ size_t udfburn_take(udfburn *handle, void *into, size_t room);
 
 /* ---- A volume in memory --------------------------------------------------------------------------------------------
  *
- * Take its blocks in order, write each to the medium, and report it. The first 262 are those of the format. Then send one
- * request at a time, and take its blocks before the next request. The last of them makes the commit valid: write it after
- * the others are durable. The request is acknowledged when the last one is durable too, and not before. If a block cannot
- * be written, close the handle: the medium holds the commits that are complete there. */
+ * Take its blocks in order, and write them to the medium in this order. The first 262 are those of the format. Then send
+ * one request at a time, and take all its blocks, until none waits, before the next request. The last of them makes the
+ * commit valid: write it after the others are durable. The request is acknowledged when the last one is durable too, and
+ * not before. You may write each block when you get it, and sync it before the next one. Or collect those of a request,
+ * write all but the last one, sync, write the last one, and sync again. If a block cannot be written, close the handle: the
+ * medium holds the commits that are complete there. */
 
 /* Copy the next block to `block`, which has room for UDFBURN_BLOCK bytes, and its address. It returns the same block until
  * udfburn_took(). UDFBURN_NONE: no block waits, or the volume is not in memory. */
 int32_t udfburn_next_block(udfburn *handle, uint32_t *address, void *block);
 
-/* The block that udfburn_next_block() returned is durable on the medium. UDFBURN_NONE: no block waits. */
+/* The block that udfburn_next_block() returned is written, or collected: go on to the one after it. UDFBURN_NONE: no block
+ * waits, or the volume is not in memory. */
 int32_t udfburn_took(udfburn *handle);
 
 /* ---- A drive of your own -------------------------------------------------------------------------------------------
@@ -290,7 +304,7 @@ int32_t udfburn_took(udfburn *handle);
  *
  * The library calls your functions from within the call on the handle, in the same thread, one at a time. Each returns 0
  * for success and any other number for failure. They must return: no longjmp, no C++ exception, no end of the thread. They
- * must not use the handle that they serve.
+ * must not use the handle or the drive that they serve; other handles they may use.
  *
  * A drive is a row of blocks of UDFBURN_BLOCK bytes, addressed from 0. This is what it owes:
  *

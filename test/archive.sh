@@ -3,7 +3,7 @@
 # killed, disks that are full, images that are damaged.
 #
 # usage: test/archive.sh [--large] [UDFBURN [NAME..]]
-# --large adds what takes long: 100 kills, 3 GB, 10^7 rows. A NAME is a module of test/archive, as test_commands. Its last line is
+# --large adds what takes long: 200 kills, 3 GB, 10^7 rows. A NAME is a module of test/archive, as test_commands. Its last line is
 # 'archive: N passed, M failed'. It takes Python 3.11 or later; PYTHON names another than Debian's, which has the driver of PostgreSQL.
 set -u
 home=$(cd "$(dirname "$0")" && pwd)

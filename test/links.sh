@@ -92,7 +92,7 @@ fenced {
         if (span ~ /^[a-z_.0-9]+\.edit$/) { told("edit", crate == "" ? "*" : crate, span); source = ""; continue }
         words = split(span, word, " ")
         for (j = 1; j <= words; j++) {
-            if (word[j] ~ /^[.A-Za-z_-]+\// && word[j] !~ /[*$]|NAME|\/out\//) told("path", word[j], "")
+            if (word[j] ~ /^[.A-Za-z_-]+\// && word[j] !~ /[*$]|NAME|(^|\/)out\//) told("path", word[j], "")
         }
         if (is_source(span)) { source = span; continue }
         if (source != "" && span ~ /^[A-Za-z_][A-Za-z0-9_:]*$/) { told("in", source, span); continue }

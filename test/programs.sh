@@ -296,7 +296,7 @@ told 'the state before a damaged table' 0 '' ''
 cp before.img damaged.img
 flip damaged.img $((261 * 2048 + 56)) 007
 run ls damaged.img /
-told 'the state behind a damaged link' 0 'f a\n' ''
+told 'the state after a damaged link' 0 'f a\n' ''
 for command in log check; do
     run "$command" damaged.img
     told "$command of a damaged link" 1 '' 'udfburn: 67 Damaged block 261 cause 78\n'

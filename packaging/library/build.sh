@@ -52,7 +52,7 @@ compile() {
             ${CFLAGS:-} -DUDFBURN_VERSION="\"$version\"" -c "library/$name.c" -o "$room/$name.o"
     done
 }
-compile udfburn requests told drive drive_check
+compile udfburn files requests told drive drive_check
 
 # What the header declares, apart from what is only in the library with drives.
 names() {
@@ -83,8 +83,8 @@ for call in pread pwrite lseek fsync ftruncate flock posix_fadvise close; do
 done
 objcopy "$@" "$room/core.all.o" "$room/core.port.o"
 
-merge "$room/libudfburn.o" "$room/names.plain" "$room/udfburn.o" "$room/requests.o" "$room/told.o" "$room/core.all.o"
-merge "$room/libudfburn_drive.o" "$room/names" "$room/udfburn.o" "$room/requests.o" "$room/told.o" "$room/drive.o" \
+merge "$room/libudfburn.o" "$room/names.plain" "$room/udfburn.o" "$room/files.o" "$room/requests.o" "$room/told.o" "$room/core.all.o"
+merge "$room/libudfburn_drive.o" "$room/names" "$room/udfburn.o" "$room/files.o" "$room/requests.o" "$room/told.o" "$room/drive.o" \
     "$room/drive_check.o" "$room/core.port.o"
 rm -f "$out"/libudfburn.a "$out"/libudfburn_drive.a "$out"/libudfburn.so*
 ar rcsD "$out/libudfburn.a" "$room/libudfburn.o"

@@ -173,7 +173,9 @@ def patterns(index: int, few: int) -> Dict[str, str]:
     path = f"/made/year-{at // 5000}/month-{at // 400 % 12}/folder-{at}"
     return {
         "`where`": f"where {path}/{name}", "`find` of an exact name": name, "`find` of one folder": f"{path}/*", "`find PREFIX*`": f"{name[:-few]}*",
-        "`find *END`": f"*{name[few - 1:]}", "`find *MIDDLE*`, which compares every name": f"*{name[6:-5]}*",
+        "`find *END`": f"*{name[few - 1:]}", "`find *MIDDLE*`, five letters": f"*{name[6:-5]}*", "`find *MIDDLE*`, four letters": f"*{name[6:-6]}*",
+        "`find *MIDDLE?END*`, three letters and two": f"*{name[5:8]}?{name[9:-5]}*", "`find /FOLDER/*/NAME`": f"/made/*/{name}",
+        "`find *X*`, one letter: every name is compared": "*X*",
     }
 
 
@@ -183,6 +185,24 @@ def ask(folder: str, wanted: Dict[str, str], forget: Callable[[], None]) -> None
         done = subprocess.run([sys.executable, "-c", ASK, folder, pattern], check=True, env=environment(), capture_output=True, text=True)
         (found, cold, reads), (_, warm, _) = [line.split() for line in done.stdout.splitlines()]
         row(f"{name}: {int(found):,} found", f"{float(cold):,.1f} ms", f"{float(warm):,.1f} ms", f"{int(reads):,}")
+
+
+INDEX = """
+import sys
+from udfburn.archive.config import read
+from udfburn.archive.catalogue import Catalogue
+with Catalogue(read(sys.argv[1])) as catalogue, catalogue.base.transaction():
+    catalogue.names.remake()
+"""
+"""Makes the index of names again."""
+
+
+def index(folder: str, bytes_of: Callable[[], int], rows: int) -> None:
+    """Has the index made of rows that were put in beside the program, and prints what it takes."""
+    size, before, began = bytes_of(), processor(), time.monotonic()
+    run(sys.executable, "-c", INDEX, folder)
+    seconds, spent = time.monotonic() - began, processor() - before
+    print(f"the index of {rows:,} names: {seconds:.0f} s, {spent:.0f} s of processor time, {(bytes_of() - size) / rows:.1f} bytes a file\n", flush=True)
 
 
 def forget_file(path: str) -> None:
@@ -209,6 +229,7 @@ def find_sqlite(room: str) -> None:
     one_file(room, folder)
     path = os.path.join(folder, "catalogue.sqlite")
     fill_catalogue(path, ROWS)
+    index(folder, lambda: os.path.getsize(path), ROWS)
     row(f"{ROWS:,} rows in SQLite, {os.path.getsize(path) / ROWS:.0f} bytes a file", "Cold", "Warm", "Pages that are read")
     row("---", "---", "---", "---")
     ask(folder, patterns(7_654_321, 6), lambda: forget_file(path))
@@ -234,7 +255,16 @@ def find_postgresql(case: Room, room: str) -> None:
     server.sql("VACUUM ANALYZE folder", "large")
     # Else it would have to recover all of them at each start.
     server.sql("CHECKPOINT")
-    (size,) = server.sql("SELECT sum(pg_total_relation_size(name::regclass)) FROM unnest(ARRAY['file', 'folder']) AS name", "large")[0]
+
+    def size_of(*tables: str) -> int:
+        return sum(int(server.sql(f"SELECT pg_total_relation_size('{table}')", "large")[0][0]) for table in tables)
+
+    of_index = ("recent_names", "indexed_names", "trigram")
+    index(folder, lambda: size_of(*of_index), ROWS_POSTGRESQL)
+    for table in of_index:
+        server.sql(f"VACUUM ANALYZE {table}", "large")
+    server.sql("CHECKPOINT")
+    size = size_of("file", "folder", *of_index)
 
     def forget() -> None:
         server.stop()

@@ -11,9 +11,11 @@ import signal
 import subprocess
 import sys
 import tempfile
+import threading
 import time
 import unittest
-from typing import Any, Dict, List, Optional, Tuple
+from contextlib import contextmanager
+from typing import Any, Dict, Iterator, List, Optional, Tuple
 
 UDFBURN = os.environ.get("UDFBURN", "")
 LARGE = bool(os.environ.get("LARGE"))
@@ -62,6 +64,26 @@ def kill(process: "subprocess.Popen[bytes]") -> None:
     """Kills a command at once. The programs that it runs lose their input with it."""
     process.send_signal(signal.SIGKILL)
     process.wait()
+
+
+@contextmanager
+def slowed(process: "subprocess.Popen[bytes]") -> Iterator[None]:
+    """Lets a process run for a twenty-fifth of the time, so that others come in between, and it holds no lock for long."""
+    ended = threading.Event()
+
+    def stop_and_continue() -> None:
+        while not ended.wait(0.002):
+            process.send_signal(signal.SIGSTOP)
+            ended.wait(0.05)
+            process.send_signal(signal.SIGCONT)
+
+    thread = threading.Thread(target=stop_and_continue)
+    thread.start()
+    try:
+        yield
+    finally:
+        ended.set()
+        thread.join()
 
 
 def digests(folder: str) -> Digests:

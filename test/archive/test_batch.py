@@ -164,7 +164,7 @@ class Batches(WithArchive):
         self.assertIn("were acknowledged", done.errors)
         self.assertEqual(open(self.image(), "rb").read(), data)
         write(self.note(), b"so long\n")
-        self.assertIn("says no length", self.add(status=1).errors)
+        self.assertIn("has no length in it", self.add(status=1).errors)
         os.unlink(self.note())
         self.require_all()
 

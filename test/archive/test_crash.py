@@ -12,7 +12,7 @@ import sys
 import time
 from typing import List
 
-from .support import LARGE, PATIENCE, WithArchive, digests, environment, kill, make_tree, start, wait_until, write
+from .support import LARGE, PATIENCE, WithArchive, digests, environment, kill, make_tree, slowed, start, wait_until, write
 
 KILLS = 100 if LARGE else 14
 
@@ -139,12 +139,23 @@ class Crashes(WithArchive):
 class SideBySide(WithArchive):
     """Several processes on one archive with SQLite."""
 
+    def begin(self, name: str) -> "subprocess.Popen[bytes]":
+        return start("add", os.path.join(self.source, name), "--at", f"/s/{name}", "--archive", self.archive)
+
+    def has_image(self, number: int) -> bool:
+        return os.path.exists(os.path.join(self.archive, "open", f"T-{number:06}.img"))
+
     def test_two_processes_have_a_volume_each(self) -> None:
         self.init()
         for name in ("a", "b"):
             make_tree(os.path.join(self.source, name), 300, ord(name))
-        processes = [start("add", os.path.join(self.source, name), "--at", f"/s/{name}", "--archive", self.archive) for name in ("a", "b")]
-        self.assertEqual([process.wait() for process in processes], [0, 0])
+        first = self.begin("a")
+        wait_until(lambda: self.has_image(1))
+        with slowed(first):
+            second = self.begin("b")
+            wait_until(lambda: self.has_image(2))
+            self.assertIsNone(first.poll())
+        self.assertEqual([first.wait(), second.wait()], [0, 0])
         self.assertEqual(len(self.volumes()), 2)
         self.assertEqual(self.get_all(), digests(self.source))
         self.require_agreed()
@@ -155,15 +166,14 @@ class SideBySide(WithArchive):
 
     def test_one_path_is_one_process_s(self) -> None:
         self.init()
-        make_tree(self.source, 700, 40)
-        process = start("add", self.source, "--at", "/s/a", "--archive", self.archive)
-        wait_until(lambda: os.path.exists(os.path.join(self.archive, "open", "T-000001.img")))
-        process.send_signal(signal.SIGSTOP)
-        self.assertIsNone(process.poll())
-        for at in ("/s/a", "/s/a/b", "/s"):
-            done = self.do("add", self.source, "--at", at, status=1)
-            self.assertIn("another process", done.errors)
-        process.send_signal(signal.SIGCONT)
+        make_tree(os.path.join(self.source, "a"), 700, 40)
+        process = self.begin("a")
+        wait_until(lambda: self.has_image(1))
+        with slowed(process):
+            for at in ("/s/a", "/s/a/b", "/s"):
+                done = self.do("add", self.source, "--at", at, status=1)
+                self.assertIn("another process", done.errors)
+            self.assertIsNone(process.poll())
         # What another process fills is left open.
         self.do("close")
         self.assertEqual(process.wait(), 0)

@@ -4,12 +4,18 @@ from __future__ import annotations
 
 import os
 import random
+import sys
 import time
 import unittest
 from typing import Dict, Set
 
-from .support import LARGE, WithArchive, digests, make_tree, start
-from .test_report import fill_catalogue
+from .support import LARGE, PACKAGE, WithArchive, digests, make_tree, start
+from .test_report import fill_catalogue, made_name
+
+sys.path.insert(0, PACKAGE)
+
+from udfburn.archive.catalogue import Catalogue  # noqa: E402
+from udfburn.archive.config import read  # noqa: E402
 
 
 class Many(WithArchive):
@@ -60,9 +66,14 @@ class Large(WithArchive):
             file.write(b"1")
         self.add()
         fill_catalogue(os.path.join(self.archive, "catalogue.sqlite"), 10_000_000)
-        for pattern in ("name-1234567.bin", "name-123456*", "*4567.bin"):
+        # Their names came beside the program, which would have kept an index of them.
+        with Catalogue(read(self.archive)) as catalogue, catalogue.base.transaction():
+            catalogue.names.remake()
+        expected = {"*23456*": sum(1 for index in range(10_000_000) if "23456" in made_name(index))}
+        for pattern in ("name-1234567.bin", "name-123456*", "*4567.bin", "*1234?6*", "/made/*/name-1234567.bin", *expected):
             began = time.monotonic()
             count = self.do("find", pattern).last()["files"]
             print(f"find {pattern}: {count} in {time.monotonic() - began:.2f} s, with the start of the program")
             self.assertGreater(count, 0)
+            self.assertEqual(count, expected.get(pattern, count))
         self.do("where", "/s/f")

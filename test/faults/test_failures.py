@@ -198,7 +198,7 @@ class Failures(Serving):
                         self.assertEqual(bytes(disk.disk), whole, "formatted, and it is not on the disk")
 
     def test_a_file_that_was_cut_inside_a_block(self) -> None:
-        """What is left behind the last whole block is written over; where that fails the file is cut back, and it is done anew."""
+        """What is left after the last whole block is written over; where that fails the file is cut back, and it is done anew."""
         for left in (1, 1000, 2047):
             for rule in ("", "pwrite:1:E28", "pwrite:1:P100E28", "pwrite:1:P3000E5", "fsync:2:E5", "pwrite:2:E5", "fsync:3:A5"):
                 with self.subTest(left=left, rule=rule):

@@ -5,7 +5,9 @@
 #endif
 #include "support.h"
 
+#include <signal.h>
 #include <sys/file.h>
+#include <sys/wait.h>
 
 static void names_of_statuses(const char *version) {
     EXPECT(!strcmp(udfburn_version(), version));
@@ -31,6 +33,29 @@ static void odd_paths(void) {
     EXPECT(access("nowhere", F_OK) == -1);
     STATUS(UDFBURN_DEVICE, udfburn_open("missing.img", &handle));
     EXPECT(access("missing.img", F_OK) == -1);
+}
+
+/* Paths of the host are bytes: they need not be UTF-8, and one that the system finds too long is a status. */
+static void paths_of_the_host(void) {
+    static const char *const odd[] = {"\xFF\xFE.img", "./a b\n.img", "folder/../odd.img"};
+    char *path = (char *)malloc(70000);
+    udfburn *handle = NULL;
+    for (size_t i = 0; i < sizeof odd / sizeof *odd; i++) {
+        STATUS(UDFBURN_OK, udfburn_format(odd[i], "DISC", MOMENT, 600));
+        udfburn_close(opened(odd[i]));
+        EXPECT(!unlink(odd[i]));
+    }
+    for (size_t length = 256; length < 70000; length *= 4) {
+        memset(path, 'n', length);
+        path[length] = '\0';
+        for (int deep = 0; deep < 2; deep++) {
+            STATUS(UDFBURN_DEVICE, udfburn_format(path, "DISC", MOMENT, 600));
+            STATUS(UDFBURN_DEVICE, udfburn_open(path, &handle));
+            for (size_t i = 1; i < length; i += 2) path[i] = '/';
+        }
+    }
+    EXPECT(!handle);
+    free(path);
 }
 
 static void formats(void) {
@@ -64,6 +89,55 @@ static void formats(void) {
     free(bytes);
     STATUS(UDFBURN_VOLUME, udfburn_format("new.img", "DISC", MOMENT, 600));
     EXPECT(is_same_file("cut.img", "new.img"));
+    /* The words that made it are a success, until it has a commit. */
+    STATUS(UDFBURN_OK, udfburn_format("new.img", "DISC", UDFBURN_MOMENT_LIMIT - 1, UDFBURN_LEAST_CAPACITY));
+    EXPECT(is_same_file("cut.img", "new.img"));
+    udfburn *handle = opened("new.img");
+    STATUS(UDFBURN_OK, udfburn_answer(handle, create_a, sizeof create_a));
+    udfburn_close(handle);
+    STATUS(UDFBURN_VOLUME, udfburn_format("new.img", "DISC", UDFBURN_MOMENT_LIMIT - 1, UDFBURN_LEAST_CAPACITY));
+    bytes = file_bytes("new.img", &count);
+    EXPECT(count > 262 * UDFBURN_BLOCK);
+    free(bytes);
+}
+
+/* Labels at their limits, in memory. */
+static void labels(void) {
+    static const char umlauts[] =
+        "\xC3\xA4\xC3\xA4\xC3\xA4\xC3\xA4\xC3\xA4\xC3\xA4\xC3\xA4\xC3\xA4\xC3\xA4\xC3\xA4\xC3\xA4\xC3\xA4\xC3\xA4\xC3\xA4\xC3\xA4"
+        "\xC3\xA4\xC3\xA4\xC3\xA4\xC3\xA4\xC3\xA4\xC3\xA4\xC3\xA4\xC3\xA4\xC3\xA4\xC3\xA4\xC3\xA4\xC3\xA4\xC3\xA4\xC3\xA4\xC3\xA4";
+    static const char *const good[] = {
+        "A", ".", "a/b", "123456789012345678901234567890", umlauts,
+        "nnnnnnnnnnnnnnnnnnnnnnnnnnnnn\xC3\xA4", "\xE2\x82\xACnnnnnnnnnnnnnn"
+    };
+    static const char *const bad[] = {
+        "", "1234567890123456789012345678901", "\xE2\x82\xACnnnnnnnnnnnnnnn", "\xEF\xBB\xBF", "\xEF\xBF\xBE", "\xF0\x9F\x98\x80", "\xC3"
+    };
+    struct udfburn_status status;
+    udfburn *handle = NULL;
+    for (size_t i = 0; i < sizeof good / sizeof *good; i++) {
+        STATUS(UDFBURN_OK, udfburn_open_memory(good[i], MOMENT, 600, &handle));
+        STATUS(UDFBURN_OK, udfburn_status(handle, &status));
+        EXPECT(!strcmp(status.label, good[i]));
+        udfburn_close(handle);
+    }
+    for (size_t i = 0; i < sizeof bad / sizeof *bad; i++) STATUS(UDFBURN_TEXT, udfburn_open_memory(bad[i], MOMENT, 600, &handle));
+}
+
+/* A file that is longer than the volume, or than any volume, is no volume; a part of a block does not count. */
+static void files_that_are_too_long(void) {
+    static const off_t lengths[] = {601 * UDFBURN_BLOCK, 600 * UDFBURN_BLOCK + 1, (off_t)5 << 30};
+    udfburn *handle = NULL;
+    for (size_t i = 0; i < sizeof lengths / sizeof *lengths; i++) {
+        struct stat found;
+        put_file("long.img", "somebody's only copy", 20);
+        EXPECT(!truncate("long.img", lengths[i]));
+        STATUS(UDFBURN_VOLUME, udfburn_format("long.img", "DISC", MOMENT, 600));
+        STATUS(UDFBURN_VOLUME, udfburn_format_fd(image_at("long.img"), "DISC", MOMENT, 600));
+        STATUS(UDFBURN_VOLUME, udfburn_open("long.img", &handle));
+        EXPECT(!handle && !stat("long.img", &found) && found.st_size == lengths[i]);
+    }
+    EXPECT(!unlink("long.img"));
 }
 
 /* Descriptors that no image can be had by. Each is closed by the call. */
@@ -119,6 +193,56 @@ static void by_descriptor(void) {
     EXPECT(is_closed(fd));
 }
 
+/* Duplicates of a descriptor have one lock, and yet one handle alone has the file. */
+static void duplicates(void) {
+    udfburn *handle = NULL, *second = NULL;
+    make("calls.img");
+    int fd = image_at("calls.img"), other = dup(fd);
+    STATUS(UDFBURN_OK, udfburn_open_fd(fd, &handle));
+    STATUS(UDFBURN_DEVICE, udfburn_open_fd(other, &second));
+    EXPECT(!second && is_closed(other) && !is_closed(fd));
+    other = dup(fd);
+    STATUS(UDFBURN_DEVICE, udfburn_format_fd(other, "DISC", MOMENT, 600));
+    EXPECT(is_closed(other));
+    STATUS(UDFBURN_OK, udfburn_answer(handle, create_a, sizeof create_a));
+    expect_answers(handle, created, sizeof created);
+    other = dup(fd);
+    udfburn_close(handle);
+    EXPECT(is_closed(fd));
+    STATUS(UDFBURN_OK, udfburn_open_fd(other, &handle));
+    udfburn_close(handle);
+}
+
+/* The descriptor that this process has of a file. */
+static int descriptor_of(const char *path) {
+    struct stat wanted, found;
+    int fd = 0;
+    if (stat(path, &wanted)) abort();
+    while (fd < 100 && (fstat(fd, &found) || found.st_dev != wanted.st_dev || found.st_ino != wanted.st_ino)) fd++;
+    return fd;
+}
+
+/* Somebody closes the library's descriptor by mistake, and its number is that of another volume then: nothing is written there. */
+static void a_number_of_another_file(void) {
+    uint64_t number;
+    make("one.img");
+    make("two.img");
+    make("three.img");
+    for (int by_path = 0; by_path < 2; by_path++) {
+        udfburn *handle = NULL;
+        if (by_path) STATUS(UDFBURN_OK, udfburn_open("one.img", &handle));
+        else STATUS(UDFBURN_OK, udfburn_open_fd(image_at("one.img"), &handle));
+        int fd = descriptor_of("one.img"), other = image_at("two.img");
+        EXPECT(fcntl(fd, F_GETFD) == FD_CLOEXEC && dup2(other, fd) == fd);
+        STATUS(UDFBURN_DEVICE, udfburn_answer(handle, create_a, sizeof create_a));
+        STATUS(UDFBURN_DEVICE, udfburn_last_number(handle, 7, &number));
+        EXPECT(udfburn_answered(handle) == 0);
+        udfburn_close(handle);
+        close(other);
+        EXPECT(is_same_file("two.img", "three.img") && is_same_file("one.img", "three.img"));
+    }
+}
+
 static void volumes_that_are_none(void) {
     static uint8_t blocks[300 * UDFBURN_BLOCK];
     udfburn *handle = NULL;
@@ -147,6 +271,49 @@ static void one_writer(void) {
     close(other);
     udfburn_close(opened("calls.img"));
     udfburn_close(NULL);
+}
+
+/* A child of fork() that waits, and before that closes its copy of the handle if it is told to. */
+static pid_t child_with(udfburn *handle, int closes) {
+    int ends[2];
+    char byte = 0;
+    if (pipe(ends)) abort();
+    pid_t child = fork();
+    if (child == 0) {
+        if (closes) udfburn_close(handle);
+        if (write(ends[1], &byte, 1) == 1) pause();
+        _exit(EXIT_FAILURE);
+    }
+    EXPECT(child > 0 && read(ends[0], &byte, 1) == 1);
+    close(ends[0]);
+    close(ends[1]);
+    return child;
+}
+
+static void end_child(pid_t child) {
+    int status;
+    EXPECT(!kill(child, SIGKILL) && waitpid(child, &status, 0) == child && WIFSIGNALED(status));
+}
+
+/* A child shares the lock until it closes its copy, which takes nothing from the parent. */
+static void after_fork(void) {
+    udfburn *handle, *second;
+    make("calls.img");
+    handle = opened("calls.img");
+    pid_t child = child_with(handle, 1);
+    STATUS(UDFBURN_OK, udfburn_answer(handle, create_a, sizeof create_a));
+    expect_answers(handle, created, sizeof created);
+    int other = image_at("calls.img");
+    EXPECT(flock(other, LOCK_EX | LOCK_NB) == -1);
+    close(other);
+    udfburn_close(handle);
+    handle = opened("calls.img");
+    end_child(child);
+    child = child_with(handle, 0);
+    udfburn_close(handle);
+    STATUS(UDFBURN_DEVICE, udfburn_open("calls.img", &second));
+    end_child(child);
+    udfburn_close(opened("calls.img"));
 }
 
 static void frames(void) {
@@ -347,10 +514,16 @@ int main(int argc, char **argv) {
     int before = descriptors();
     names_of_statuses(argv[2]);
     odd_paths();
+    paths_of_the_host();
     formats();
+    labels();
+    files_that_are_too_long();
     by_descriptor();
+    duplicates();
+    a_number_of_another_file();
     volumes_that_are_none();
     one_writer();
+    after_fork();
     frames();
     frames_and_calls();
     a_frame_too_long();

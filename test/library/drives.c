@@ -10,7 +10,7 @@
 /* What is wrong with a drive. */
 enum fault {
     NONE, CAPACITY_FAILS, CAPACITY_GROWS, NEXT_FAILS, NEXT_LAGS, READ_FAILS, READ_GIVES_OTHERS, READ_GIVES_MORE, WRITE_FAILS,
-    WRITE_LOSES_ONE, TOO_SMALL, NEXT_BEYOND
+    WRITE_LOSES_ONE, TOO_SMALL, NEXT_BEYOND, LARGER_THAN_A_VOLUME
 };
 
 /* A medium that is an array, and what becomes of a write. */
@@ -28,12 +28,14 @@ struct disc {
 
 static int32_t capacity_of(void *context, uint32_t *blocks) {
     struct disc *disc = (struct disc *)context;
+    if (disc->fault == LARGER_THAN_A_VOLUME) return *blocks = UINT32_MAX, 0;
     *blocks = disc->fault == TOO_SMALL ? UDFBURN_LEAST_CAPACITY - 1 : CAPACITY + (disc->fault == CAPACITY_GROWS ? disc->calls++ : 0);
     return disc->fault == CAPACITY_FAILS;
 }
 
 static int32_t next_of(void *context, uint32_t *address) {
     struct disc *disc = (struct disc *)context;
+    if (disc->fault == LARGER_THAN_A_VOLUME) return *address = UDFBURN_GREATEST_CAPACITY + 1, 0;
     *address = disc->fault == NEXT_BEYOND ? CAPACITY + 1 : disc->fault == NEXT_LAGS && disc->next > 0 ? disc->next - 1 : disc->next;
     return disc->fault == NEXT_FAILS ? -1 : 0;
 }
@@ -239,6 +241,9 @@ static void wrong_arguments(void) {
     STATUS(UDFBURN_DEVICE, udfburn_open_drive(&drive, &handle));
     discs[2].fault = CAPACITY_FAILS;
     STATUS(UDFBURN_DEVICE, udfburn_open_drive(&drive, &handle));
+    discs[2].fault = LARGER_THAN_A_VOLUME;
+    STATUS(UDFBURN_VOLUME, udfburn_open_drive(&drive, &handle));
+    STATUS(UDFBURN_VOLUME, udfburn_format_drive(&drive, "DISC", MOMENT));
     discs[2].fault = NONE;
     udfburn_close(opened_on(&discs[2]));
 }

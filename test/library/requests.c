@@ -294,7 +294,7 @@ static void test_clients(void) {
 
 static void test_paths(void) {
     static const char *const bad[] = {
-        "", "a", "a/b", "//", "/a/", "/a//b", "/.", "/a/..", "/\xff", "/\xc3", "/\xf0\x9f\x98\x80", "/\xef\xbb\xbf"
+        "", "a", "a/b", "//", "/a/", "/a//b", "/.", "/a/..", "/\xff", "/\xc3", "/\xf0\x9f\x98\x80", "/\xef\xbb\xbf", "/\xef\xbf\xbe"
     };
     udfburn *disc = volume_of(CAPACITY);
     char *name = calloc(1, 70000);
@@ -308,6 +308,13 @@ static void test_paths(void) {
     GIVES(create(disc, name, "longest"), UDFBURN_OK);
     CHECK(holds(disc, name, "longest", 7));
     name[255] = 'n';
+    GIVES(create(disc, name, ""), UDFBURN_TEXT);
+    /* Two bytes a character where one is above U+00FF: 127 of them. */
+    memcpy(name + 1, "\xe2\x82\xac", 3);
+    name[130] = '\0';
+    GIVES(create(disc, name, "longest"), UDFBURN_OK);
+    name[130] = 'n';
+    name[131] = '\0';
     GIVES(create(disc, name, ""), UDFBURN_TEXT);
     /* A frame says 16 bits of a name's length: 2 of this one. */
     memset(name + 1, 'n', 65538);

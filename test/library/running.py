@@ -7,6 +7,7 @@ from typing import Sequence
 from library.building import REPOSITORY, Case
 
 DRIVES = "libudfburn_drive.a"
+VALGRIND = ("valgrind", "-q", "--error-exitcode=99", "--leak-check=full", "--show-leak-kinds=all", "--errors-for-leak-kinds=all")
 
 
 def version() -> str:

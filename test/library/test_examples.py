@@ -34,7 +34,7 @@ def setUpModule() -> None:  # noqa: N802
     where.mkdir()
     for name, others in PROGRAMS.items():
         subprocess.run(
-            ["cc", "-std=c99", "-Wall", "-Wextra", "-Werror", f"-I{library}", str(REPOSITORY / "examples" / f"{name}.c"),
+            ["cc", "-std=c99", "-Wall", "-Wextra", "-Werror", "-pedantic", f"-I{library}", str(REPOSITORY / "examples" / f"{name}.c"),
              str(library / "libudfburn_drive.a"), "-pthread", *others, "-o", str(where / name)], check=True,
         )
     subprocess.run(["cc", "-shared", "-fPIC", "-O2", str(REPOSITORY / "test/faults/shim.c"), "-o", str(where / SHIM), "-ldl"], check=True)
@@ -140,6 +140,19 @@ class Record(WithImage):
         self.assertEqual(self.on_volume(), end)
         self.record(self.stream, end)
         self.check_recorded(recorded(self.stream[:end], self.stream[end:]))
+
+    def test_long_names(self) -> None:
+        """The longest name that a volume takes has its parts; a longer one is refused before the stream is read."""
+        for length in (247, 248, 254):
+            name = "n" * length
+            self.start_anew()
+            for at, part in ((0, b"one"), (3, b"two")):
+                done = self.run_example("record", "disc.img", name, data=part)
+                self.assertEqual((done.returncode, done.stdout.split(), done.stderr), (0, [b"%d" % at, b"%d" % (at + 3)], b""))
+            self.assertEqual(tree_of(self.image), {name: None, f"{name}/00": None, f"{name}/00/000": b"one", f"{name}/00/001": b"two"})
+        for name in ("n" * 255, "/n" * 150):
+            done = self.run_example("record", "disc.img", name, data=b"one")
+            self.assertEqual((done.returncode, done.stdout), (2, b""))
 
     def test_killed_at_each_call(self) -> None:
         """The process is killed before and after each write and sync of the image, and what is left is recorded then."""
@@ -308,6 +321,23 @@ class Recorder(WithImage):
         self.recorder("other")
         self.assertEqual(Path(self.image).read_bytes()[:len(before)], before)
 
+    def test_a_format_that_is_interrupted(self) -> None:
+        """The next call finishes it, wherever the medium ends."""
+        (self.folder / "small").write_bytes(b"small")
+        self.recorder("small")
+        whole = Path(self.image).read_bytes()
+        for blocks in (1, 100, 261):
+            Path(self.image).write_bytes(whole[:blocks * 2048])
+            self.assertEqual(self.recorder("small"), ["stored small"])
+            self.assertEqual(tree_of(self.image), {"small": b"small"})
+            self.assertEqual(Path(self.image).read_bytes()[:262 * 2048], whole[:262 * 2048])
+
+    def test_a_medium_that_holds_something_else(self) -> None:
+        (self.folder / "small").write_bytes(b"small")
+        Path(self.image).write_bytes(b"e" * 4096)
+        self.recorder("small", status=1)
+        self.assertEqual(Path(self.image).read_bytes(), b"e" * 4096)
+
     def test_a_full_drive(self) -> None:
         """A file for which there is no room is no commit, and a smaller one is stored after it."""
         for name in "abcdef":
@@ -363,6 +393,16 @@ class Document(WithImage):
             self.assertEqual(self.shown(path, b"b", f"fsync:{number}:A5;ftruncate:2:E5"), (0, b"stored\n"))
         self.assertEqual(tree_of(self.image), {"a": b"a", **{str(number): b"b" for number in range(1, 5)}})
         self.assertEqual(self.commits(), 5)
+
+    def test_a_format_that_is_interrupted(self) -> None:
+        """The next call finishes it."""
+        for rules in ("pwrite:1:K", "pwrite:1:P1000K", "pwrite:1:k", "pwrite:2:K", "pwrite:2:P1000K", "pwrite:2:k", "fsync:3:K"):
+            Path(self.image).unlink(missing_ok=True)
+            faults = {"LD_PRELOAD": str(examples() / SHIM), "FAULT_IMAGE": "disc.img", "FAULT_RULES": rules}
+            killed = subprocess.run(["./shown", "disc.img", "/a"], cwd=self.folder, input=b"a", check=False, env=self.environment(**faults))
+            self.assertEqual(killed.returncode, -signal.SIGKILL, rules)
+            self.assertEqual(self.shown("/a", b"a"), (0, b"stored\n"), rules)
+            self.assertEqual(tree_of(self.image), {"a": b"a"})
 
     def test_a_file_that_is_no_volume(self) -> None:
         Path(self.image).write_bytes(b"something else")

@@ -1,4 +1,4 @@
-"""The commits that the library tells of one by one are those of `udfburn log`, each with the moment of its request."""
+"""The commits that the library reports one by one are those of `udfburn log`, each with the moment of its request."""
 from __future__ import annotations
 
 import random
@@ -57,7 +57,7 @@ class Log(Case):
         self.assertGreater(commits, 5 * STREAMS)
 
     def test_a_damaged_chain(self) -> None:
-        """A table in the middle is unreadable: the commits above it are told, and the end says so where `udfburn log` refuses."""
+        """A table in the middle is unreadable: the commits above it are reported, and the end says so where `udfburn log` refuses."""
         chance = random.Random(SEED)
         program = self.compiled("log.c")
         self.udfburn("format", "one.img", "DISC", str(FORMATTED), "3000")

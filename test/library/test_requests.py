@@ -4,11 +4,12 @@ from __future__ import annotations
 import re
 
 from library.building import CLANG, GCC, Case
+from library.running import VALGRIND
 
 
 class Requests(Case):
-    def holds(self, program: str) -> None:
-        last = self.ran(program).splitlines()[-1]
+    def holds(self, *words: str) -> None:
+        last = self.ran(*words).splitlines()[-1]
         found = re.fullmatch(r"requests: (\d+) passed, 0 failed", last)
         self.assertTrue(found and int(found[1]) > 300, last)
 
@@ -19,3 +20,6 @@ class Requests(Case):
 
     def test_watched(self) -> None:
         self.holds(self.compiled("requests.c", watched=True))
+
+    def test_under_valgrind(self) -> None:
+        self.holds(*VALGRIND, self.compiled("requests.c"))

@@ -1,7 +1,7 @@
 """The programs in C of this folder under valgrind and AddressSanitizer, in threads, on little stack, and many times over."""
 from __future__ import annotations
 
-from library.running import DRIVES, Running
+from library.running import DRIVES, VALGRIND, Running
 
 # Enough for a thread that calls the library (udfburn.h).
 STACK = 65536
@@ -14,10 +14,15 @@ class Watched(Running):
                 self.passes(source, self.compiled(source, archive=archive, watched=True))
 
     def test_under_valgrind(self) -> None:
-        for source, archive in (("calls.c", "libudfburn.a"), ("drives.c", DRIVES)):
+        for source, archive in (("calls.c", "libudfburn.a"), ("drives.c", DRIVES), ("told.c", "libudfburn.a")):
             with self.subTest(source):
-                valgrind = ["valgrind", "-q", "--error-exitcode=99", "--leak-check=full", "--show-leak-kinds=all", "--errors-for-leak-kinds=all"]
-                self.passes(source, self.compiled(source, archive=archive), valgrind)
+                self.passes(source, self.compiled(source, archive=archive), VALGRIND)
+
+    def test_drives_that_fail_and_lie_by_chance(self) -> None:
+        for watched, rounds in ((False, "40"), (True, "10")):
+            with self.subTest(watched=watched):
+                said = self.ran(self.compiled("chance.c", archive=DRIVES, watched=watched), rounds)
+                self.assertRegex(said, r"^chance: [1-9]\d+ expected, 0 failed\n$")
 
     def test_ten_thousand_opens(self) -> None:
         program = self.compiled("opens.c")

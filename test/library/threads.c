@@ -1,4 +1,4 @@
-/* Volumes in several threads at once, each thread with a file and a drive of its own.
+/* Volumes in several threads at once, each thread with a file and a drive of its own; then one handle that they use in turn.
  * usage: threads FOLDER */
 #ifndef _GNU_SOURCE
 #define _GNU_SOURCE
@@ -77,6 +77,44 @@ static void *work_on(void *given) {
     return NULL;
 }
 
+static pthread_mutex_t turn = PTHREAD_MUTEX_INITIALIZER;
+static udfburn *shared;
+
+/* Creates files on the shared handle, each in a turn of its own, with a query in another one. */
+static void *work_in_turn(void *given) {
+    struct work *work = (struct work *)given;
+    work->status = UDFBURN_OK;
+    for (int i = 0; i < FILES && work->status == UDFBURN_OK; i++) {
+        struct udfburn_request request = {(uint64_t)work->number + 1, 0, MOMENT, 0, 0};
+        struct udfburn_node node = {0, 0, 0};
+        char path[32];
+        snprintf(path, sizeof path, "/%d.%d", work->number, i);
+        pthread_mutex_lock(&turn);
+        work->status = udfburn_create(shared, &request, path, path, strlen(path));
+        pthread_mutex_unlock(&turn);
+        pthread_mutex_lock(&turn);
+        if (work->status == UDFBURN_OK) work->status = udfburn_stat(shared, path, &node);
+        pthread_mutex_unlock(&turn);
+        if (work->status == UDFBURN_OK && node.size != strlen(path)) work->status = UDFBURN_USED;
+    }
+    return NULL;
+}
+
+static void in_turn(struct work *works) {
+    struct udfburn_status status;
+    STATUS(UDFBURN_OK, udfburn_format("shared.img", "DISC", MOMENT, CAPACITY));
+    shared = opened("shared.img");
+    for (int i = 0; i < THREADS; i++)
+        if (pthread_create(&works[i].thread, NULL, work_in_turn, &works[i])) abort();
+    for (int i = 0; i < THREADS; i++) {
+        if (pthread_join(works[i].thread, NULL)) abort();
+        STATUS(UDFBURN_OK, works[i].status);
+    }
+    STATUS(UDFBURN_OK, udfburn_status(shared, &status));
+    EXPECT(status.files == THREADS * FILES && status.commits == THREADS * FILES && status.clients == THREADS);
+    udfburn_close(shared);
+}
+
 int main(int argc, char **argv) {
     if (argc != 2 || chdir(argv[1])) return EXIT_FAILURE;
     struct work *works = (struct work *)calloc(THREADS, sizeof *works);
@@ -99,6 +137,7 @@ int main(int argc, char **argv) {
         snprintf(path, sizeof path, "thread %d, file", i);
         EXPECT(memmem(works[i].disc.blocks, count, path, strlen(path)));
     }
+    in_turn(works);
     free(works);
     return finish("threads");
 }

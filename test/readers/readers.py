@@ -59,7 +59,7 @@ def mounts(volumes: List[Volume], discs: bool) -> List[Tuple[str, linux.Job, Tre
             continue
         if volume.behind <= LINUX_LOOKS_BACK:
             out.append((volume.name, linux.Job(volume.image), volume.tree))
-        # What a cut left behind the VAT ICB is passed by where the entry's address is said.
+        # What a cut left after the VAT ICB is passed by where the entry's address is said.
         for address, tree in [(volume.last, volume.tree)] + volume.earlier:
             out.append(("%s at %d" % (volume.name, address), linux.Job(volume.image, address), tree))
         if discs and volume.behind < LINUX_LOOKS_BACK and volume.name in ("names", "sizes", "die", "cut1", "cut2"):

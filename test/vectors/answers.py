@@ -15,11 +15,11 @@ def listed(*names: "tuple[int, str]") -> bytes:
 
 
 def answers() -> Vectors:
-    v = Vectors("answer.txt", "Answers as frames (docs/PROTOCOL.md, Answers): the code, and what stands behind it. No answer's bytes begin another's.")
+    v = Vectors("answer.txt", "Answers as frames (docs/PROTOCOL.md, Answers): the code, and the fields after it. No answer's bytes are a prefix of another's.")
     v.about("The codes of a request that is committed, each with the number of its commit.")
     for code in range(11):
         _answer(v, f"code-{code}", OLD + "replies", code, struct.pack("<I", 1), f"code {code} commit 1")
-    v.about("Answers with nothing behind their code.")
+    v.about("Answers with nothing after their code.")
     for code, said in [(34, "clients-full"), (35, "full"), (36, "failed"), (37, "memory"), (39, "damaged"), (96, "not-found"),
                        (97, "is-directory"), (98, "not-directory")]:
         _answer(v, said, OLD + "answers_without_a_field", code, b"", said)

@@ -27,6 +27,7 @@ RENAMED = {
     "recover_tests::states::a_failed_read_is_told": "codec_tests::reads::a_failed_read_is_told",
     "recover_tests::sharing::what_two_states_share_is_read_once": "codec_tests::reads::what_two_states_share_is_read_once",
     "base_tests::messages::replies": "base_tests::messages::numbers_of_codes_and_faults",
+    "base_tests::reading::nothing_behind_a_frame_that_is_too_long": "base_tests::reading::nothing_after_a_frame_that_is_too_long",
     "base_tests::messages::path_texts": "base_tests::messages::numbers_of_codes_and_faults",
 }
 DROPPED = {

@@ -171,7 +171,7 @@ def _names(v: Vectors) -> None:
 
 def _blocks(v: Vectors) -> None:
     v.about("Where an identifier ends in its block: 4 and 28 bytes before the end, and 4 bytes past it (35); 32 bytes before the end, and at "
-            "the end with nothing behind it, where the implementation use is wrong (36).")
+            "the end with nothing after it, where the implementation use is wrong (36).")
     of = f"{LATER}identifiers_end_in_their_block"
     for length, cause in [(1_964, SPAN), (1_940, SPAN), (1_972, SPAN), (1_936, PAD), (1_968, PAD)]:
         fault(v, f"an-implementation-use-of-{length}", of, parent() + a(use=fill(LENGTHENING, length)), cause)
@@ -180,7 +180,7 @@ def _blocks(v: Vectors) -> None:
     for at in (41, 42, 43):
         fault(v, f"padding-{at}", of, parent() + a(b"\x08ab", changes=[(at, 1)]), PAD)
     fault(v, "an-implementation-use-in-a-block", of, parent() + a(use=layouts.DEVELOPER) + a(b"\x08b"), PAD)
-    v.about("A block is filled by its last identifier: another EntityID, a suffix, a byte behind it; without need; and not where it has to be.")
+    v.about("A block is filled by its last identifier: another EntityID, a suffix, a byte after it; without need; and not where it has to be.")
     _filled(v)
     sound = letters(NAMES[:17])
     longer = changed(sound, [(1979, 22)])[:2016] + b"rstu"
@@ -217,7 +217,7 @@ def _filled(v: Vectors) -> None:
 
 
 def _ends(v: Vectors) -> None:
-    v.about("Where the data ends (37): inside an identifier, and behind it; where zeros stand in place of an identifier that is 31.")
+    v.about("Where the data ends (37): inside an identifier, and after it; with zeros in place of an identifier, that is 31.")
     of = f"{LATER}data_ends_where_the_entry_says"
     data = parent() + a()
     for size in (1, 37, 38, 39, 41, 77, 78, 79, 40, 81, 117, 118, 119):
@@ -253,7 +253,7 @@ def _many(v: Vectors) -> None:
 
 def _order(v: Vectors) -> None:
     v.about("The first of two faults of an identifier, each with the next one of the order 31, 32, 36, 33; before them come 37, where it ends "
-            "behind the data, and 35.")
+            "after the data, and 35.")
     sound = letters(NAMES[:17])
     of = f"{FIRST}of_an_identifier"
     fault(v, "data-that-ends-in-the-last-identifier", of, sound, END, 2_012)
@@ -262,7 +262,7 @@ def _order(v: Vectors) -> None:
         fault(v, f"identifier-fault-{cause}", of, sound[:1960] + seal(IDENTIFIER, 6, changed(sound[1960:], changes)), cause)
     for (cause, one), (other, more) in zip(rows, rows[1:]):
         fault(v, f"identifier-faults-{cause}-and-{other}", of, sound[:1960] + seal(IDENTIFIER, 6, changed(sound[1960:], one + more)), cause)
-    v.about("The first of two faults of a directory: an identifier is read to its end before the next one, and what stands behind the data "
+    v.about("The first of two faults of a directory: an identifier is read to its end before the next one, and what comes after the data "
             "comes last.")
     of = f"{FIRST}of_a_directory"
     whole = [(NAME, [(78, 9)]), (TAG, [(96, 2)]), (TWICE, [(119, ord("a"))]), (END, [(2_047, 1)])]

@@ -26,7 +26,7 @@ def resealed(block: bytes, changes: Changes, end: int, location: int, identifier
 def entries() -> Vectors:
     v = Vectors("entry.txt", "File entries (ECMA-167 4/14.9) and file set descriptors (4/14.1), each a block. `entry LOCATION` reads the "
                 "entry for a virtual address, or for a table's block number. Faults: 21 the tag, 22 the strategy, 23 the kind, 24 a field "
-                "that is fixed, 25 lengths, 26 the extent, 27 bytes behind the descriptor.")
+                "that is fixed, 25 lengths, 26 the extent, 27 bytes after the descriptor.")
     _sound(v)
     _sizes(v)
     _faults(v)
@@ -41,7 +41,7 @@ def _entry(v: Vectors, name: str, of: str, block: bytes, location: int, answer: 
 
 
 def _sound(v: Vectors) -> None:
-    v.about("The entries of the example of docs/PROTOCOL.md: the file `a` of five bytes, the root, and the table behind them; and those "
+    v.about("The entries of the example of docs/PROTOCOL.md: the file `a` of five bytes, the root, and the table after them; and those "
             "of a new volume. The CRC is that of the whole block.")
     of = OLD + "an_entry_holds_a_small_file " + OLD + "nothing_is_wrong_with_the_vectors"
     _entry(v, "a-small-file", of, FILE, 2, 'file links 1 unique 16 moment 0 size 5 inside "hello"', 0xEF3D)
@@ -161,7 +161,7 @@ TABLE_FAULTS: "list[tuple[int, str, Changes, int]]" = [
 
 
 def _order(v: Vectors) -> None:
-    v.about("The first of several faults of the root's entry: each with the next one, and each with all behind it.")
+    v.about("The first of several faults of the root's entry: each with the next one, and each with all after it.")
     rows: "list[tuple[int, Changes]]" = [(TAG, [(12, 2)]), (STRATEGY, [(20, 5)]), (KIND, [(27, 6)]), (FIXED, [(36, 0x11)]), (LENGTHS, [(64, 2)]), (EXTENT, [(184, 1)]),
             (TAIL, [(2047, 1)])]
     of = FIRST + "of_an_entry"

@@ -87,7 +87,7 @@ def _faults(v: Vectors) -> None:
     ]:
         _payload(v, name, of, payload, f"malformed {cause}")
     _payload(v, "the-last-moment", of, edited(17, struct.pack("<Q", LIMIT - 1)), SAID.replace("moment 0", f"moment {LIMIT - 1}"))
-    v.about("Each front of the create ends inside a field or before one (53).")
+    v.about("Each prefix of the create ends inside a field or before one (53).")
     for length in range(len(CREATE)):
         _payload(v, f"front-of-{length}", OLD + "shorter_payloads", CREATE[:length], "malformed 53")
 
@@ -107,7 +107,7 @@ def _changed(*rows: "list[tuple[int, int]]") -> bytes:
 
 
 def _order(v: Vectors) -> None:
-    v.about("Each cause before the want of all that is behind its field, and behind the want of its last byte; and with the next one.")
+    v.about("Each cause where all bytes after its field are missing, where its last byte is missing, and with the next one.")
     of = FIRST + "of_a_payload"
     for cause, end, changes in ROWS:
         _payload(v, f"cause-{cause}", of, _changed(changes), f"malformed {cause}")
@@ -142,7 +142,7 @@ def _streams(v: Vectors) -> None:
 
 
 def _paths(v: Vectors) -> None:
-    v.about("Paths by their text: `/` alone, or 1 to 255 names, each behind a `/`.")
+    v.about("Paths by their text: `/` alone, or 1 to 255 names, each after a `/`.")
     of = OLD + "path_texts"
     v.case("path-of-the-root", of, 'bytes "/"', "path -> path")
     v.case("path-of-two-names", of, 'bytes "/d/x"', 'path -> path "d" "x"')

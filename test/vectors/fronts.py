@@ -20,9 +20,9 @@ def resealed(block: bytes, identifier: int, location: int, changes: Changes) -> 
 
 
 def fronts() -> Vectors:
-    v = Vectors("front.txt", "Fronts: blocks 0 to 256 of a volume (docs/FORMAT.md, The front; ECMA-167 2/9.1 and 3/10; UDF 2.01 2.2). `front` reads "
+    v = Vectors("front.txt", "Volume headers: blocks 0 to 256 of a volume (docs/FORMAT.md, The volume header; ECMA-167 2/9.1 and 3/10; UDF 2.01 2.2). `front` reads "
                 "all of them. A fault names the first field of block 32 or 34 that says nothing, else the first byte that is not as the three "
-                "words of the front have it. `front` stands for one of 3,000 blocks.")
+                "words of the header have it. `front` is the header of a volume of 3,000 blocks.")
     v.let("front", padded(front()))
     _sound(v)
     _faults(v)
@@ -39,7 +39,7 @@ def _front(v: Vectors, name: str, of: str, puts: "list[str]", answer: str) -> No
 
 
 def _sound(v: Vectors) -> None:
-    v.about("The front of a volume of 3,000 blocks with the label `DISC` and the moment 0; the CRC of each of its blocks alone stands behind it.")
+    v.about("The header of a volume of 3,000 blocks with the label `DISC` and the moment 0, then the CRC of each of its blocks.")
     of = " ".join([OLD + "blocks_of_a_front", OLD + "the_first_difference", FIRST + "of_a_front"])
     _front(v, "a-front", of, [], 'label "DISC" moment 0 capacity 3000')
     for number, check in CHECKS:

@@ -28,7 +28,7 @@ def one(client: int, latest: int, code: int = 0, commit: int = 1, reserved: int 
 
 def tables() -> Vectors:
     v = Vectors("table.txt", "The data of virtual allocation tables (UDF 2.01 2.2.10) with the sessions of docs/FORMAT.md. `table BLOCK` reads the "
-                "one whose entry stands at that block number. A reply is its code and its commit; `none*9` are nine unused entries. Faults: "
+                "one whose entry is at that block number. A reply is its code and its commit; `none*9` are nine unused entries. Faults: "
                 "41 a length, 42 the label, 43 the revisions, 44 a record, 45 a client that is there twice, 46 an entry, 47 a count.")
     _sound(v)
     _head(v)
@@ -49,7 +49,7 @@ def _fault(v: Vectors, name: str, of: str, fault: int, data: bytes) -> None:
 
 
 def _sound(v: Vectors) -> None:
-    v.about("The table of a new volume, and that behind the example of docs/PROTOCOL.md; the same with sessions of the first version, and "
+    v.about("The table of a new volume, and the one after the example of docs/PROTOCOL.md; the same with sessions of the first version, and "
             "a record with the greatest number.")
     _table(v, "a-new-volume", OLD + "new_volume", FORMATTED,
            'label "DISC" previous none files 0 directories 1 version 2 next-unique 16 commits 0 entries 0 2', 4)
@@ -190,7 +190,7 @@ COUNTS = [("a-file-more", used(files=2)), ("no-directory", used(directories=0)),
 
 
 def _order(v: Vectors) -> None:
-    v.about("The first of several faults of a table with two records: each with the next one, and each with all behind it.")
+    v.about("The first of several faults of a table with two records: each with the next one, and each with all after it.")
     of = FIRST + "of_a_table"
     records = record(7, 1, [reply(0, 1)]) + record(8, 1, [reply(0, 1)])
     whole = table([0, 7, 5], 4, 1, 1, next_unique=17, commits=2, records=records)

@@ -24,12 +24,12 @@ def terminating(location: int, changes: "list[tuple[int, int]]" = []) -> bytes:
 
 def tags() -> Vectors:
     v = Vectors("tag.txt", "Tags of descriptors, the CRC, and the fields of which descriptors are made. `tag ID LOCATION` reads the "
-                "bytes as one whole descriptor; its faults are told in the order of their numbers.")
+                "bytes as one whole descriptor; its faults are reported in the order of their numbers.")
     v.about("ECMA-167 3/7.2.6 gives the CRC of 70 6A 77; that of the digits is the check value of CRC-16/XMODEM.")
     v.case("no-bytes", TAG + "published_checks", "crc -> 0000")
     v.case("three-bytes", TAG + "published_checks", "bytes 706A77", "crc -> 3299")
     v.case("nine-digits", TAG + "published_checks", 'bytes "123456789"', "crc -> 31C3")
-    v.about("Terminating descriptors (ECMA-167 3/10.9) at their three addresses (docs/FORMAT.md, The front). The CRC of zeros is 0.")
+    v.about("Terminating descriptors (ECMA-167 3/10.9) at their three addresses (docs/FORMAT.md, The volume header). The CRC of zeros is 0.")
     for location in (37, 53, 65):
         v.case(f"terminating-at-{location}", TAG + "terminating_tags codec_tests::front::blocks_of_a_front",
                "bytes " + digits(terminating(location)), f"tag 8 {location} -> crc 0000 length 496")

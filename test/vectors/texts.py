@@ -33,11 +33,11 @@ def _spellings(v: Vectors) -> None:
         assert layouts.spelling(text) == bytes.fromhex(data)
         v.case(f"spelling-{name}", TEXTS + "spellings_are_written_and_read", f"bytes {data}", f"spelling -> {told(text)}",
                *([f"spelling {told(text)} -> {shown(bytes.fromhex(data))}"] if text else []))
-    v.about("Characters without a spelling: past U+FFFF, the byte order mark, and U+FFFE. A field stays as it was.")
+    v.about("Characters that cannot be encoded: past U+FFFF, the byte order mark, and U+FFFE. A field stays as it was.")
     for name, text in [("past-u-ffff", WIDE), ("the-byte-order-mark", "a\uFEFF"), ("u-fffe", "\uFFFE")]:
         v.case(f"no-spelling-{name}", TEXTS + "characters_without_a_spelling_are_refused", f"spelling {told(text)} -> fault {UNSPELLED}",
                f"dstring 32 {told(text)} -> fault {UNSPELLED}")
-    v.about("Bytes that spell nothing.")
+    v.about("Bytes that encode nothing.")
     for data, fault in [
         ("100041", NOT_SHORTEST), ("08", NOT_SHORTEST), ("10", NOT_SHORTEST), ("1041", ODD), ("10D800", SURROGATE),
         ("10DFFF", SURROGATE), ("10FEFF", SURROGATE), ("10FFFE", SURROGATE), ("0941", COMPRESSION), ("FE41", COMPRESSION),
@@ -45,7 +45,7 @@ def _spellings(v: Vectors) -> None:
     ]:
         v.case(f"no-text-{data.lower()}", TEXTS + "bytes_that_spell_nothing_are_refused " + FIRST + "of_a_spelling", f"bytes {data}",
                f"spelling -> fault {fault}")
-    v.about("The first of two faults. The second one alone stands above.")
+    v.about("The first of two faults. The second one alone is above.")
     for both, fault in SPELLINGS:
         v.case(f"two-faults-{both.hex()}", FIRST + "of_a_spelling", "bytes " + digits(both), f"spelling -> fault {fault}")
 
@@ -65,7 +65,7 @@ def _dstrings(v: Vectors) -> None:
     for name, at, byte, fault in [("counts-itself", 31, 32, COUNT), ("ends-in-more", 30, 1, TAIL), ("spells-nothing", 0, 9, COMPRESSION)]:
         v.case(f"dstring-that-{name}", of, "bytes " + digits(layouts.changed(DISC, [(at, byte)])), f"dstring -> fault {fault}",
                "label -> none")
-    v.about("The first of two faults of a dstring: what spells no text comes after the count and the zeros.")
+    v.about("The first of two faults of a dstring: bytes that encode no text come after the count and the zeros.")
     for name, front, count, fault in [("the-text-alone", b"\x09\x41", 2, COMPRESSION), ("the-count", b"\x09\x41", 32, COUNT),
                                       ("the-zeros", b"\x09\x41", 1, TAIL)]:
         v.case(f"dstring-by-{name}", FIRST + "of_a_field", "bytes " + digits(layouts.fill(front, 31) + bytes([count])),
@@ -76,7 +76,7 @@ def _dstrings(v: Vectors) -> None:
 
 
 def _names(v: Vectors) -> None:
-    v.about("Names in a directory (UDF 2.01 2.3.4.6): at most 255 bytes spelled.")
+    v.about("Names in a directory (UDF 2.01 2.3.4.6): at most 255 bytes encoded.")
     for name, text in [("a", "a"), ("three-dots", "..."), ("of-two-bytes", "\u00E9\u0101"), ("of-254-letters", "a" * 254), ("b", "b")]:
         spelled = layouts.spelling(text)
         letters = "61*254" if len(text) > 200 else told(text)
@@ -84,7 +84,7 @@ def _names(v: Vectors) -> None:
                f"name {letters} -> {shown(spelled)}")
     v.case("no-name-with-a-slash", TEXTS + "names_are_read", "bytes 08612F", "name -> none")
     v.case("no-name-in-two-spellings", TEXTS + "names_are_read", "bytes 100061", "name -> none")
-    v.about("Texts that are no names, by the first of their faults: empty, `.` or `..`, a slash, a zero, no spelling, too long.")
+    v.about("Texts that are no names, by the first of their faults: empty, `.` or `..`, a slash, a zero, not encodable, too long.")
     for name, words, fault in [
         ("empty", "empty", EMPTY), ("a-dot", '"."', DOT), ("two-dots", '".."', DOT), ("slash-zero-wide", "F09F9880 00 2F", SLASH),
         ("zero-wide", "F09F9880 00", NUL), ("wide", "F09F9880", UNSPELLED), ("long", "61*255", LONG),
@@ -94,7 +94,7 @@ def _names(v: Vectors) -> None:
 
 
 def _first(v: Vectors, kind: str, faults: "list[tuple[int, str]]", of: str) -> None:
-    v.about(f"The first of two faults of a {kind}, whatever stands first in the text. `Empty` and a dot stand alone.")
+    v.about(f"The first of two faults of a {kind}, whatever comes first in the text. `Empty` and a dot occur alone.")
     for fault, words in faults:
         v.case(f"{kind}-fault-{fault}", of, f"{kind} {words} -> fault {fault}")
     for (fault, words), (other, more) in zip(faults, faults[1:]):
@@ -102,7 +102,7 @@ def _first(v: Vectors, kind: str, faults: "list[tuple[int, str]]", of: str) -> N
 
 
 def _labels(v: Vectors) -> None:
-    v.about("Labels: a text of at most 31 bytes spelled, as a dstring of 32 bytes and of 128 bytes (ECMA-167 3/10.1.4, 3/10.6.4).")
+    v.about("Labels: a text of at most 31 bytes encoded, as a dstring of 32 bytes and of 128 bytes (ECMA-167 3/10.1.4, 3/10.6.4).")
     of = TEXTS + "labels_are_kept"
     wide = layouts.dstring("DISC", 128)
     v.case("label-disc", of, "bytes " + digits(DISC), 'label -> "DISC"', 'label "DISC" -> ' + digits(DISC))
@@ -110,7 +110,7 @@ def _labels(v: Vectors) -> None:
     v.case("label-in-128-bytes", of, "bytes " + digits(wide), 'label -> "DISC"')
     v.case("no-label-in-64-bytes", of, "bytes " + digits(wide[:64]), "label -> none")
     v.case("no-label-without-a-character", of, "bytes 00*32", "label -> none")
-    v.about("The volume set identifier (UDF 2.01 2.2.2.5): sixteen digits, and the label behind them.")
+    v.about("The volume set identifier (UDF 2.01 2.2.2.5): sixteen digits, and the label after them.")
     of = TEXTS + "labels_stand_behind_digits"
     for name, text, count in [("disc", "DISC", 21), ("of-two-bytes", "\u0101", 35)]:
         data = layouts.dstring("0123456789abcdef" + text, 128)

@@ -60,8 +60,8 @@ def chained(commits: int) -> "list[bytes]":
 
 def volumes() -> Vectors:
     v = Vectors("volume.txt", "Whole volumes: media as they are read. `last` is the address of the last table's entry, `before AT` that of the table before "
-                "the one whose entry stands at AT, `state AT` what stands there, `states AT..` the commits of several states. What is damaged is "
-                "told as `67 Damaged` shows it, by the address of the first structure that is not as it must be and a cause. The media are made by "
+                "the one whose entry is at AT, `state AT` what is there, `states AT..` the commits of several states. What is damaged is "
+                "reported as `67 Damaged` shows it, by the address of the first structure that is not as it must be and a cause. The media are made by "
                 "hand from docs/FORMAT.md; the structures are those of the other files, and causes from 71 on are of structures that do not agree.")
     v.let("front", padded(front()))
     v.let("formatted", "{front} " + padded(b"".join(FORMATTED)))
@@ -96,7 +96,7 @@ NEW = 'moment 0 capacity 3000 label "DISC" previous none files 0 directories 1 v
 
 
 def _sound(v: Vectors) -> None:
-    v.about("A new volume, and the file `a` of five bytes behind it; the CRC is that of all 262 blocks.")
+    v.about("A new volume, and the file `a` of five bytes after it; the CRC is that of all 262 blocks.")
     v.case("a-format", OLD + "states::a_format_is_that_of_the_vectors", "bytes {formatted}", "crc -> 4D12", "last -> 261", f"state 261 -> {NEW}")
     v.case("a-file", OLD + "states::what_was_written_stands", "bytes {created}", "last -> 266", f"state 266 -> {SAID}", f"state 261 -> {NEW}")
     v.about("Sessions of the first version; and a small file in an extent.")
@@ -161,7 +161,7 @@ def _chains(v: Vectors) -> None:
 
 
 def _shared(v: Vectors) -> None:
-    v.about("States that share nodes, alone and one after another: damage is told of each that leads to it.")
+    v.about("States that share nodes, alone and one after another: damage is reported for each that leads to it.")
     of = OLD + "sharing::"
     v.case("each-state-of-a-chain", of + "each_state_of_a_chain_is_told", "bytes {chain}", "states 268 266 261 -> commits 2 ; commits 1 ; commits 0",
            "states 261 266 268 -> commits 0 ; commits 1 ; commits 2")
@@ -185,7 +185,7 @@ def _shared(v: Vectors) -> None:
 
 
 def _fronts(v: Vectors) -> None:
-    v.about("The front is compared byte by byte, and has one label, moment and capacity (71); a volume is not larger than the drive (72).")
+    v.about("The volume header is compared byte by byte, and has one label, moment and capacity (71); a volume is not larger than the drive (72).")
     of = OLD + "relations::"
     for at, byte in [(0, 0), (16, 2047), (32, 30), (34, 192), (64, 80), (256, 16)]:
         v.case(f"front-{at}-{byte}", of + "the_front_is_held_byte_by_byte", "bytes {formatted}", f"flip {at} {byte}", f"state 261 -> {told((at, FRONT))}")
@@ -232,13 +232,13 @@ def _relations(v: Vectors) -> None:
     damaged(v, "more-files", counts, {265: used([0, 7, 5, 5], files=2), 266: entry_of_table(212, 8, 9)}, (265, COUNTS))
     damaged(v, "more-commits", counts, {265: used([0, 7, 5], commits=3)}, (265, COUNTS))
     damaged(v, "more-unique-ids", counts, {265: used([0, 7, 5], next_unique=18)}, (265, COUNTS))
-    v.about("A structure tells its own fault.")
+    v.about("A structure reports its own fault.")
     for at, byte, cause in [(257, 0, 21), (262, 0, 21), (263, 0, 31), (264, 2047, 27), (265, 4, 42)]:
         v.case(f"bit-{at}-{byte}", of + "a_structure_tells_its_own_fault", "bytes {created}", f"flip {at} {byte}", f"state 266 -> {told((at, cause))}")
 
 
 def _order(v: Vectors) -> None:
-    v.about("The first structure that is not as it must be, with all behind it that is told later.")
+    v.about("The first structure that is not as it must be, with all that is reported after it.")
     of = OLD + "relations::the_first_structure_is_told"
     whole = used([0, 7, 5])
     root = root_entry(1, 80, 6)
@@ -271,7 +271,7 @@ def below(root: "list[tuple[str, str, int, int]]", links: int, names: "list[tupl
 
 
 def _trees(v: Vectors) -> None:
-    v.about("A directory is reached once (74), also from itself; where its link is not counted that is told first (73).")
+    v.about("A directory is reached once (74), also from itself; where its link is not counted, that is reported first (73).")
     of = OLD + "relations::a_directory_is_reached_once"
     e, as_file, root = ("e", "directory", 2, 16), ("e", "file", 2, 16), ("e", "file", 1, 0)
     said = SAID.replace("files 1 directories 1", "files 0 directories 2").replace("entries 0 7 5", "entries 0 8 6")
@@ -290,7 +290,7 @@ def _trees(v: Vectors) -> None:
 
 
 def _entries(v: Vectors) -> None:
-    v.about("The root's entry with the faults of entry.txt, and one behind the table.")
+    v.about("The root's entry with the faults of entry.txt, and one after the table.")
     of = OLD + "entries::"
     for cause, tests, changes, end in entries.ROOT_FAULTS:
         if OLD in tests:
@@ -373,7 +373,7 @@ def _table(v: Vectors, name: str, of: str, data: bytes, cause: "int | None", sai
 
 
 def _tables(v: Vectors) -> None:
-    v.about("Tables with the faults of table.txt; a step of the chain from the table tells the same, and one to it from a table that stands behind it.")
+    v.about("Tables with the faults of table.txt; a step of the chain from the table reports the same, and so does one to it from a later table.")
     of = OLD + "tables::"
     whole = tables.used(tables.one(7, 1))
     _table(v, "table-as-it-is", of + "faults_of_a_tables_bytes", whole, None)
@@ -413,7 +413,7 @@ def _data(v: Vectors, name: str, of: str, data: bytes, seen: "tuple[int, int] | 
 
 
 def _directories(v: Vectors) -> None:
-    v.about("The root's data with the faults of directory.txt. Names that all lead to one file are told by that (74), which comes behind the "
+    v.about("The root's data with the faults of directory.txt. Names that all lead to one file are reported as that (74), which comes after the "
             "directory's own faults. `identifiers` are those of the parent and of 47 names.")
     v.let("identifiers", digits(directories.letters("a" * 20)[: directories.FRONT]))
     directories.directories()

@@ -138,6 +138,32 @@ class Held(WithLibrary):
             )
         self.assertEqual(waiting.communicate()[0], b"a")
 
+    def test_a_child(self) -> None:
+        """A child closes its copy, which takes nothing from its parent, and has the image after its parent."""
+        to_child, to_parent = os.pipe(), os.pipe()
+        client = self.by_library()
+        client.create("/a", b"a")
+        child = os.fork()
+        if child == 0:
+            try:
+                client.close()
+                os.write(to_parent[1], b"closed")
+                os.read(to_child[0], 1)
+                with self.by_library() as own:
+                    own.create("/c", b"c")
+            finally:
+                os._exit(0)
+        self.assertEqual(os.read(to_parent[0], 9), b"closed")
+        self.refuses_others()
+        client.create("/b", b"b")
+        client.close()
+        os.write(to_child[1], b"x")
+        self.assertEqual(os.waitpid(child, 0), (child, 0))
+        with self.by_library() as client:
+            self.assertEqual([client.get(path) for path in ("/a", "/b", "/c")], [b"a", b"b", b"c"])
+        for descriptor in (*to_child, *to_parent):
+            os.close(descriptor)
+
     def test_the_very_file_is_looked_at(self) -> None:
         """A volume is known by the file that is open, not by another file that took its name."""
         with self.by_library() as client:

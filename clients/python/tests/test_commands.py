@@ -176,7 +176,7 @@ class Commands(Local):
             with self.assertRaises(SystemExit) as raised, redirect_stderr(told):
                 cli.main(["ls", "--socket", self.server.path, f"--wait={wait}"])
             self.assertEqual(raised.exception.code, 2, wait)
-            self.assertIn(f"{wait!r} is no count of seconds", told.getvalue())
+            self.assertIn(f"{wait!r} is not a number of seconds", told.getvalue())
             if wait not in ("soon", ""):
                 with self.assertRaises(e.UsageError):
                     self.client(patience=float(wait))
@@ -184,7 +184,7 @@ class Commands(Local):
             with self.assertRaises(SystemExit) as raised, redirect_stderr(told):
                 cli.main(["mkdir", "--socket", self.server.path, f"--client={client}", "/x"])
             self.assertEqual(raised.exception.code, 2, client)
-            self.assertIn(f"{client!r} is no client", told.getvalue())
+            self.assertIn(f"{client!r} is not a client number", told.getvalue())
         self.assertEqual(self.server.conversations, 0)
         for wait in ("0", "-0", "0.5", "1e3", "1e300"):
             self.words("ls", f"--wait={wait}")
@@ -210,7 +210,7 @@ class Commands(Local):
         with mock.patch("udfburn.map.draw_map", lambda *_: "<svg/>\n"), redirect_stdout(StringIO()), redirect_stderr(StringIO()) as told:
             for output, status in ((image, 1), (picture, 0), (picture, 0)):
                 self.assertEqual(cli.main(["map", image, output, "--program", "udfburn"]), status)
-        self.assertIn("other.img: is there already, and is no picture", told.getvalue())
+        self.assertIn("other.img: already exists, and is not a picture", told.getvalue())
         self.assertEqual((os.path.getsize(image), os.path.getsize(picture)), (4096, 7))
 
     def test_interrupted(self) -> None:

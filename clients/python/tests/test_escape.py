@@ -68,7 +68,7 @@ class Escaped(Local):
     def test_stored_and_undone(self) -> None:
         self.make()
         told = self.refused()
-        self.assertEqual(told.count("(--escape stores it under another spelling, --skip-odd leaves it out)"), 8, told)
+        self.assertEqual(told.count("(--escape stores it under an escaped name, --skip-odd leaves it out)"), 8, told)
         self.assertEqual(self.put(escape=True).files, 16)
         self.assertEqual({path[-1] for path in self.volume.nodes if len(path) == 2 and not path[-1].startswith("d")}, set(NAMES.values()))
         back = os.path.join(self.room, "back")
@@ -89,7 +89,7 @@ class Escaped(Local):
     def test_names_that_get_too_long(self) -> None:
         self.write("\U0001F600" * 20)
         told = self.refused(escape=True)
-        self.assertRegex(told, "more than 255 bytes as it is spelled on the medium .--skip-odd leaves it out")
+        self.assertRegex(told, "more than 255 bytes as it is encoded on the medium .--skip-odd leaves it out")
         self.assertEqual(len(self.put(escape=True, skip_odd=True).skipped), 1)
 
 
@@ -100,7 +100,7 @@ class ByCommand(WithPrograms):
         self.write("\U0001F600/\udcff", b"hello")
         local = os.path.join(self.room, "\U0001F600")
         told = self.run_command("put", "-r", local, "/d/", "-p", where=where, status=2)
-        self.assertIn("its name has U+1F600, which has no spelling in compressed Unicode (--escape stores it under another spelling)", told)
+        self.assertIn("its name has U+1F600, which compressed Unicode cannot encode (--escape stores it under an escaped name)", told)
         self.run_command("put", "-r", "--escape", local, "/d/", "-p", where=where)
         self.assertEqual(self.run_command("ls", "-R", "/d", where=where), "/d:\nd ␛F0␛9F␛98␛80\n/d/␛F0␛9F␛98␛80:\nf ␛FF\n")
         back = os.path.join(self.room, "back")

@@ -160,7 +160,7 @@ class Goes(Local):
         summary = self.fetched()
         self.assertEqual((summary.files, summary.same, len(summary.failures)), (1, 0, 2))
         for name, failure in zip("ab", summary.failures):
-            self.assertRegex(failure, f"back/{name}: is there already, with other bytes .--force")
+            self.assertRegex(failure, f"back/{name}: already exists, with other bytes .--force")
         self.assertEqual(self.there(), {"a": b"A" * 10, "b": b"longer than before", "d/c": b"d/c" * 10})
         with self.client() as client, self.assertRaisesRegex(e.SourceError, "back/a.*\n.*back/b"):
             fetch.get_tree(client, ("x",), self.back)
@@ -195,7 +195,7 @@ class Goes(Local):
         with open(os.path.join(self.back, "d"), "wb"):
             pass
         for force in (False, True):
-            with self.assertRaisesRegex(e.SourceError, "back/d: is there already, and is no folder"):
+            with self.assertRaisesRegex(e.SourceError, "back/d: already exists, and is not a folder"):
                 self.fetched(force)
 
     def test_a_file_that_cannot_be_read(self) -> None:

@@ -122,7 +122,7 @@ class Ledgers(WithServer):
         before = found()
         self.assertEqual(len(before), 11)
         for name in before:
-            with self.assertRaisesRegex(e.LedgerError, "version 3" if name == "newer.sqlite" else "is no ledger .*--ledger", msg=name):
+            with self.assertRaisesRegex(e.LedgerError, "version 3" if name == "newer.sqlite" else "is not a ledger .*--ledger", msg=name):
                 Ledger(os.path.join(room, name))
             self.assertEqual(found(), before, name)
         with self.assertRaises(e.LedgerError):
@@ -366,7 +366,7 @@ class Ledgers(WithServer):
             client.create("/c", b"")
         # Nor is the first one forgotten: it is known again, and taken when the user says so.
         self.server.volume = first
-        with self.assertRaisesRegex(e.OtherVolume, "not the volume that the ledger has here, but one that it had elsewhere .*Found: requests up to 2"):
+        with self.assertRaisesRegex(e.OtherVolume, "not the volume that the ledger knows here, but one that it knew elsewhere .*Found: requests up to 2"):
             client.create("/c", b"")
         client.forget()
         self.assertEqual(client.create("/c", b""), 3)

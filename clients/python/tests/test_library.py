@@ -159,7 +159,7 @@ class Statuses(WithStub):
         self.fails(e.ProgramFailed, "No such file")
 
     def test_a_child(self) -> None:
-        """A child neither writes nor closes what its parent opened."""
+        """A child writes nothing to what its parent opened. It closes its copy."""
         assert (endpoint := Endpoint(f"library:{self.image}")).library
         with mock.patch("os.getpid", return_value=1):
             volume = library.OpenVolume(endpoint.library, self.image)
@@ -167,7 +167,8 @@ class Statuses(WithStub):
             volume.answer(b"")
         with mock.patch.object(endpoint.library.calls, "udfburn_close") as closed:
             volume.close()
-        closed.assert_not_called()
+            volume.close()
+        self.assertEqual([bool(call.args[0].value) for call in closed.call_args_list], [True, False])
 
 
 if __name__ == "__main__":

@@ -115,7 +115,7 @@ class Preflight(Local):
         self.assertIn("/x/b: is a file, and is to be a directory", told)
         local = self.write("one")
         with self.client() as client:
-            with self.assertRaisesRegex(e.DoesNotFit, "/no: is no directory"):
+            with self.assertRaisesRegex(e.DoesNotFit, "/no: is not a directory"):
                 put_all(client, [(local, ("no", "one"))], Options())
             put_all(client, [(local, ("no", "such", "one"))], Options(parents=True))
             with self.assertRaisesRegex(e.DoesNotFit, "more than one"):
@@ -473,7 +473,7 @@ class Fetch(Local):
 
         for link, unnamed in ((os.link, saving.UNNAMED), (os.link, 0), (mock.Mock(side_effect=refused), 0)):
             with mock.patch("udfburn.saving.os.link", link), mock.patch.object(saving, "UNNAMED", unnamed):
-                with self.assertRaisesRegex(e.SourceError, "is there already"):
+                with self.assertRaisesRegex(e.SourceError, "already exists"):
                     fetch.save(local, parts(), None, False)
                 with open(local, "rb") as file:
                     self.assertEqual(file.read(), b"of another")

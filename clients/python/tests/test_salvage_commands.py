@@ -132,7 +132,7 @@ class Commands(Damaged):
         os.unlink(os.path.join(out, "d"))
         done = self.command("salvage", self.image, out, "--accept-unproved")
         self.assertEqual(done.returncode, 1)
-        self.assertIn("is there already, with other bytes", done.stderr)
+        self.assertIn("already exists, with other bytes", done.stderr)
         self.assertEqual(os.listdir(other), [])
         with open(os.path.join(out, "top"), "rb") as file:
             self.assertEqual(file.read(), b"mine")

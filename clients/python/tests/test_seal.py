@@ -298,7 +298,7 @@ class Sealed(WithServer):
 
     def test_what_is_no_bag(self) -> None:
         cases: List["tuple[str, bool, type[Exception], str]"] = [
-            ("/bag/data", False, e.UsageError, "/bag/data/data.*--manifest-only"), ("/bag/data/a", True, e.NotDirectory, "no directory"),
+            ("/bag/data", False, e.UsageError, "/bag/data/data.*--manifest-only"), ("/bag/data/a", True, e.NotDirectory, "not a directory"),
             ("/no", True, e.NotFound, "/no"),
         ]
         for path, manifest_only, error, words in cases:

@@ -161,7 +161,7 @@ class Which(WithPrograms):
                 client.create("/" + name, b"")
         self.store("/z")
         self.place(elsewhere)
-        self.refused(e.OtherVolume, f"but the one that it has at image:{self.named('elsewhere.img')}")
+        self.refused(e.OtherVolume, f"but the one that it knows at image:{self.named('elsewhere.img')}")
 
     # ---- an empty volume
 

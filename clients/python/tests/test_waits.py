@@ -143,7 +143,7 @@ class FullDisks(Local):
 
     def test_of_the_image(self) -> None:
         self.server.before = lambda payload: p.FAULT if request_of(payload) else None
-        for left, kind, told in ((1000, e.DiskFull, "the disk is full that .*disc.img is on: 1,000 bytes are left"), (10**9, e.DriveFailed, "the drive fails")):
+        for left, kind, told in ((1000, e.DiskFull, "the disk that .*disc.img is on is full: 1,000 bytes are left"), (10**9, e.DriveFailed, "the drive fails")):
             with self.client(patience=0.1) as client, mock.patch("udfburn.retrying.room_left", lambda path, left=left: left):
                 client.line.image = "/somewhere/disc.img"
                 with self.assertRaisesRegex(kind, told):
@@ -157,7 +157,7 @@ class FullDisks(Local):
         with self.client() as client:
             client.create("/a", b"")
             client.session().ledger._base.execute("PRAGMA max_page_count = 1")
-            with self.assertRaisesRegex(e.LedgerError, "ledger.sqlite: cannot be written .database or disk is full.: see that its disk"):
+            with self.assertRaisesRegex(e.LedgerError, "ledger.sqlite: cannot be written .database or disk is full.: check that its disk"):
                 for index in range(200):
                     client.create(f"/{index}", bytes(5000))
             commits = self.volume.commits

@@ -18,7 +18,7 @@ if TYPE_CHECKING:
     from concurrent.futures import ThreadPoolExecutor
 
 ASIDE = 1 << 16
-"""Bytes of a file from which on its digests are computed in the thread: they take longer than the thread takes to wake."""
+"""From this many bytes on, the digests of a file are computed in the thread: they take longer than it takes the thread to wake."""
 
 PARTS = 2
 """Parts that are read ahead: as many as are kept and sent as one."""

@@ -22,7 +22,7 @@ if TYPE_CHECKING:
 
 
 class Client:
-    """A volume behind a daemon's socket (`unix:PATH`), or in an image: with the program `udfburn apply` (`image:PATH`), or in this process
+    """A volume at a daemon's socket (`unix:PATH`), or in an image: with the program `udfburn apply` (`image:PATH`), or in this process
     with the C library (`library:PATH`).
 
     `ledger` is the file that keeps numbers, frames and replies; it is opened with the first request, and made where
@@ -44,7 +44,7 @@ class Client:
         shared: bool = False,
     ):
         if not 0 <= patience < float("inf"):
-            raise UsageError(f"{patience!r} is no count of seconds: one is a number from 0 on")
+            raise UsageError(f"{patience!r} is not a number of seconds: give a number from 0 on")
         self.endpoint = Endpoint(connect, program)
         self.line = RetryingConnection(self.endpoint, patience, timeout)
         self._wanted = client
@@ -172,7 +172,7 @@ class Client:
         return taken
 
     def forget(self) -> List[str]:
-        """Drops what is pending, and learns the latest number of this client anew; gives the dropped paths."""
+        """Drops what is pending, and asks again for the latest number of this client; returns the dropped paths."""
         with self.held():
             return self.session().forget()
 

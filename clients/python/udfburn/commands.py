@@ -26,7 +26,7 @@ def way_of(arguments: argparse.Namespace) -> str:
         return f"image:{arguments.image}"
     if os.environ.get("UDFBURN_SOCKET"):
         return f"unix:{os.environ['UDFBURN_SOCKET']}"
-    raise UsageError("name the volume by --socket PATH or --image PATH")
+    raise UsageError("name the volume with --socket PATH or --image PATH")
 
 
 def by_library(arguments: argparse.Namespace) -> str:
@@ -67,7 +67,7 @@ def reader(arguments: argparse.Namespace) -> Iterator[Client]:
     commit: Optional[int] = getattr(arguments, "as_of", None)
     connect = way_of(arguments)
     if commit is not None and not arguments.image:
-        raise UsageError("--as-of reads an image: name it by --image")
+        raise UsageError("--as-of reads an image: name it with --image")
     if commit is None:
         with Client(connect, program=arguments.program, **patience_of(arguments)) as client:
             if connect.startswith("unix:") or not taken(client):

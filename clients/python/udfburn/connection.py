@@ -18,7 +18,7 @@ PIECE = 1 << 18
 
 
 SENT = 1 << 20
-"""Bytes that may be on their way to a daemon, as far as the system lets them."""
+"""Bytes that may be on their way to a daemon, if the system allows it."""
 
 
 class Lost(Exception):
@@ -225,7 +225,7 @@ class ImageConnection(Connection):
             )
         except OSError as error:
             self.errors.close()
-            raise UsageError(f"{program}: {error.strerror or error}: name the program udfburn by --program") from error
+            raise UsageError(f"{program}: {error.strerror or error}: name the program udfburn with --program") from error
         if self.process.stdin is None or self.process.stdout is None:
             raise RuntimeError("the program has no pipes")
         self.sink, self.source = self.process.stdin.fileno(), self.process.stdout.fileno()
@@ -289,7 +289,7 @@ def find_program(program: Optional[str] = None) -> str:
 
     found = program or os.environ.get("UDFBURN") or which("udfburn")
     if not found:
-        raise UsageError("the program udfburn is not on the PATH: give it by --program or UDFBURN")
+        raise UsageError("the program udfburn is not on the PATH: name it with --program or UDFBURN")
     return os.path.abspath(found) if os.sep in found else found
 
 
@@ -308,7 +308,7 @@ def run_program(program: str, words: List[str]) -> bytes:
     try:
         done = subprocess.run([program, *words], stdin=subprocess.DEVNULL, capture_output=True, check=False)
     except OSError as error:
-        raise UsageError(f"{program}: {error.strerror or error}: name the program udfburn by --program") from error
+        raise UsageError(f"{program}: {error.strerror or error}: name the program udfburn with --program") from error
     if done.returncode:
         line = done.stderr.decode(errors="replace").strip()
         raise ProgramFailed(f"{line or f'udfburn ended with status {done.returncode}'} ({' '.join(words)})")

@@ -1,4 +1,4 @@
-"""Where a volume is: behind a daemon's socket, or in an image with the program `udfburn apply` or the C library."""
+"""Where a volume is: at a daemon's socket, or in an image with the program `udfburn apply` or the C library."""
 
 from __future__ import annotations
 
@@ -15,7 +15,7 @@ if TYPE_CHECKING:
 
 
 class Endpoint:
-    """Where a volume is: behind a daemon's socket (`unix:PATH`), or in an image that is written by the program (`image:PATH`) or by the C
+    """Where a volume is: at a daemon's socket (`unix:PATH`), or in an image that is written by the program (`image:PATH`) or by the C
     library (`library:PATH`). `kind` is `image` for both of these; `library` is None for the program.
     """
 
@@ -36,7 +36,7 @@ class Endpoint:
         return f"{self.name}:{shown(self.path)}"
 
     def key(self) -> Union[str, bytes]:
-        """The endpoint's name in a ledger, by the file behind links; as bytes where these are not UTF-8."""
+        """The endpoint's name in a ledger, by the file that links lead to; as bytes where these are not UTF-8."""
         return key_of(self.kind, self.path)
 
     def open(self, timeout: float = 120.0) -> Connection:
@@ -44,7 +44,7 @@ class Endpoint:
         if self.kind == "unix":
             return UnixConnection(self.path, timeout)
         if not os.path.isfile(self.path):
-            raise ProgramFailed(f"{shown(self.path)}: {os.strerror(errno.ENOENT)}, or no regular file")
+            raise ProgramFailed(f"{shown(self.path)}: {os.strerror(errno.ENOENT)}, or not a regular file")
         if self.library:
             from .library import LibraryConnection
 

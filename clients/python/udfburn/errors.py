@@ -37,7 +37,7 @@ class NotFound(Refused):
 
 
 class Exists(Refused):
-    text = "is there already"
+    text = "already exists"
 
 
 class IsDirectory(Refused):
@@ -45,7 +45,7 @@ class IsDirectory(Refused):
 
 
 class NotDirectory(Refused):
-    text = "is no directory"
+    text = "is not a directory"
 
 
 class NotEmpty(Refused):
@@ -103,7 +103,7 @@ class NotCommitted(UdfburnError):
 
 
 class Full(NotCommitted):
-    """The medium has no room: nothing was written. Smaller files may still fit; else take another image."""
+    """The medium has no room: nothing was written. Smaller files may still fit; otherwise use another image."""
 
 
 class ClientsFull(NotCommitted):
@@ -149,7 +149,7 @@ class VolumeBehind(WrongVolume):
 
 
 class EmptyVolume(VolumeBehind):
-    """A volume without any request of this client is in the place of one that acknowledged some."""
+    """A volume without any request of this client is at the path of one that acknowledged some."""
 
 
 class OtherVolume(WrongVolume):
@@ -157,7 +157,7 @@ class OtherVolume(WrongVolume):
 
 
 class CopyWentOn(WrongVolume):
-    """A copy that went on by itself: it has the volume's earlier commits, and then others than the ledger has."""
+    """A copy that went on by itself: it has the volume's earlier commits, and then other commits than the ledger."""
 
 
 class ForeignReply(LedgerError):

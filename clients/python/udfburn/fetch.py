@@ -1,4 +1,4 @@
-"""Trees that are copied from a volume. One that was interrupted goes on: what is there whole is compared, and not written anew."""
+"""Trees that are copied from a volume. An interrupted copy continues: complete files are compared, and not written again."""
 
 from __future__ import annotations
 
@@ -110,7 +110,7 @@ class Fetcher:
         refused = set() if self.force else {target.local for target in there}
         for target in left:
             if target.local in refused:
-                self.summary.failures.append(f"{shown(target.local)}: is there already, with other bytes (--force replaces it)")
+                self.summary.failures.append(f"{shown(target.local)}: already exists, with other bytes (--force replaces it)")
         wanted = [target for target in left if target.local not in refused]
         with parts_of(self.client, [target.file for target in wanted]) as files:
             for target, (file, parts) in zip(wanted, files):
@@ -183,11 +183,11 @@ def require_own(local: str, names: List[str]) -> None:
     if not os.path.lexists(local):
         return
     if not os.path.isdir(local):
-        raise SourceError(f"{shown(local)}: is there already, and is no folder")
+        raise SourceError(f"{shown(local)}: already exists, and is not a folder")
     others = sorted(name for name in os.listdir(local) if name not in set(names) and not name.startswith(PREFIX))
     if others:
         more = f" and {len(others) - 1} more" if len(others) > 1 else ""
-        raise SourceError(f"{shown(local)}: is there already, and has {shown(others[0])}{more}, which the volume does not have (--force goes into it)")
+        raise SourceError(f"{shown(local)}: already exists, and has {shown(others[0])}{more}, which the volume does not have (--force goes into it)")
 
 
 def get_tree(client: Client, path: Path, local: str, split: bool = False, force: bool = False, told: Told = quiet) -> int:
@@ -205,7 +205,7 @@ def make_folder(folder: str) -> List[str]:
     if os.path.isdir(folder):
         return []
     if os.path.lexists(folder):
-        raise SourceError(f"{shown(folder)}: is there already, and is no folder")
+        raise SourceError(f"{shown(folder)}: already exists, and is not a folder")
     above = os.path.dirname(os.path.abspath(folder))
     changed = make_folder(above) if not os.path.isdir(above) else []
     os.makedirs(folder, exist_ok=True)

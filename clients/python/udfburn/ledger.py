@@ -44,7 +44,7 @@ PENDING = f"""
 SELECT number, payload, path, {', '.join((*FACTS, *ORIGIN))} FROM request JOIN frame ON frame.id = volume * 4 + number % 4
 WHERE volume = ?1 AND number > (SELECT max(number) FROM request WHERE volume = ?1) - 4 AND code IS NULL ORDER BY number
 """
-"""What has no reply: it is among the last four. Four payloads are kept for a volume, each in the place of an older one."""
+"""Requests without a reply: they are among the last four. Four payloads are kept for a volume, each in the place of an older one."""
 
 KEPT_FRAME = f"""
 INSERT INTO frame (id, payload, {', '.join(ORIGIN)}) VALUES (?, ?{', ?' * len(ORIGIN)}) ON CONFLICT (id) DO UPDATE
@@ -66,7 +66,7 @@ SELECT max(coalesce((SELECT commit_number FROM request WHERE volume = ? AND code
 """
 
 LOG_PAGES = 128
-"""Pages that the base's log has before they are taken over into the base, and it is written from its beginning again."""
+"""Pages in the database's log before they are copied into the database, and the log is written from its beginning again."""
 
 LOG_BYTES = 32 + (LOG_PAGES + 16) * (24 + 4096)
 """Bytes that such a log may take, with what the last transaction adds."""
@@ -96,7 +96,7 @@ class Ledger:
     # ---- opening
 
     def _open(self, wanted: Optional[int]) -> Tuple[sqlite3.Connection, int]:
-        """The base, and the client that it is of. A base that is no ledger is left as it is."""
+        """The database, and the client that it belongs to. A database that is not a ledger is left as it is."""
         try:
             base, client = self._begin(wanted)
             if client is None:
@@ -124,13 +124,13 @@ class Ledger:
         return base, client
 
     def _unusable(self, error: Exception) -> LedgerError:
-        """What is reported where the base cannot be opened, or is not a ledger's."""
+        """What is reported if the database cannot be opened, or is not a ledger's."""
         if isinstance(error, sqlite3.OperationalError) and not str(error).startswith("no such"):
-            return LedgerError(f"{self.path}: cannot be written ({error}): see that its disk is well and has room")
-        return LedgerError(f"{self.path}: is no ledger ({error}): name another by --ledger")
+            return LedgerError(f"{self.path}: cannot be written ({error}): check that its disk works and has room")
+        return LedgerError(f"{self.path}: is not a ledger ({error}): name another with --ledger")
 
     def _client(self, base: sqlite3.Connection, wanted: Optional[int]) -> Optional[int]:
-        """The client that a base is of; None where it has no table at all."""
+        """The client that a database belongs to; None if it has no table at all."""
         if not base.execute("SELECT 1 FROM sqlite_master").fetchone():
             return None
         version, client = base.execute("SELECT version, client FROM ledger").fetchone()
@@ -149,7 +149,7 @@ class Ledger:
         """Makes the ledger under another name, and gives it its own once it is whole and durable."""
         client = 1 + int.from_bytes(os.urandom(8), "little") % LAST if wanted is None else wanted
         if not 0 < client <= limits.U64:
-            raise LedgerError(f"{client} is no client: one is from 1 to {limits.U64}")
+            raise LedgerError(f"{client} is not a client number: give one from 1 to {limits.U64}")
         new = self.path + ".new"
         # What an earlier making left; and a log without its base, which SQLite would take for the new one's.
         for path in (new, new + "-journal", new + "-wal", self.path + "-journal", self.path + "-wal"):
@@ -375,7 +375,7 @@ class Ledger:
         return gone
 
     def give_up(self, volume: Volume, waiting: Iterable[Pending]) -> None:
-        """Keeps that the data of pending requests is not looked for any more, whatever is found where it was later."""
+        """Records that the data of pending requests is no longer looked for, whatever is found at its place later."""
         with self._transaction():
             self._base.executemany(NO_ORIGIN, [(*origin_row(GIVEN_UP), volume.id * 4 + pending.number % 4) for pending in waiting])
 

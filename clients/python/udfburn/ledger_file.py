@@ -76,12 +76,12 @@ def is_there(path: str) -> bool:
     try:
         status = os.stat(path)
         if not stat.S_ISREG(status.st_mode):
-            raise LedgerError(f"{path}: is no ledger (no regular file): name another by --ledger")
+            raise LedgerError(f"{path}: is not a ledger (not a regular file): name another with --ledger")
         if not status.st_size:
             return False
         with open(path, "rb") as file:
             if file.read(len(MAGIC)) != MAGIC:
-                raise LedgerError(f"{path}: is no ledger (no base of SQLite): name another by --ledger")
+                raise LedgerError(f"{path}: is not a ledger (not an SQLite database): name another with --ledger")
     except FileNotFoundError:
         return False
     return True
@@ -104,14 +104,14 @@ def connect(path: str) -> sqlite3.Connection:
 
 
 class Lock:
-    """The lock of a ledger: a file beside it, since closing the base would give up locks on the base itself."""
+    """The lock of a ledger: a file beside it, since closing the database would give up locks on the database itself."""
 
     def __init__(self, path: str, wait: float):
         self.path = path + ".lock"
         limit = time.monotonic() + wait
         while not self._take():
             if time.monotonic() >= limit:
-                raise LedgerBusy(f"{path}: another process has this ledger: wait for it, or take another by --ledger")
+                raise LedgerBusy(f"{path}: another process has this ledger: wait for it, or use another with --ledger")
             time.sleep(0.05)
 
     def _take(self) -> bool:

@@ -79,7 +79,7 @@ class OpenVolume:
     def answer(self, frames: bytes) -> None:
         """Sends bytes of the stream of messages. Every message that is complete is answered."""
         if os.getpid() != self._process:
-            raise UsageError("the volume was opened before the fork and belongs to the parent: open it in the child after the parent has closed it")
+            raise UsageError("the volume was opened before the fork and belongs to the parent: when the parent has closed it, close it in the child too and open it again")
         self._library.require(self._library.calls.udfburn_answer(self._handle, frames, len(frames)))
 
     def take(self, most: int) -> bytes:
@@ -89,11 +89,13 @@ class OpenVolume:
         return room.raw if room and self._library.calls.udfburn_take(self._handle, room, count) == count else b""
 
     def close(self) -> None:
-        """Closes the volume, so that others can open it. Everything that was answered is on the disk already."""
+        """Closes the volume, so that others can open it. Everything that was answered is on the disk already.
+
+        In a child after fork it closes the child's copy, which else keeps the lock after the parent has closed the volume. The
+        parent loses nothing by it.
+        """
         handle, self._handle = self._handle, HANDLE()
-        # If a child closed it, the parent would lose its lock.
-        if os.getpid() == self._process:
-            self._library.calls.udfburn_close(handle)
+        self._library.calls.udfburn_close(handle)
 
 
 class LibraryConnection(Connection):
@@ -133,7 +135,7 @@ def told(refused: Refused) -> Exception:
     if refused.name == "UDFBURN_VOLUME":
         return Damaged(DAMAGE)
     why = {
-        "UDFBURN_DEVICE": "the image is missing or no regular file, another program has it, or its disk failed",
+        "UDFBURN_DEVICE": "the image is missing or not a regular file, another program has it, or its disk failed",
         "UDFBURN_MEMORY": "there is not enough memory",
     }
     return Lost(f"{refused.name}: {why.get(refused.name, 'the library refused')}")

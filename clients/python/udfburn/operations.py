@@ -130,7 +130,7 @@ def after(request: AnyRequest) -> Dict[Path, Expected]:
 
 
 def refused(request: AnyRequest, code: Code) -> Dict[Path, Expected]:
-    """What the tree has where a request was refused with this code, as far as its paths show it."""
+    """What the tree has after a request was refused with this code, as far as the request's paths show it."""
     target = request.to if isinstance(request, Rename) else request.path
     if code is Code.NO_PARENT:
         return {target: ABSENT}

@@ -78,7 +78,7 @@ def fault_of(source: Source, split: bool) -> Optional[str]:
     # All parts have names of one length. What is whole has a name that was looked at where it was found.
     names = [path[-1] for path in own_paths(source.path, size, split)[1:2]]
     if any(why_not(name) for name in names):
-        return "the name of a part takes more than 255 bytes as it is spelled on the medium"
+        return "the name of a part takes more than 255 bytes as it is encoded on the medium"
     return None
 
 
@@ -119,7 +119,7 @@ def check_paths(planned: Plan, present: Present) -> None:
             planned.faults.append(f"{show(path)}: has {len(path)} names, and a path has at most {limits.DEPTH}")
         parent = path[:-1]
         if path and parent not in made and present.kinds.get(parent, NodeKind.DIRECTORY if not parent else None) is not NodeKind.DIRECTORY:
-            planned.faults.append(f"{show(parent)}: is no directory of the volume (-p makes missing ones)")
+            planned.faults.append(f"{show(parent)}: is not a directory of the volume (-p makes missing ones)")
     planned.faults[:] = list(dict.fromkeys(planned.faults))
 
 

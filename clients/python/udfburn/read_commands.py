@@ -99,7 +99,7 @@ def get(arguments: argparse.Namespace) -> int:
 
 
 def place_of(local: str, path: Path) -> str:
-    """The local file that a file becomes: in a folder it has its own name."""
+    """The local file that a file is copied to: in a folder it keeps its own name."""
     return os.path.join(local, decode(path[-1])) if os.path.isdir(local) and path else local
 
 
@@ -186,7 +186,7 @@ def check_picture(path: str) -> None:
     if os.path.isfile(path):
         with open(path, "rb") as file:
             if file.read(4) not in (b"", b"<svg"):
-                raise SourceError(f"{shown(path)}: is there already, and is no picture of this command")
+                raise SourceError(f"{shown(path)}: already exists, and is not a picture of this command")
 
 
 __all__ = ["add", "draw", "get", "ls", "verify"]

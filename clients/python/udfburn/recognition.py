@@ -22,7 +22,7 @@ from .protocol import (
     limits, show, shown,
 )
 
-FORGET = "Where this volume is meant, 'resume --forget' goes on with it; then 'verify' what is there"
+FORGET = "If this volume is meant, 'resume --forget' goes on with it; then 'verify' what is there"
 
 
 class Seen(NamedTuple):
@@ -123,8 +123,8 @@ class Recognizer:
         if latest > last:
             return NumberUsedElsewhere(
                 f"the volume has requests up to {latest} of this client, and this ledger sent {last} ({self.where}): another ledger"
-                " with the same client was used, or this one is an old copy. Take a new ledger with a client of its own"
-                " (--ledger FILE), or, where this is the only one left, 'resume --forget'; then 'verify' what is there"
+                " with the same client was used, or this one is an old copy. Use a new ledger with a client of its own"
+                " (--ledger FILE), or, if this is the only one left, 'resume --forget'; then 'verify' what is there"
             )
         if latest >= volume.latest:
             return None
@@ -181,7 +181,7 @@ class Recognizer:
             return None
         expected = "; ".join(f"{show(path)}: {wanted[path].text()}" for path, _ in wrong)
         found = "; ".join(f"{show(path)}: {node_text(answer)}" for path, answer in wrong)
-        what = "another volume or a copy that went on by itself, or another client has changed these paths since (then say --shared)"
+        what = "another volume or a copy that went on by itself, or another client has changed these paths since (then use --shared)"
         return self.error(OtherVolume if len(wrong) == len(wanted) else CopyWentOn, what, expected, found)
 
     def _wanted(self, volume: Volume) -> Dict[Path, Expected]:
@@ -241,7 +241,7 @@ class Meeting:
         raise self._as_another(known, fault)
 
     def anew(self) -> Volume:
-        """The volume that a user says is meant, whatever the ledger has here: one that is known, or a new one."""
+        """The volume that the user says is meant, whatever the ledger knows here: a known one, or a new one."""
         known = self.ledger.volume(self.key)
         if known is not None and self.by.fault(known) is None:
             return self._identified(self.ledger.take_over(known, self.seen.latest, self.seen.pairs()))
@@ -273,8 +273,8 @@ class Meeting:
         if agreeing:
             ways = ", or ".join(ways_text(self.ledger, volume) for volume in agreeing)
             raise OtherVolume(
-                f"this may be the volume at {ways}: all have the same requests of this client ({self.by.where}). Name it by one of these"
-                " ways, or by --image, which distinguishes them. Nothing was sent to it"
+                f"this may be the volume at {ways}: all have the same requests of this client ({self.by.where}). Name it in one of these"
+                " ways, or with --image, which distinguishes them. Nothing was sent to it"
             )
         raise self._unknown()
 
@@ -288,7 +288,7 @@ class Meeting:
         return NumberUsedElsewhere(
             f"the volume has requests up to {self.seen.latest} of this client, and this ledger did not send them to it, nor to any volume"
             f" that has just these ({self.by.where}): it is an older copy of one, or another ledger with the same client was used, or other"
-            f" clients have changed what this one stored (then say --shared). Nothing was sent to it. {FORGET}"
+            f" clients have changed what this one stored (then use --shared). Nothing was sent to it. {FORGET}"
         )
 
     def _as_another(self, known: Volume, fault: LedgerError) -> LedgerError:
@@ -298,11 +298,11 @@ class Meeting:
         if len(agreeing) != 1:
             return fault
         ways = ways_text(self.ledger, agreeing[0])
-        which = f"the one that it has at {ways}" if ways else "one that it had elsewhere"
+        which = f"the one that it knows at {ways}" if ways else "one that it knew elsewhere"
         if not isinstance(fault, NumberUsedElsewhere):
-            return OtherVolume(f"not the volume that the ledger has here is here, but {which}: {fault}")
+            return OtherVolume(f"this is not the volume that the ledger knows here, but {which}: {fault}")
         return self.by.error(
-            OtherVolume, f"not the volume that the ledger has here, but {which}", f"requests up to {known.latest} of this client",
+            OtherVolume, f"not the volume that the ledger knows here, but {which}", f"requests up to {known.latest} of this client",
             f"requests up to {self.seen.latest}",
         )
 

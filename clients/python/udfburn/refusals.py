@@ -34,7 +34,7 @@ def met(query: Query, answer: Answer) -> Answer:
 
 
 def expected(kind: Type[Answered], query: Query, answer: Answer) -> Answered:
-    """The answer to a query, which is of this kind, or the exception of its refusal."""
+    """The answer to a query, of this kind; or the exception that its refusal is."""
     answer = met(query, answer)
     if not isinstance(answer, kind):
         raise BadAnswer(f"{answer!r} is no answer to the query of {show(query.path)}")

@@ -21,7 +21,7 @@ TURN = 1.0
 """Seconds after which a conversation is ended between two requests, so that others get their turn."""
 
 BEGINNINGS = 4
-"""How many times as long as its beginning took it goes on all the same: a program reads a full volume anew from a slow disk."""
+"""A conversation lasts at least this many times as long as its opening took: each opening may read a full volume from a slow disk."""
 
 LEAST = 0.2
 """Seconds that an answer gets at least, however long was waited before."""
@@ -149,8 +149,8 @@ class RetryingConnection:
             return DriveFailed, "the drive fails, or its disk is full: check the disk with the daemon's image"
         left = room_left(self.image)
         if left is not None and left < COMMIT:
-            return DiskFull, f"the disk is full that {shown(self.image)} is on: {left:,} bytes are left there. Make room; 'resume', or the same command, goes on"
-        return DriveFailed, f"the drive fails: see that the disk is well that {shown(self.image)} is on"
+            return DiskFull, f"the disk that {shown(self.image)} is on is full: {left:,} bytes are left. Make room; 'resume', or the same command, continues"
+        return DriveFailed, f"the drive fails: check the disk that {shown(self.image)} is on"
 
     @contextmanager
     def claim(self) -> Iterator[None]:

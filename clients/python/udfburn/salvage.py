@@ -23,7 +23,7 @@ from .salvage_write import Output, Written
 WHOLE, UNPROVED, EARLIER, NAMELESS, DAMAGED, LOST = "whole", "unproved", "earlier", "nameless", "damaged", "lost"
 UNFINISHED = "unfinished"
 STATES = (WHOLE, UNPROVED, EARLIER, NAMELESS, DAMAGED, LOST)
-"""How a file was had.
+"""How a file was obtained.
 
 `whole`: its bytes have the digest that the volume or the ledger keeps of them. `unproved`: all its blocks could be read, and no digest
 covers it. `earlier`: its name or its bytes are those of an earlier commit. `nameless`: its bytes could be read, and no name leads to it.
@@ -64,7 +64,7 @@ class Bytes(NamedTuple):
 
 
 class Salvage:
-    """A volume as far as it can be had. Nothing is written to it."""
+    """As much of a volume as can be read. Nothing is written to it."""
 
     def __init__(self, medium: Medium, commit: Optional[int] = None, ledger: Optional[str] = None):
         self.medium = medium

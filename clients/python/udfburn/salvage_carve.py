@@ -12,7 +12,7 @@ STARTS = 20_000
 """How many beginnings of files are tried in all."""
 
 IsKept = Callable[[str], bool]
-"""Whether a digest, in lower case, is one that is looked for."""
+"""Whether a digest, in lower case, is among those that are wanted."""
 
 
 class Carver:

@@ -20,7 +20,7 @@ class Listed(NamedTuple):
 
 
 def lines_of(folder: Path, data: bytes, is_bag: bool) -> Iterator[Listed]:
-    """The lines of a manifest in a folder, as far as they are lines of one."""
+    """The valid lines of a manifest in a folder."""
     for line in split_lines(data, is_bag):
         found = LINE.fullmatch(line)
         if found is None:

@@ -1,4 +1,4 @@
-"""The tree of a state as far as it can be had: nodes by their names, else by what earlier states say, else by their unique IDs."""
+"""As much of the tree of a state as can be read: nodes by their names, else by those of earlier states, else by their unique IDs."""
 
 from __future__ import annotations
 

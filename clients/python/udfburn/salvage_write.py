@@ -126,7 +126,7 @@ class Output:
                 return Written(waiting.key, path, None)
             except FileExistsError:
                 same = folder.has_same(waiting.name, waiting.descriptor)
-                return Written(waiting.key, path, None if same else "is there already, with other bytes")
+                return Written(waiting.key, path, None if same else "already exists, with other bytes")
             finally:
                 os.close(waiting.descriptor)
                 folder.remove(waiting.temporary)

@@ -132,7 +132,7 @@ def full_disk(local: str) -> Iterator[None]:
         if not is_full(error):
             raise
         raise DiskFull(
-            f"{shown(local)}: its disk is full ({error.strerror}): the files that were got are whole; make room, and the same command goes on"
+            f"{shown(local)}: its disk is full ({error.strerror}): the files copied so far are complete; make room, and run the same command again"
         ) from error
 
 
@@ -150,7 +150,7 @@ def require_place(local: str, force: bool) -> None:
 
 def taken(local: str) -> SourceError:
     """What is said where another file has the name."""
-    return SourceError(f"{shown(local)}: is there already (--force replaces it)")
+    return SourceError(f"{shown(local)}: already exists (--force replaces it)")
 
 
 def temporary_name(local: str) -> str:
@@ -202,7 +202,7 @@ def write_all(descriptor: int, data: bytes) -> int:
 
 
 def give_name(written: Written, force: bool) -> None:
-    """Gives a file its name, in the place of one that is there where that is asked for."""
+    """Gives a file its name; if asked to, in the place of an existing file."""
     local, temporary = written.local, written.temporary
     if temporary is None and not (force and os.path.lexists(local)):
         try:

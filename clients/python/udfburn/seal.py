@@ -81,7 +81,7 @@ def require_directory(client: Client, path: Path, top: Path) -> None:
     if node is None or node.kind is not NodeKind.DIRECTORY:
         raise UsageError(
             f"{show(path)}: has no directory {m.PAYLOAD}, in which a bag has its payload: store it at {show(top)} ('put --seal' does), or"
-            " say --manifest-only"
+            " use --manifest-only"
         )
 
 
@@ -135,7 +135,7 @@ def require_agreement(found: Found) -> None:
             if file is not None and not file.proved and file.sha256 != line.sha256:
                 faults.append(
                     f"{show(file.path)}: has other bytes than {show(manifest.path)} says, and this ledger did not store them. Nothing was"
-                    " written. Where these bytes are right, remove that manifest and seal again"
+                    " written. If these bytes are right, remove that manifest and seal again"
                 )
     if faults:
         raise Differs("\n".join(faults))
@@ -166,7 +166,7 @@ def bag_files(path: Path, found: Found, payload: List[Read]) -> Dict[Path, bytes
     if len(manifest) > limits.FILE:
         raise TooLarge(
             f"{show(path + (m.MANIFEST,))}: would have {len(manifest)} bytes, and a file has at most {limits.FILE}: seal the directories below"
-            " by themselves, or say --manifest-only, which has one in each directory then"
+            " by themselves, or use --manifest-only, which then writes one in each directory"
         )
     info, old = path + (m.BAG_INFO,), path + (m.MANIFEST,)
     same = old in found and found[old].data == manifest

@@ -176,7 +176,7 @@ class Session:
             pass
 
     def forget(self) -> List[str]:
-        """Drops what is pending at this endpoint, and learns anew which number the volume knows; gives the dropped paths."""
+        """Drops what is pending at this endpoint, and asks again which number the volume knows; returns the dropped paths."""
         known = self.ledger.volume(self.key)
         waiting = self.ledger.pending(known) if known else []
         self._forgetting = True
@@ -277,7 +277,7 @@ class Session:
         if isinstance(answer, (Gap, Stale)):
             raise NumberUsedElsewhere(
                 f"number {waiting.number} of client {self.ledger.client} is not its next one, the volume knows {answer.latest}:"
-                " another ledger with the same client is in use. Take a new ledger with a client of its own (--ledger FILE)"
+                " another ledger with the same client is in use. Use a new ledger with a client of its own (--ledger FILE)"
             )
         if answer not in (FULL, CLIENTS_FULL) and not isinstance(answer, Malformed):
             raise BadAnswer(f"{answer!r} is no answer to a request")
@@ -286,10 +286,10 @@ class Session:
             raise Rejected(f"{waiting.path}: the program calls the request malformed, {int(answer.cause)} {answer.cause.name}")
         if answer == FULL:
             raise Full(f"the medium has no room for {waiting.path}, and nothing was written of it (not stored: {gone})."
-                       " Smaller files may still fit; else take another image")
+                       " Smaller files may still fit; otherwise use another image")
         raise ClientsFull(
-            f"the volume keeps {limits.CLIENTS} clients for its life, and has them: use the ledger of a client that it knows"
-            " (--ledger FILE, or --client with a new ledger where the old one is lost), or take another image"
+            f"the volume has its {limits.CLIENTS} clients, which it keeps for its life: use the ledger of a client that it knows"
+            " (--ledger FILE, or --client with a new ledger if the old one is lost), or another image"
         )
 
     def _confirm(self, connection: Connection, done: Done) -> None:
@@ -317,7 +317,7 @@ class Session:
         return ForeignReply(
             f"{show(path)}: a reply says what the tree does not have ({answer!r}): it is the reply of another ledger with"
             f" client {self.ledger.client}, or somebody else has changed the path since. Nothing local was deleted because of it."
-            " Compare by 'verify'; where another ledger has this client take a new one (--ledger FILE)"
+            " Compare with 'verify'; if another ledger has this client, use a new one (--ledger FILE)"
         )
 
     def _check_commit(self, reply: Committed) -> None:
@@ -325,7 +325,7 @@ class Session:
         if reply.commit <= self._commit:
             raise ForeignReply(
                 f"a reply says commit {reply.commit}, and commit {self._commit} was acknowledged before: it is the reply of"
-                f" another ledger with client {self.ledger.client}. Take a new ledger with a client of its own (--ledger FILE)"
+                f" another ledger with client {self.ledger.client}. Use a new ledger with a client of its own (--ledger FILE)"
             )
         self._commit = reply.commit
 

@@ -96,7 +96,7 @@ def why_not(name: str) -> Optional[str]:
         return None
     if fault is NameFault.WIDE:
         wide = next(character for character in name if name_fault(character) is NameFault.WIDE)
-        return f"its name has U+{ord(wide):04X}, which has no spelling in compressed Unicode"
+        return f"its name has U+{ord(wide):04X}, which compressed Unicode cannot encode"
     return f"its name {fault.value}"
 
 
@@ -137,7 +137,7 @@ def leave(local: str, why: str, how: str, skip_odd: bool, into: Scan) -> None:
 def remedy(name: str) -> str:
     """What can be done about a name that cannot be stored."""
     if encode(name) != name and why_not(encode(name)) is None:
-        return "--escape stores it under another spelling, --skip-odd leaves it out"
+        return "--escape stores it under an escaped name, --skip-odd leaves it out"
     return "--skip-odd leaves it out"
 
 

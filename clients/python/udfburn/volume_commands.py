@@ -85,7 +85,7 @@ def label_of(arguments: argparse.Namespace) -> str:
     label: str = os.path.splitext(os.path.basename(arguments.image_path))[0] if given is None else given
     fault = label_fault(label)
     if fault:
-        raise UsageError(f"{shown(label)}: {fault}" + ("" if given is not None else " (name the volume by --label)"))
+        raise UsageError(f"{shown(label)}: {fault}" + ("" if given is not None else " (name the volume with --label)"))
     return label
 
 
@@ -140,8 +140,8 @@ def why_not_formatted(image: str, line: str) -> str:
     """What the program's line, or the library's status, means for whoever formats."""
     if "61 NotBlank" in line or line == "UDFBURN_VOLUME":
         return (
-            f"{shown(image)}: holds something already, and stays as it is. Take another name; or, where it is what a format left that was"
-            " cut short, remove it, or give that format's own --label, --capacity and --moment"
+            f"{shown(image)}: holds something already, and stays as it is. Use another name; or, if it was left by a format that was cut"
+            " short, remove it, or repeat that format with its own --label, --capacity and --moment"
         )
     if "64 Device" in line or line == "UDFBURN_DEVICE":
         return f"{shown(image)}: cannot be made or written: its folder is missing, its disk is full or fails, or another program has it ({line})"
@@ -156,7 +156,7 @@ def where_of(arguments: argparse.Namespace) -> Tuple[Optional[str], Optional[str
     where = arguments.where
     if where is not None:
         if image or path:
-            raise UsageError("give the volume once: as IMAGE or SOCKET, or by --image and --socket")
+            raise UsageError("name the volume once: as IMAGE or SOCKET, or with --image and --socket")
         if where.startswith(("unix:", "image:")):
             kind, where = where.split(":", 1)
         else:

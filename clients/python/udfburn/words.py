@@ -28,7 +28,7 @@ def seconds(text: str) -> float:
     except ValueError:
         count = math.nan
     if not 0 <= count < math.inf:
-        raise argparse.ArgumentTypeError(f"{text!r} is no count of seconds: one is a number from 0 on")
+        raise argparse.ArgumentTypeError(f"{text!r} is not a number of seconds: give a number from 0 on")
     return count
 
 
@@ -39,7 +39,7 @@ def client_number(text: str) -> int:
     except ValueError:
         number = 0
     if not 0 < number <= limits.U64:
-        raise argparse.ArgumentTypeError(f"{text!r} is no client: one is a number from 1 to {limits.U64}")
+        raise argparse.ArgumentTypeError(f"{text!r} is not a client number: give one from 1 to {limits.U64}")
     return number
 
 

@@ -86,7 +86,7 @@ def own_name(local: str, escape: bool) -> str:
     spelling = encode(name)
     fault = (None if escape else why_not(name)) or why_not(spelling)
     if fault:
-        raise UsageError(f"{shown(local)}: {fault}" + (" (--escape stores it under another spelling)" if why_not(spelling) is None else ""))
+        raise UsageError(f"{shown(local)}: {fault}" + (" (--escape stores it under an escaped name)" if why_not(spelling) is None else ""))
     return spelling
 
 

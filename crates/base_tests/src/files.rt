@@ -1,36 +1,58 @@
 //! Drives over files of the system.
 
-use crate::drives::block;
-use drive::{Drive, DriveFault, FileDrive, create_image, open_image};
+use crate::steps::{Step, play_file};
+use drive::{DriveFault, FileDrive, create_image, open_image};
 use std::fs;
 use std::fs::File;
 use std::os::fd::IntoRawFd;
 use std::os::unix::fs::symlink;
 use std::test::Fail;
 
+/// A new image file with room for so many blocks.
+fn created(rt: &HostRuntime, path: &str, capacity: u32) -> Result<FileDrive, Fail> {
+    let _ = fs::remove_file(rt, path);
+    Ok(FileDrive::create(rt, path, capacity)?)
+}
+
+/// Whether a file has this size, and these bytes at their places.
+fn holds(rt: &HostRuntime, path: &str, size: usize, bytes: &[(usize, u8)]) -> Result<bool, Fail> {
+    let found = fs::read(rt, path)?;
+    let found = found.as_slice();
+    Ok(found.len() == size && bytes.iter().all(|(at, byte)| found.get(*at) == Some(byte)))
+}
+
+/// Whether a path is refused that is opened, opened to be read, and made an image.
+fn refused(rt: &HostRuntime, path: &str, capacity: u32) -> (bool, bool, bool) {
+    (
+        FileDrive::open(rt, path, capacity).is_err(),
+        FileDrive::open_to_read(rt, path, capacity).is_err(),
+        FileDrive::create(rt, path, capacity).is_err(),
+    )
+}
+
+/// Whether a file is refused as an image by the number of its descriptor.
+fn number_is_refused(file: File, capacity: u32) -> bool {
+    FileDrive::over_number(file.into_raw_fd(), capacity).is_err()
+}
+
 #[test]
 fn a_file_keeps_blocks(rt: HostRuntime) -> Result<(), Fail> {
     let path = "keeps_blocks.img";
-    let _ = fs::remove_file(&rt, path);
-    let mut drive = FileDrive::create(&rt, path, 10)?;
-    let capacity = drive.capacity();
-    assert_eq!(rt; capacity, 10);
-    assert_eq!(rt; drive.next(), Ok(0));
-    drive.write(0, &[block(7), block(8)])?;
-    let next = drive.next()?;
-    assert_eq!(rt; next, 2);
-    drive.write(next, &[block(9)])?;
-    assert_eq!(rt; drive.next(), Ok(3));
-    let found = fs::read(&rt, path)?;
-    assert_eq!(rt; found.len(), 6144);
-    assert_eq!(rt; (found[0], found[2048], found[4096]), (7, 8, 9));
+    let mut drive = created(&rt, path, 10)?;
+    let steps = [
+        Step::Capacity(10),
+        Step::Next(Ok(0)),
+        Step::Write(0, &[7, 8], Ok(())),
+        Step::Next(Ok(2)),
+        Step::Write(2, &[9], Ok(())),
+        Step::Next(Ok(3)),
+    ];
+    play_file(&rt, &mut drive, &steps)?;
+    assert!(rt; holds(&rt, path, 6144, &[(0, 7), (2048, 8), (4096, 9)])?);
     drop(drive);
     let mut again = FileDrive::open(&rt, path, 3)?;
-    let next = again.next()?;
-    assert_eq!(rt; next, 3);
-    let mut into = block(0);
-    again.read(1, &mut into)?;
-    assert_eq!(rt; into[0], 8);
+    let steps = [Step::Next(Ok(3)), Step::Read(1, Ok(())), Step::Holds(8)];
+    play_file(&rt, &mut again, &steps)?;
     fs::remove_file(&rt, path)?;
     Ok(())
 }
@@ -39,107 +61,114 @@ fn a_file_keeps_blocks(rt: HostRuntime) -> Result<(), Fail> {
 #[test]
 fn a_run_lies_in_one_piece(rt: HostRuntime) -> Result<(), Fail> {
     let path = "run.img";
-    let _ = fs::remove_file(&rt, path);
-    let mut drive = FileDrive::create(&rt, path, 100)?;
-    let capacity = drive.capacity();
-    assert_eq!(rt; capacity, 100);
-    assert_eq!(rt; drive.next(), Ok(0));
-    drive.write_run(0, &[block(7); 40], &[block(8), block(9)])?;
-    assert_eq!(rt; drive.next(), Ok(42));
-    let found = fs::read(&rt, path)?;
-    assert_eq!(rt; found.len(), 42 * 2048);
-    assert_eq!(rt;
-        (found[39 * 2048], found[40 * 2048], found[41 * 2048]),
-        (7, 8, 9)
-    );
-    assert_eq!(rt; drive.write_run(41, &[block(1)], &[]), Err(DriveFault));
-    assert_eq!(rt; drive.next(), Ok(42));
+    let mut drive = created(&rt, path, 100)?;
+    let steps = [
+        Step::Capacity(100),
+        Step::Next(Ok(0)),
+        Step::Run(0, &[7; 40], &[8, 9], Ok(())),
+        Step::Next(Ok(42)),
+    ];
+    play_file(&rt, &mut drive, &steps)?;
+    let bytes = [(39 * 2048, 7), (40 * 2048, 8), (41 * 2048, 9)];
+    assert!(rt; holds(&rt, path, 42 * 2048, &bytes)?);
+    let steps = [
+        Step::Next(Ok(42)),
+        Step::Run(41, &[1], &[], Err(DriveFault)),
+        Step::Next(Ok(42)),
+    ];
+    play_file(&rt, &mut drive, &steps)?;
     fs::remove_file(&rt, path)?;
     Ok(())
 }
 
-/// An image by the number of a descriptor is held like another. One that cannot be written is refused, and is not
-/// changed.
+/// A new image of one block, by the number of a descriptor.
+fn by_number(rt: &HostRuntime, path: &str) -> Result<FileDrive, Fail> {
+    let _ = fs::remove_file(rt, path);
+    create_image(rt, path)?.set_len(2048)?;
+    let file = open_image(rt, path)?;
+    Ok(FileDrive::over_number(file.into_raw_fd(), 10)?)
+}
+
+/// An image by the number of a descriptor is held like another.
 #[test]
 fn a_descriptor_is_an_image_by_its_number(rt: HostRuntime) -> Result<(), Fail> {
     let path = "number.img";
-    let _ = fs::remove_file(&rt, path);
-    create_image(&rt, path)?.set_len(2048)?;
-    let mut drive = FileDrive::over_number(open_image(&rt, path)?.into_raw_fd(), 10)?;
-    let capacity = drive.capacity();
-    assert_eq!(rt; capacity, 10);
-    assert_eq!(rt; drive.next(), Ok(1));
+    let mut drive = by_number(&rt, path)?;
     assert!(rt; FileDrive::open(&rt, path, 10).is_err(), "it is held");
-    assert!(rt; FileDrive::over_number(open_image(&rt, path)?.into_raw_fd(), 10).is_err());
-    drive.write(1, &[block(7)])?;
+    assert!(rt; number_is_refused(open_image(&rt, path)?, 10));
+    let steps = [
+        Step::Capacity(10),
+        Step::Next(Ok(1)),
+        Step::Write(1, &[7], Ok(())),
+    ];
+    play_file(&rt, &mut drive, &steps)?;
     drop(drive);
-    assert!(rt;
-        FileDrive::over_number(File::open(&rt, path)?.into_raw_fd(), 10).is_err(),
-        "it is open for reading"
-    );
-    assert!(rt; FileDrive::over_number(File::open(&rt, ".")?.into_raw_fd(), 10).is_err());
-    assert!(rt; FileDrive::over_number(-1, 10).is_err());
-    assert!(rt;
-        FileDrive::over_number(open_image(&rt, path)?.into_raw_fd(), 1).is_err(),
-        "it is longer than its capacity"
-    );
-    let found = fs::read(&rt, path)?;
-    assert_eq!(rt; found.len(), 4096);
-    assert_eq!(rt; found[2048], 7);
+    assert!(rt; refuses_numbers(&rt, path)?);
+    assert!(rt; holds(&rt, path, 4096, &[(2048, 7)])?);
     fs::remove_file(&rt, path)?;
     Ok(())
+}
+
+/// Whether a descriptor is refused that cannot be written, that is no file's or no descriptor at all, or whose image of two
+/// blocks is longer than its capacity.
+fn refuses_numbers(rt: &HostRuntime, path: &str) -> Result<bool, Fail> {
+    Ok(
+        number_is_refused(File::open(rt, path)?, 10)
+            && number_is_refused(File::open(rt, ".")?, 10)
+            && number_is_refused(open_image(rt, path)?, 1)
+            && FileDrive::over_number(-1, 10).is_err(),
+    )
 }
 
 #[test]
 fn a_file_that_shrank_is_a_fault(rt: HostRuntime) -> Result<(), Fail> {
     let path = "shrank.img";
-    let _ = fs::remove_file(&rt, path);
-    let mut drive = FileDrive::create(&rt, path, 10)?;
-    let capacity = drive.capacity();
-    assert_eq!(rt; capacity, 10);
-    assert_eq!(rt; drive.next(), Ok(0));
-    drive.write(0, &[block(7), block(8)])?;
-    assert_eq!(rt; drive.next(), Ok(2));
-    open_image(&rt, path)?.set_len(2048 + 2047)?;
-    assert_eq!(rt; drive.next(), Err(DriveFault));
-    let mut into = block(0);
-    assert_eq!(rt; drive.read(1, &mut into), Err(DriveFault));
+    let mut drive = created(&rt, path, 10)?;
+    let steps = [
+        Step::Capacity(10),
+        Step::Next(Ok(0)),
+        Step::Write(0, &[7, 8], Ok(())),
+        Step::Next(Ok(2)),
+        Step::Resize(path, 2048 + 2047),
+        Step::Next(Err(DriveFault)),
+        Step::Read(1, Err(DriveFault)),
+    ];
+    play_file(&rt, &mut drive, &steps)?;
     drop(drive);
-    // A drive that is opened on it begins with one block, and writes over what is left of the other.
     let mut cut = FileDrive::open(&rt, path, 10)?;
-    let capacity = cut.capacity();
-    assert_eq!(rt; capacity, 10);
-    assert_eq!(rt; cut.part(&mut into), Ok(2047));
-    assert_eq!(rt; into[0], 8);
-    assert_eq!(rt; cut.next(), Ok(1));
-    cut.write(1, &[block(9)])?;
-    assert_eq!(rt; cut.next(), Ok(2));
-    assert_eq!(rt; cut.part(&mut into), Ok(0));
-    cut.read(1, &mut into)?;
-    assert_eq!(rt; into[0], 9);
+    play_file(&rt, &mut cut, &CUT)?;
     fs::remove_file(&rt, path)?;
     Ok(())
 }
+
+/// A drive that is opened on a file with a part of its second block begins with one block, and writes over the part.
+const CUT: [Step<'static>; 9] = [
+    Step::Capacity(10),
+    Step::Part(Ok(2047)),
+    Step::Holds(8),
+    Step::Next(Ok(1)),
+    Step::Write(1, &[9], Ok(())),
+    Step::Next(Ok(2)),
+    Step::Part(Ok(0)),
+    Step::Read(1, Ok(())),
+    Step::Holds(9),
+];
 
 #[test]
 fn a_file_that_takes_no_block_fails(rt: HostRuntime) -> Result<(), Fail> {
     let path = "takes_none.img";
     create_image(&rt, path)?.set_len(2048)?;
     let mut drive = FileDrive::over(File::open(&rt, path)?, 10)?;
-    let capacity = drive.capacity();
-    assert_eq!(rt; capacity, 10);
-    assert_eq!(rt; drive.next(), Ok(1));
-    assert_eq!(rt;
-        drive.write(1, &[block(7), block(8)]),
-        Err(DriveFault),
-        "it is open for reading"
-    );
-    assert_eq!(rt;
-        drive.next(),
-        Err(DriveFault),
-        "it cannot be cut back either"
-    );
-    assert_eq!(rt; fs::read(&rt, path)?.len(), 2048);
+    let steps = [
+        Step::Capacity(10),
+        Step::Next(Ok(1)),
+        // It is open for reading.
+        Step::Write(1, &[7, 8], Err(DriveFault)),
+        // It cannot be cut back either.
+        Step::Next(Err(DriveFault)),
+    ];
+    play_file(&rt, &mut drive, &steps)?;
+    assert!(rt; holds(&rt, path, 2048, &[])?);
     fs::remove_file(&rt, path)?;
     Ok(())
 }
@@ -147,18 +176,18 @@ fn a_file_that_takes_no_block_fails(rt: HostRuntime) -> Result<(), Fail> {
 #[test]
 fn no_block_of_a_file_is_written_twice(rt: HostRuntime) -> Result<(), Fail> {
     let path = "twice.img";
-    let _ = fs::remove_file(&rt, path);
-    let mut drive = FileDrive::create(&rt, path, 10)?;
-    let capacity = drive.capacity();
-    assert_eq!(rt; capacity, 10);
-    assert_eq!(rt; drive.next(), Ok(0));
-    drive.write(0, &[block(7), block(8)])?;
-    assert_eq!(rt; drive.next(), Ok(2));
-    assert_eq!(rt; drive.write(1, &[block(9)]), Err(DriveFault));
-    assert_eq!(rt; drive.next(), Ok(2));
-    let mut into = block(0);
-    drive.read(1, &mut into)?;
-    assert_eq!(rt; into[0], 8);
+    let mut drive = created(&rt, path, 10)?;
+    let steps = [
+        Step::Capacity(10),
+        Step::Next(Ok(0)),
+        Step::Write(0, &[7, 8], Ok(())),
+        Step::Next(Ok(2)),
+        Step::Write(1, &[9], Err(DriveFault)),
+        Step::Next(Ok(2)),
+        Step::Read(1, Ok(())),
+        Step::Holds(8),
+    ];
+    play_file(&rt, &mut drive, &steps)?;
     fs::remove_file(&rt, path)?;
     Ok(())
 }
@@ -171,15 +200,17 @@ fn a_file_is_opened_within_its_capacity(rt: HostRuntime) -> Result<(), Fail> {
     assert!(rt; FileDrive::open_to_read(&rt, path, 10).is_err());
     assert!(rt; open_image(&rt, path).is_err());
     create_image(&rt, path)?.set_len(3 * 2048)?;
-    assert!(rt; FileDrive::open(&rt, path, 2).is_err(), "it is longer");
-    assert!(rt; FileDrive::open_to_read(&rt, path, 2).is_err());
-    assert!(rt; FileDrive::create(&rt, path, 2).is_err());
+    assert_eq!(rt; refused(&rt, path, 2), (true, true, true), "it is longer");
     assert!(rt; FileDrive::open(&rt, path, 3).is_ok());
+    // One that is there is not made anew.
     let mut drive = FileDrive::create(&rt, path, 3)?;
-    assert_eq!(rt; drive.next(), Ok(3), "one that is there is not made anew");
-    fs::remove_file(&rt, path)?;
-    assert_eq!(rt; drive.next(), Err(DriveFault), "it has no name any more");
-    Ok(())
+    let steps = [
+        Step::Next(Ok(3)),
+        Step::Remove(path),
+        // It has no name any more.
+        Step::Next(Err(DriveFault)),
+    ];
+    play_file(&rt, &mut drive, &steps)
 }
 
 #[test]
@@ -188,9 +219,7 @@ fn what_is_no_file_is_no_image(rt: HostRuntime) -> Result<(), Fail> {
     let _ = fs::remove_file(&rt, link);
     symlink(&rt, "nowhere.img", link)?;
     for path in [".", "/dev/null", "", link] {
-        assert!(rt; FileDrive::open(&rt, path, 10).is_err());
-        assert!(rt; FileDrive::open_to_read(&rt, path, 10).is_err());
-        assert!(rt; FileDrive::create(&rt, path, 10).is_err());
+        assert_eq!(rt; refused(&rt, path, 10), (true, true, true));
     }
     assert!(rt; !fs::exists(&rt, "nowhere.img")?);
     assert!(rt; FileDrive::over(File::open(&rt, ".")?, 10).is_err());
@@ -201,34 +230,35 @@ fn what_is_no_file_is_no_image(rt: HostRuntime) -> Result<(), Fail> {
 #[test]
 fn a_file_has_one_writer(rt: HostRuntime) -> Result<(), Fail> {
     let path = "one_writer.img";
-    let _ = fs::remove_file(&rt, path);
-    let mut drive = FileDrive::create(&rt, path, 10)?;
-    let capacity = drive.capacity();
-    assert_eq!(rt; capacity, 10);
-    assert_eq!(rt; drive.next(), Ok(0));
-    drive.write(0, &[block(7)])?;
-    assert!(rt; FileDrive::open(&rt, path, 10).is_err());
-    assert!(rt; FileDrive::create(&rt, path, 10).is_err());
+    let mut drive = created(&rt, path, 10)?;
+    let steps = [
+        Step::Capacity(10),
+        Step::Next(Ok(0)),
+        Step::Write(0, &[7], Ok(())),
+    ];
+    play_file(&rt, &mut drive, &steps)?;
+    assert_eq!(rt; refused(&rt, path, 10), (true, false, true));
     // A reader has the blocks that were there, and no others.
     let mut reader = FileDrive::open_to_read(&rt, path, 10)?;
-    let room = reader.capacity();
-    assert_eq!(rt; room, 10);
-    assert_eq!(rt; drive.next(), Ok(1));
-    drive.write(1, &[block(8)])?;
-    assert_eq!(rt; reader.next(), Ok(1));
-    let mut into = block(0);
-    reader.read(0, &mut into)?;
-    assert_eq!(rt; into[0], 7);
-    assert_eq!(rt; reader.write(1, &[block(9)]), Err(DriveFault));
-    assert_eq!(rt; reader.next(), Ok(1));
+    let steps = [Step::Next(Ok(1)), Step::Write(1, &[8], Ok(()))];
+    play_file(&rt, &mut drive, &steps)?;
+    play_file(&rt, &mut reader, &READER)?;
     drop(drive);
     assert!(rt;
         FileDrive::open(&rt, path, 10).is_ok(),
         "nobody holds it any more"
     );
-    let found = fs::read(&rt, path)?;
-    assert_eq!(rt; found.len(), 4096);
-    assert_eq!(rt; found.get(2048), Some(&8));
+    assert!(rt; holds(&rt, path, 4096, &[(2048, 8)])?);
     fs::remove_file(&rt, path)?;
     Ok(())
 }
+
+/// A drive that was opened to be read, on a file to which a second block came then.
+const READER: [Step<'static>; 6] = [
+    Step::Capacity(10),
+    Step::Next(Ok(1)),
+    Step::Read(0, Ok(())),
+    Step::Holds(7),
+    Step::Write(1, &[9], Err(DriveFault)),
+    Step::Next(Ok(1)),
+];

@@ -1,6 +1,6 @@
 //! Media in memory and over files: images by their paths, which are taken out and put back.
 
-use crate::drives::block;
+use crate::steps::block;
 use drive::{Drive, DriveFault, Fault};
 use media::{FileMedia, Media, MemMedia};
 use std::fs;
@@ -100,7 +100,7 @@ fn an_image_in_memory_is_out_once(rt: HostRuntime) -> Result<(), Fail> {
     assert!(rt; media.open("a", 10).is_err(), "it is out");
     assert!(rt; media.create("a", 10).is_err(), "it is out");
     let mut part = block(1);
-    assert_eq!(rt; media.part(&drive, &mut part), Ok(0));
+    assert_eq!(rt; media.part("a", &drive, &mut part), Ok(0));
     Ok(())
 }
 
@@ -155,7 +155,7 @@ fn a_part_of_a_block_is_shown(rt: HostRuntime) -> Result<(), Fail> {
     let mut media = FileMedia::over(&rt);
     let drive = media.open(path, 10)?;
     let mut part = block(0);
-    assert_eq!(rt; media.part(&drive, &mut part), Ok(3));
+    assert_eq!(rt; media.part(path, &drive, &mut part), Ok(3));
     assert_eq!(rt; (part[0], part[2], part[3]), (5, 5, 0));
     media.put_back(path, drive);
     assert_eq!(rt; count(&mut media, path, 10), Ok(1));

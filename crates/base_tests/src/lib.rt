@@ -17,3 +17,5 @@ mod messages;
 mod plain;
 #[cfg(test)]
 mod reading;
+#[cfg(test)]
+mod steps;

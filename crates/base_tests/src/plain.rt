@@ -332,20 +332,35 @@ fn make_nested(
     Ok(at)
 }
 
+/// Appends operations by their names and paths.
+fn put(
+    alloc: Global,
+    operations: &mut Vec<Operation>,
+    rows: &[(&str, &str, &str)],
+) -> Result<(), AllocError> {
+    for (kind, at, to) in rows {
+        operations.push(operation(alloc, kind, at, to)?)?;
+    }
+    Ok(())
+}
+
 /// Moves a directory with a file, and one without, to the deepest place that there is.
 fn move_deepest(
     alloc: Global,
     operations: &mut Vec<Operation>,
     deepest: &str,
 ) -> Result<(), AllocError> {
-    operations.push(make(alloc, "d")?)?;
-    operations.push(make(alloc, "e")?)?;
-    operations.push(create(alloc, "e/x")?)?;
-    operations.push(rename(alloc, "e", deepest)?)?;
-    operations.push(rename(alloc, "d", deepest)?)?;
-    operations.push(make(alloc, &format!(in alloc; "{deepest}/c")?)?)?;
-    operations.push(rename(alloc, "e", deepest)?)?;
-    Ok(())
+    let below = format!(in alloc; "{deepest}/c")?;
+    let rows = [
+        ("make", "d", ""),
+        ("make", "e", ""),
+        ("create", "e/x", ""),
+        ("rename", "e", deepest),
+        ("rename", "d", deepest),
+        ("make", below.as_str(), ""),
+        ("rename", "e", deepest),
+    ];
+    put(alloc, operations, &rows)
 }
 
 /// Creates so many files in one directory.
@@ -374,9 +389,12 @@ fn deepest(alloc: Global) -> Result<Vec<Operation>, AllocError> {
     let at = make_nested(alloc, &mut operations, 15)?;
     move_deepest(alloc, &mut operations, &format!(in alloc; "{at}/b")?)?;
     create_files(alloc, &mut operations, &at, 511)?;
-    let behind = format!(in alloc; "{at}/x")?;
-    operations.push(rename(alloc, "e", &behind)?)?;
-    operations.push(rename(alloc, "e/x", &behind)?)?;
+    let below = format!(in alloc; "{at}/x")?;
+    let rows = [
+        ("rename", "e", below.as_str()),
+        ("rename", "e/x", below.as_str()),
+    ];
+    put(alloc, &mut operations, &rows)?;
     Ok(operations)
 }
 
@@ -410,20 +428,20 @@ fn fill(alloc: Global, operations: &mut Vec<Operation>) -> Result<(), AllocError
     Ok(())
 }
 
-/// Operations where there is no room for one more node, nor for one more name.
+/// What is asked where there is no room for one more node, nor for one more name.
+const FULL: [(&str, &str, &str); 5] = [
+    ("create", "0/0", ""),
+    ("create", "0/x", ""),
+    ("create", "7/x", ""),
+    ("rename", "7/0", "0/x"),
+    ("rename", "0/0", "0/x"),
+];
+
+/// Those operations after the ones that fill the tree.
 fn fullest(alloc: Global) -> Result<Vec<Operation>, AllocError> {
-    let rows = [
-        ("create", "0/0", "", Code::Exists),
-        ("create", "0/x", "", Code::DirectoryFull),
-        ("create", "7/x", "", Code::TooMany),
-        ("rename", "7/0", "0/x", Code::DirectoryFull),
-        ("rename", "0/0", "0/x", Code::Done),
-    ];
     let mut operations = Vec::new(alloc);
     fill(alloc, &mut operations)?;
-    for (kind, at, to, _) in rows {
-        operations.push(operation(alloc, kind, at, to)?)?;
-    }
+    put(alloc, &mut operations, &FULL)?;
     Ok(operations)
 }
 

@@ -194,7 +194,7 @@ fn a_read_that_fails_takes_nothing(rt: HostRuntime) -> Result<(), Fail> {
 }
 
 #[test]
-fn nothing_behind_a_frame_that_is_too_long(rt: HostRuntime) -> Result<(), Fail> {
+fn nothing_after_a_frame_that_is_too_long(rt: HostRuntime) -> Result<(), Fail> {
     let alloc = rt.alloc();
     let mut bytes = Vec::from_slice(alloc, &CREATE)?;
     bytes.extend_from_slice(&OVERLONG)?;

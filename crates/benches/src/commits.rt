@@ -3,6 +3,7 @@
 use crate::report::{Report, since, used, wrong};
 use crate::volumes::Volume;
 use drive::{Drive, MemDrive};
+use limits::{BLOCK_SIZE, GREATEST_CAPACITY};
 use std::io;
 use store::Store;
 
@@ -23,7 +24,7 @@ fn copy(rt: &HostRuntime, drive: &MemDrive, first: u32, last: u32) -> io::Result
     {
         copy.extend_from_slice(block)?;
     }
-    Ok(copy.len() / 2048)
+    Ok(copy.len() / BLOCK_SIZE)
 }
 
 /// A volume with files of 4 KiB, and where the blocks of the commits that were timed begin and end, with their times.
@@ -33,7 +34,10 @@ fn fill(
     timed: &mut Vec<(u32, u32, u32, u128)>,
 ) -> io::Result<MemDrive> {
     let alloc = rt.alloc();
-    let mut volume = Volume::create(alloc, MemDrive::new(alloc, 450_000, Vec::new(alloc)))?;
+    let mut volume = Volume::create(
+        alloc,
+        MemDrive::new(alloc, GREATEST_CAPACITY, Vec::new(alloc)),
+    )?;
     let mut start = 0u128;
     let mut first = 0u32;
     for file in 0..files {
@@ -60,7 +64,7 @@ fn open(rt: &HostRuntime, report: Report, drive: &mut MemDrive, nodes: u32) -> i
     let open_time = since(rt, start);
     let start = used(rt);
     let reads = next.min(nodes.saturating_add(257 + 11 * 20));
-    let mut into = [0; 2048];
+    let mut into = [0; BLOCK_SIZE];
     let mut sum = 0u32;
     for at in 0..reads {
         let Ok(end) = drive.next() else {
@@ -84,7 +88,7 @@ pub fn measure(rt: &HostRuntime, report: Report, count: u32) -> io::Result<()> {
         let start = used(rt);
         let copied = copy(rt, &drive, first, last)?;
         let copy_time = since(rt, start);
-        print!(rt; "behind file {file}: {COMMITS} commits, {copied} blocks")?;
+        print!(rt; "after file {file}: {COMMITS} commits, {copied} blocks")?;
         report.took_beside(rt, taken, copy_time)?;
     }
     open(rt, report, &mut drive, files)

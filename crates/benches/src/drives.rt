@@ -2,12 +2,11 @@
 
 use crate::report::{Report, since, used, wrong};
 use drive::{Block, Drive, FileDrive, MemDrive};
+use limits::{BLOCK_SIZE, GREATEST_CAPACITY};
 use std::fs::{self, File};
 use std::io;
 use std::os::unix::fs::FileExt;
 use std::time::Instant;
-
-const CAPACITY: u32 = 450_000;
 
 /// The blocks of a packet.
 const PACKET: u32 = 32;
@@ -40,7 +39,10 @@ fn write<D: Drive>(drive: &mut D, work: Work<'_>) {
         let Ok(at) = drive.next() else {
             return;
         };
-        if work.packet.len() == 32 && at <= CAPACITY - PACKET && drive.capacity() == CAPACITY {
+        if work.packet.len() == 32
+            && at <= GREATEST_CAPACITY - PACKET
+            && drive.capacity() == GREATEST_CAPACITY
+        {
             let _ = drive.write(at, work.packet);
         }
     }
@@ -56,7 +58,7 @@ fn written<D: Drive>(drive: &mut D, work: Work<'_>) -> io::Result<u32> {
 
 /// The same packets, through a drive over a file: the time on the clock.
 fn over_a_file(rt: &HostRuntime, work: Work<'_>) -> io::Result<u128> {
-    let Ok(mut drive) = FileDrive::create(rt, "drive.img", CAPACITY) else {
+    let Ok(mut drive) = FileDrive::create(rt, "drive.img", GREATEST_CAPACITY) else {
         return Err(wrong());
     };
     let start = Instant::now(rt)?;
@@ -69,7 +71,7 @@ fn over_a_file(rt: &HostRuntime, work: Work<'_>) -> io::Result<u128> {
 
 /// Reads of one block, so many blocks before the end.
 fn read(drive: &mut MemDrive, reads: u32, back: u32) -> u32 {
-    let mut into = [0; 2048];
+    let mut into = [0; BLOCK_SIZE];
     let mut sum = 0u32;
     for _ in 0..reads {
         let Ok(next) = drive.next() else {
@@ -85,7 +87,7 @@ fn read(drive: &mut MemDrive, reads: u32, back: u32) -> u32 {
 /// Writes to a drive in memory, and reads at its start and at its end.
 fn in_memory(rt: &HostRuntime, report: Report, work: Work<'_>, reads: u32) -> io::Result<()> {
     let alloc = rt.alloc();
-    let mut drive = MemDrive::new(alloc, CAPACITY, Vec::new(alloc));
+    let mut drive = MemDrive::new(alloc, GREATEST_CAPACITY, Vec::new(alloc));
     let start = used(rt);
     write(&mut drive, work);
     let taken = since(rt, start);
@@ -106,7 +108,7 @@ fn in_memory(rt: &HostRuntime, report: Report, work: Work<'_>, reads: u32) -> io
 /// reads.
 pub fn measure(rt: &HostRuntime, report: Report, count: u32) -> io::Result<()> {
     let packets = count.min(500);
-    let packet = vec![in rt.alloc(); [7; 2048]; 32]?;
+    let packet = vec![in rt.alloc(); [7; BLOCK_SIZE]; 32]?;
     let work = Work {
         packet: &packet,
         packets,

@@ -8,7 +8,7 @@ ghost use Rattle.recover.specs.ReadCache.{IsKnown};
 use crate::report::{Report, since, used, wrong};
 use crate::volumes::Volume;
 use drive::{Drive, MemDrive};
-use limits::PARTITION_START;
+use limits::{GREATEST_CAPACITY, PARTITION_START};
 use recover::{ReadCache, state_at, state_sharing};
 use std::alloc::Global;
 use std::io;
@@ -79,7 +79,10 @@ impl Medium {
 
 /// A medium with so many files, and so many commits after them.
 fn medium_of(alloc: Global, files: u32, commits: u32) -> io::Result<Medium> {
-    let mut volume = Volume::create(alloc, MemDrive::new(alloc, 450_000, Vec::new(alloc)))?;
+    let mut volume = Volume::create(
+        alloc,
+        MemDrive::new(alloc, GREATEST_CAPACITY, Vec::new(alloc)),
+    )?;
     for file in 0..files {
         volume.add(file)?;
     }

@@ -3,6 +3,7 @@
 use crate::report::{Report, wrong};
 use crate::volumes::Volume;
 use drive::FileDrive;
+use limits::GREATEST_CAPACITY;
 use std::{fs, io};
 
 /// How many files the tree gets.
@@ -27,7 +28,7 @@ fn had(rt: &HostRuntime, report: Report) -> io::Result<()> {
 /// So many commits to an image, 10,000 at most: files of 4 KiB, which fill the tree and are then written anew.
 pub fn measure(rt: &HostRuntime, report: Report, count: u32) -> io::Result<()> {
     let count = count.min(10_000);
-    let Ok(drive) = FileDrive::create(rt, "drive.img", 450_000) else {
+    let Ok(drive) = FileDrive::create(rt, "drive.img", GREATEST_CAPACITY) else {
         return Err(wrong());
     };
     let mut volume = Volume::create(rt.alloc(), drive)?;
@@ -38,7 +39,7 @@ pub fn measure(rt: &HostRuntime, report: Report, count: u32) -> io::Result<()> {
             volume.replace(file % FILES)?
         };
         if MARKS.contains(&file) || file + 1 == count {
-            print!(rt; "behind file {file}: {taken} blocks")?;
+            print!(rt; "after file {file}: {taken} blocks")?;
             had(rt, report)?;
         }
     }

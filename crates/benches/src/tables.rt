@@ -33,31 +33,54 @@ fn imitations(alloc: Global) -> Result<Vec<u8>, AllocError> {
     Ok(bytes)
 }
 
+/// The bytes of an implementation use of 64 records of four replies each.
+const IMPLEMENTATION_USE: u16 = 44 + 64 * 48;
+
+/// The label's dstring.
+const LABEL: [&[u8]; 3] = [b"\x08DISC", &[0; 122], &[5]];
+
+/// The revisions, and the implementation use up to its numbers: its identifier, its version, and how many records it has.
+const REVISIONS_AND_IDENTIFIER: [&[u8]; 4] = [
+    &[1, 2, 1, 2, 1, 2, 0, 0],
+    b"\x00*udfburn sessions",
+    &[0; 14],
+    &[2, 0, 64, 0],
+];
+
+/// Appends each of the pieces.
+fn put_all(bytes: &mut Vec<u8>, pieces: &[&[u8]]) -> Result<(), AllocError> {
+    for piece in pieces {
+        bytes.extend_from_slice(piece)?;
+    }
+    Ok(())
+}
+
+/// Appends each of the numbers.
+fn put_numbers(bytes: &mut Vec<u8>, numbers: &[u32]) -> Result<(), AllocError> {
+    for number in numbers {
+        bytes.extend_from_slice(&number.to_le_bytes())?;
+    }
+    Ok(())
+}
+
+/// Appends the record of a client, with four replies.
+fn put_record(bytes: &mut Vec<u8>, client: u64) -> Result<(), AllocError> {
+    bytes.extend_from_slice(&client.to_le_bytes())?;
+    bytes.extend_from_slice(&4u64.to_le_bytes())?;
+    put_numbers(bytes, &[0, 200, 0, 199, 0, 198, 0, 197])
+}
+
 /// A table with 64 records of four replies each and 4,097 entries, all of them used.
 fn table(alloc: Global) -> Result<Vec<u8>, AllocError> {
     let mut bytes = Vec::new(alloc);
-    let implementation_use = 44u16 + 64 * 48;
-    bytes.extend_from_slice(&(152 + implementation_use).to_le_bytes())?;
-    bytes.extend_from_slice(&implementation_use.to_le_bytes())?;
-    bytes.extend_from_slice(b"\x08DISC")?;
-    bytes.extend_from_slice(&[0; 122])?;
-    bytes.push(5)?;
-    for number in [4u32, 4_000, 96] {
-        bytes.extend_from_slice(&number.to_le_bytes())?;
-    }
-    bytes.extend_from_slice(&[1, 2, 1, 2, 1, 2, 0, 0])?;
-    bytes.extend_from_slice(b"\x00*udfburn sessions")?;
-    bytes.extend_from_slice(&[0; 14])?;
-    bytes.extend_from_slice(&[2, 0, 64, 0])?;
-    bytes.extend_from_slice(&5_000u32.to_le_bytes())?;
-    bytes.extend_from_slice(&300u32.to_le_bytes())?;
+    bytes.extend_from_slice(&(152 + IMPLEMENTATION_USE).to_le_bytes())?;
+    bytes.extend_from_slice(&IMPLEMENTATION_USE.to_le_bytes())?;
+    put_all(&mut bytes, &LABEL)?;
+    put_numbers(&mut bytes, &[4, 4_000, 96])?;
+    put_all(&mut bytes, &REVISIONS_AND_IDENTIFIER)?;
+    put_numbers(&mut bytes, &[5_000, 300])?;
     for client in 1..65u64 {
-        bytes.extend_from_slice(&client.to_le_bytes())?;
-        bytes.extend_from_slice(&4u64.to_le_bytes())?;
-        for commit in [200u32, 199, 198, 197] {
-            bytes.extend_from_slice(&[0; 4])?;
-            bytes.extend_from_slice(&commit.to_le_bytes())?;
-        }
+        put_record(&mut bytes, client)?;
     }
     for i in 0..4_097u32 {
         bytes.extend_from_slice(&(7 * i).to_le_bytes())?;
@@ -100,7 +123,7 @@ fn starts(
     let start = used(rt);
     let copied = copy_often(alloc, bytes, rounds)?;
     let copy_time = since(rt, start);
-    print!(rt; "{name} x{rounds}: {found} blocks behind the first, {copied} bytes copied")?;
+    print!(rt; "{name} x{rounds}: {found} blocks after the first, {copied} bytes copied")?;
     report.took_beside(rt, start_time, copy_time)
 }
 

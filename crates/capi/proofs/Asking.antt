@@ -1,6 +1,7 @@
 -- What an open store knows of a client is what the state does.
-use Rattle.std.proofs.Common.{◌≡◌, ℕ, List, Option, Some, sym, ap, subst, ◌∙◌}
-use Rattle.std.specs.Prelude.{false, unwrap_or, Result, Ok, Err, IfOk, IfErr}
+use Rattle.std.proofs.Common.{◌≡◌, ℕ, List, Option, Some, None, sym, ap, subst, ◌∙◌}
+use Rattle.std.proofs.lemmas.Option.{none-some}
+use Rattle.std.specs.Prelude.{false, unwrap_or, Result, Ok, Err, IfOk, IfErr, OnErr}
 use Rattle.drive.specs.Journal.{Event, Once, held}
 use Rattle.model.specs.Session.{State, ClientRecord, record_of}
 use Rattle.durability.specs.Volume.{RecoversTo}
@@ -8,6 +9,7 @@ use Rattle.udf.specs.Udf.{udf}
 use Rattle.durability.specs.Formats.{Table_}
 use Rattle.store.specs.declared.store.Store.{Store}
 use Rattle.store.specs.Calls.{IsOpenOn}
+use Rattle.engine.specs.declared.engine.Engine.{Engine}
 use Rattle.engine.specs.Situation.{Situation, IsOpen}
 use Rattle.engine.specs.Steps.{HoldsState}
 use Rattle.capi.specs.declared.session.Session.{Session}
@@ -29,11 +31,11 @@ module _ (client number : ℕ) (old new : Session) (lent : Store) (is : new.engi
       }
 
 -- a recovered state is known to the same store beside a medium that shows the same
-pub holds_same : (volume : ℕ) (S : State) (before behind : Situation) → behind.store ≡ before.store → behind.journal ≡ before.journal → behind.capacity ≡ before.capacity → HoldsState volume S before → HoldsState volume S behind
-holds_same volume S before behind kept journal size at = record {
+pub holds_same : (volume : ℕ) (S : State) (before afterwards : Situation) → afterwards.store ≡ before.store → afterwards.journal ≡ before.journal → afterwards.capacity ≡ before.capacity → HoldsState volume S before → HoldsState volume S afterwards
+holds_same volume S before afterwards kept journal size at = record {
   once = subst (λ (J : List Event). Once J) (sym journal) at.once;
-  stands = subst (λ (c : ℕ). RecoversTo udf c volume (held behind.journal) S) (sym size) (subst (λ (J : List Event). RecoversTo udf before.capacity volume (held J) S) (sym journal) at.stands);
-  knows = λ store there. subst (λ (c : ℕ). IsOpenOn c volume behind.journal S store) (sym size)
+  stands = subst (λ (c : ℕ). RecoversTo udf c volume (held afterwards.journal) S) (sym size) (subst (λ (J : List Event). RecoversTo udf before.capacity volume (held J) S) (sym journal) at.stands);
+  knows = λ store there. subst (λ (c : ℕ). IsOpenOn c volume afterwards.journal S store) (sym size)
       (subst (λ (J : List Event). IsOpenOn before.capacity volume J S store) (sym journal) (at.knows store (sym kept ∙ there.0, there.1)));
 }
 
@@ -45,3 +47,12 @@ if_ok (Err fault) other h = tt
 pub if_err : {T E : Type 0} {P Q : E → Type 0} (outcome : Result T E) → ((x : E) → P x → Q x) → IfErr outcome P → IfErr outcome Q
 if_err (Ok x) other h = tt
 if_err (Err fault) other h = other fault h
+
+-- an engine that keeps no store after it would have stayed with an open one had none
+module _ (old new : Engine) (stays : (kept : Store) → (old.store ≡ Some kept) × (kept.is_stopped ≡ false) → new ≡ old) where
+  pub had_none : new.store ≡ None → (kept : Store) → (old.store ≡ Some kept) × (kept.is_stopped ≡ false) → ⊥
+  had_none closed kept there = none-some kept (sym closed ∙ ap (λ (e : Engine). e.store) (stays kept there) ∙ there.0)
+
+  pub shuts : {T E : Type 0} (outcome : Result T E) → OnErr outcome (new.store ≡ None) → OnErr outcome ((kept : Store) → (old.store ≡ Some kept) × (kept.is_stopped ≡ false) → ⊥)
+  shuts (Ok x) closed = tt
+  shuts (Err fault) closed = had_none closed

@@ -4,7 +4,7 @@ use Rattle.std.specs.Prelude.{IsTrue, Result, Ok, Err, IfErr, OnOk}
 use Rattle.model.specs.Session.{State}
 use Rattle.store.specs.declared.store.Store.{Store}
 use Rattle.engine.specs.declared.engine.Engine.{Engine}
-use Rattle.engine.specs.Situation.{Situation, IsOpen, situation}
+use Rattle.engine.specs.Situation.{Situation, HoldsNothing, IsOpen, situation}
 use Rattle.engine.specs.Steps.{HoldsState}
 use Rattle.capi.specs.declared.fault.Fault.{Fault}
 use Rattle.capi.specs.declared.medium.Medium.{Medium}
@@ -17,17 +17,18 @@ use Rattle.capi.specs.Opens.{Opened, Unopened, TurnsTo, fresh}
 pub fresh_is : (engine : Engine) (medium : Medium) → engine.store ≡ None → fresh medium ≡ seen_by engine medium
 fresh_is engine medium none = ap (λ (kept : Option Store). situation kept (journal_on medium) (failures_on medium) (capacity_on medium) (honest_on medium) (writes_on medium)) (sym none)
 
-module _ (first engine : Engine) (before behind : Medium) (s : Session) (engine_is : s.engine ≡ engine) (medium_is : s.medium ≡ behind) where
-  seen_is : seen s ≡ seen_by engine behind
+module _ (first engine : Engine) (before afterwards : Medium) (s : Session) (engine_is : s.engine ≡ engine) (medium_is : s.medium ≡ afterwards) where
+  seen_is : seen s ≡ seen_by engine afterwards
   seen_is = ap (λ (e : Engine). seen_by e s.medium) engine_is ∙ ap (λ (m : Medium). seen_by engine m) medium_is
 
-  honest_is : IsTrue (seen s).honest → IsTrue (honest_on behind)
+  honest_is : IsTrue (seen s).honest → IsTrue (honest_on afterwards)
   honest_is h = subst (λ (x : Situation). IsTrue x.honest) seen_is h
 
-  pub opened : s.frames ≡ Some [] → waiting s ≡ [] → s.given ≡ 0 → s.ended ≡ None → first.store ≡ None → (store : Store) × IsOpen (seen_by engine behind) store
-      → journal_on behind ≡ journal_on before → writes_on behind ≡ writes_on before → capacity_on behind ≡ capacity_on before → (IsTrue (honest_on behind) → IsTrue (honest_on before)) → in_memory behind ≡ in_memory before
-      → ((volume : ℕ) (S : State) → IsTrue (honest_on behind) → HoldsState volume S (seen_by first before) → HoldsState volume S (seen_by engine behind)) → Opened before s
-  opened frames waits given ended none kept journal writes capacity honest kind holds = record {
+  pub opened : s.frames ≡ Some [] → waiting s ≡ [] → s.given ≡ 0 → s.ended ≡ None → first.store ≡ None → (store : Store) × IsOpen (seen_by engine afterwards) store
+      → journal_on afterwards ≡ journal_on before → writes_on afterwards ≡ writes_on before → capacity_on afterwards ≡ capacity_on before → (IsTrue (honest_on afterwards) → IsTrue (honest_on before)) → in_memory afterwards ≡ in_memory before
+      → (IsTrue (honest_on afterwards) → HoldsNothing (seen_by first before) → ⊥)
+      → ((volume : ℕ) (S : State) → IsTrue (honest_on afterwards) → HoldsState volume S (seen_by first before) → HoldsState volume S (seen_by engine afterwards)) → Opened before s
+  opened frames waits given ended none kept journal writes capacity honest kind nothing holds = record {
     frames = frames;
     waits = waits;
     given = given;
@@ -37,6 +38,7 @@ module _ (first engine : Engine) (before behind : Medium) (s : Session) (engine_
     writes = ap (λ (x : Situation). x.writes) seen_is ∙ writes;
     capacity = ap (λ (x : Situation). x.capacity) seen_is ∙ capacity;
     honest = λ h. honest (honest_is h);
+    recovers = λ h empty. nothing (honest_is h) (subst (λ (x : Situation). HoldsNothing x) (fresh_is first before none) empty);
     kind = ap (λ (m : Medium). in_memory m) medium_is ∙ kind;
     holds = λ volume S h at. subst (λ (x : Situation). HoldsState volume S x) (sym seen_is)
         (holds volume S (honest_is h) (subst (λ (x : Situation). HoldsState volume S x) (fresh_is first before none) at));

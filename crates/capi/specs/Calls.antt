@@ -1,8 +1,9 @@
 -- What each call of C's does to the session that its handle stands for.
-use Rattle.std.specs.Prelude.{◌≡◌, ⊤, ℕ, ℤ, pos, Bool, true, false, List, [], length, Some, Result}
+use Rattle.std.specs.Prelude.{◌≡◌, ⊤, ℕ, ℤ, pos, Bool, true, false, List, [], length, Some, None, Result}
 use Rattle.capi.specs.declared.fault.Fault.{Fault}
 use Rattle.capi.specs.declared.fault.Fault.TheVariants.{Device, Nothing}
 use Rattle.capi.specs.declared.session.Session.{Session}
+use Rattle.capi.specs.Media.{in_memory}
 use Rattle.capi.specs.Numbers.{status, number_of}
 use Rattle.capi.specs.Opens.{OpensFile, OpensMemory}
 use Rattle.capi.specs.Sessions.{waiting, blocks, Answered, Shows, Gives}
@@ -27,14 +28,18 @@ abbrev pub shown : Bool → ℤ
 shown true = pos 0
 shown false = number_of Nothing
 
-abbrev pub ShowsBlock : ℤ → ℕ → List ℕ → Session → Session → Type 0
-ShowsBlock number address block old new = (there : Bool) × (number ≡ shown there) × Shows old there address block × (new ≡ old)
+abbrev pub ShowsBlock : ℤ → ℕ × List ℕ → ℕ × List ℕ → Session → Session → Type 0
+ShowsBlock number before after old new = (there : Bool) × (number ≡ shown there) × Shows old there before after × (new ≡ old)
 
 abbrev pub GivesBlock : ℤ → Session → Session → Type 0
 GivesBlock number old new = (there : Bool) × (number ≡ shown there) × Gives old there new
 
--- Nothing is held any longer: no file, no block and no answer. Each further message is refused.
+-- Nothing is held: no file, no block, no store, no part of a message and no answer. Each message is refused.
 pub record Ended (s : Session) : Type 0 where
+  pub kind : in_memory s.medium ≡ true
   pub medium : blocks s ≡ []
+  pub given : s.given ≡ 0
+  pub store : s.engine.store ≡ None
+  pub frames : s.frames ≡ Some []
   pub waits : waiting s ≡ []
   pub ended : s.ended ≡ Some Device

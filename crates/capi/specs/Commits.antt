@@ -82,11 +82,11 @@ pub record IsLogged (after : ℕ) (told : CommitStatus) (now : Situation) : Type
   pub next : IsTrue now.honest → TellsNext now.journal store.vat_icb_address after told
   pub in_turn : IsTrue now.honest → (commits : List Commit) → IsHistory (held now.journal) store.vat_icb_address commits → IsInTurn commits after (commit_of told)
 
--- Why none is: where a state stands the drive failed or memory was short, so that the volume was not opened; or the step was
--- refused to the store that is open.
+-- Why none is: no store was open, and the volume was not opened, where a state stands because the drive failed or memory was
+-- short; or the step was refused to the store that is open.
 abbrev pub IsUnlogged : ℕ → StoreFault → Situation → Situation → Type 0
 IsUnlogged after fault before now =
-    ((volume : ℕ) (S : State) → IsTrue now.honest → HoldsState volume S before → IsShortage fault)
+    (((kept : Store) → IsOpen before kept → ⊥) × ((volume : ℕ) (S : State) → IsTrue now.honest → HoldsState volume S before → IsShortage fault))
     ⊎ ((store : Store) × IsOpen now store × (IsTrue now.honest → IsLogRefused now.journal store.vat_icb_address after fault))
 
 -- a refusal writes nothing

@@ -6,6 +6,7 @@ pub mod Sessions
 pub mod Formats
 pub mod Opens
 pub mod Calls
+pub mod Handing
 pub mod Questions
 pub mod Statuses
 pub mod StatusCalls

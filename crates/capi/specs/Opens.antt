@@ -9,7 +9,7 @@ use Rattle.model.specs.Session.{State}
 use Rattle.recover.specs.Faults.{IsShortage}
 use Rattle.recover.specs.declared.fault.StoreFault.{StoreFault}
 use Rattle.store.specs.declared.store.Store.{Store}
-use Rattle.engine.specs.Situation.{Situation, IsOpen, situation}
+use Rattle.engine.specs.Situation.{Situation, HoldsNothing, IsOpen, situation}
 use Rattle.engine.specs.Steps.{HoldsState}
 use Rattle.capi.specs.declared.fault.Fault.{Fault}
 use Rattle.capi.specs.declared.fault.Fault.TheVariants.{Device}
@@ -37,15 +37,20 @@ pub record Opened (medium : Medium) (s : Session) : Type 0 where
   pub writes : (seen s).writes ≡ writes_on medium
   pub capacity : (seen s).capacity ≡ capacity_on medium
   pub honest : IsTrue (seen s).honest → IsTrue (honest_on medium)
+  pub recovers : IsTrue (seen s).honest → HoldsNothing (fresh medium) → ⊥
   pub kind : in_memory s.medium ≡ in_memory medium
   pub holds : (volume : ℕ) (S : State) → IsTrue (seen s).honest → HoldsState volume S (fresh medium) → HoldsState volume S (seen s)
 
--- Where it is refused on an honest medium nothing is recovered there, or the drive failed or memory was short.
+-- Where it is refused on an honest medium nothing is recovered there, or the drive failed or memory was short. The medium is let
+-- go then, and nothing was written on it. Whether a drive over a file read right no clause can know; one in memory does.
 pub record Unopened (medium : Medium) (fault : Fault) : Type 0 where
   pub cause : StoreFault
   pub told : fault ≡ told_of cause
-  pub behind : Situation
-  pub why : (volume : ℕ) (S : State) → IsTrue behind.honest → HoldsState volume S (fresh medium) → IsShortage cause
+  pub afterwards : Medium
+  pub kind : in_memory afterwards ≡ in_memory medium
+  pub journal : journal_on afterwards ≡ journal_on medium
+  pub writes : writes_on afterwards ≡ writes_on medium
+  pub why : (volume : ℕ) (S : State) → IsTrue (honest_on afterwards) → HoldsState volume S (fresh medium) → IsShortage cause
 
 abbrev pub Opens : Medium → Result Session Fault → Type 0
 Opens medium (Ok s) = Opened medium s

@@ -27,10 +27,11 @@ pub record Asked (old new : Session) : Type 0 where
   pub kind : in_memory new.medium ≡ in_memory old.medium
   pub holds : (volume : ℕ) (S : State) → IsTrue (seen new).honest → HoldsState volume S (seen old) → HoldsState volume S (seen new)
 
--- Why the volume was not opened: where a state is recovered the drive failed or memory was short.
+-- Why the volume was not opened: no store was open, and where a state is recovered the drive failed or memory was short.
 pub record Refused (fault : Fault) (old new : Session) : Type 0 where
   pub cause : StoreFault
   pub told : fault ≡ told_of cause
+  pub shut : (kept : Store) → IsOpen (seen old) kept → ⊥
   pub why : (volume : ℕ) (S : State) → IsTrue (seen new).honest → HoldsState volume S (seen old) → IsShortage cause
 
 -- ---- the last number of a client

@@ -79,10 +79,10 @@ pub record Took (old : Session) (room : List ℕ) (count : ℕ) (new : Session) 
   pub given : new.given ≡ old.given
   pub medium : new.medium ≡ old.medium
 
--- The first block that was not taken was shown, or there was none.
-abbrev pub Shows : Session → Bool → ℕ → List ℕ → Type 0
-Shows s true address block = slice_get (blocks s) s.given ≡ Some (address, block)
-Shows s false address block = length (blocks s) ≤ s.given
+-- The first block that was not taken was shown, or there was none, and what the caller has there stayed.
+abbrev pub Shows : Session → Bool → ℕ × List ℕ → ℕ × List ℕ → Type 0
+Shows s true before after = slice_get (blocks s) s.given ≡ Some after
+Shows s false before after = (length (blocks s) ≤ s.given) × (after ≡ before)
 
 -- It was taken, or there was none. Nothing else changed.
 abbrev pub Gives : Session → Bool → Session → Type 0

@@ -2,15 +2,29 @@
 
 ghost use Rattle.std.specs.Prelude.{◌≡◌};
 ghost use Rattle.capi.specs.Calls.{OpensVolume, OpensNewVolume, AnswersBytes, Counts, ShowsBlock, GivesBlock, Ended, shown};
+ghost use Rattle.capi.specs.Handing.{HandsOut};
 ghost use Rattle.capi.specs.Commits.{AsksCommit};
 ghost use Rattle.capi.specs.Questions.{LastNumber};
 ghost use Rattle.capi.specs.StatusCalls.{AsksStatus};
 ghost use Rattle.capi.specs.Sessions.{Took};
 
 use crate::fault::{Fault, status_of};
+use crate::handed::Handed;
+use crate::loose::Loose;
 use crate::session::Session;
 use crate::told::{CommitStatus, Status};
 use limits::Block;
+use std::alloc::Global;
+
+/// The box of a session that has ended, or the pointer as it was.
+pub(crate) fn hand_out(alloc: Global, before: *mut u8) -> Handed
+    ensures { HandsOut result.status before result.at result.core }
+{
+    match Box::new(alloc, Session::ended(alloc)) {
+        Ok(made) => Handed::of(Loose::of(made), status_of(Ok(()))),
+        Err(_) => Handed::none(before, status_of(Err(Fault::Memory))),
+    }
+}
 
 pub(crate) fn open_fd(session: &mut Session, fd: i32) -> i32
     ensures { OpensVolume result session.old session.new }
@@ -43,7 +57,7 @@ pub(crate) fn take(session: &mut Session, into: &mut [u8]) -> usize
 }
 
 pub(crate) fn next_block(session: &mut Session, address: &mut u32, block: &mut Block) -> i32
-    ensures { ShowsBlock result address.new block.new session.old session.new }
+    ensures { ShowsBlock result (address.old, block.old) (address.new, block.new) session.old session.new }
 {
     found(session.next_block(address, block))
 }

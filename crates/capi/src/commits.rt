@@ -13,7 +13,8 @@ ghost use Rattle.capi.specs.Commits.{TellsCommit, IsNextInLog, IsStepRefused, Te
 use crate::told::CommitStatus;
 use drive::Drive;
 use engine::Engine;
-use recover::{PARTITION_START, before, table_at, table_entry};
+use limits::PARTITION_START;
+use recover::{before, table_at, table_entry};
 use std::alloc::Global;
 use store::{Store, StoreFault};
 

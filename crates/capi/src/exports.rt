@@ -2,7 +2,7 @@
 
 ghost use types.Logic.{sem};
 ghost use base.Fml.{fex};
-ghost use Rattle.std.specs.Prelude.{◌≡◌, ⊤, Result};
+ghost use Rattle.std.specs.Prelude.{◌≡◌, ⊤, Option, Result};
 ghost use Rattle.std.specs.Ptr.{points_to};
 ghost use Rattle.capi.specs.declared.fault.Fault.{Fault};
 ghost use Rattle.capi.specs.declared.session.Session.{Session};
@@ -10,13 +10,15 @@ ghost use Rattle.capi.specs.contracts.session.Session.{the_row};
 ghost use Rattle.capi.specs.Numbers.{status};
 ghost use Rattle.capi.specs.Formats.{FormatsFile};
 ghost use Rattle.capi.specs.Calls.{OpensVolume, OpensNewVolume, AnswersBytes, Counts, ShowsBlock, GivesBlock, Ended};
+ghost use Rattle.capi.specs.Handing.{HandsOut, handed_at};
 ghost use Rattle.capi.specs.Commits.{AsksCommit};
 ghost use Rattle.capi.specs.Questions.{LastNumber};
 ghost use Rattle.capi.specs.StatusCalls.{AsksStatus};
 ghost use Rattle.capi.specs.Sessions.{Took};
 
 use crate::calls;
-use crate::fault::{Fault, status_of};
+use crate::fault::status_of;
+use crate::handed::Handed;
 use crate::session::Session;
 use crate::told::{CommitStatus, Status};
 use crate::volumes::format_file;
@@ -40,14 +42,12 @@ pub extern "C" fn udfburn_core_format_fd(
 
 /// Gives C the box of a session that has ended. One of the next two calls opens a volume in it.
 #[unsafe(no_mangle)]
-pub extern "C" fn udfburn_core_new(alloc: Global, out: &mut *mut u8) -> i32 {
-    match Box::new(alloc, Session::ended(alloc)) {
-        Ok(made) => {
-            *out = Box::into_raw(made).cast::<u8>();
-            status_of(Ok(()))
-        }
-        Err(_) => status_of(Err(Fault::Memory)),
-    }
+pub extern "C" fn udfburn_core_new(alloc: Global, out: &mut *mut u8) -> i32
+    ensures* { sem 𝓛 (fex ((core : Option Session) × HandsOut result out.old out.new core) (λ k. handed_at out.new k.0)) }
+{
+    let Handed { at, status } = calls::hand_out(alloc, *out);
+    *out = at;
+    status
 }
 
 /// Opens the volume on the file under a descriptor, which is the session's from then on. Where this is refused the descriptor
@@ -120,7 +120,7 @@ pub unsafe extern "C" fn udfburn_core_next_block(
 ) -> i32
     ghost held: { Session }
     requires* { sem 𝓛 (points_to the_row handle held) }
-    ensures* { sem 𝓛 (fex ((s : Session) × ShowsBlock result address.new block.new held s) (λ s. points_to the_row handle s.0)) }
+    ensures* { sem 𝓛 (fex ((s : Session) × ShowsBlock result (address.old, block.old) (address.new, block.new) held s) (λ s. points_to the_row handle s.0)) }
 {
     calls::next_block(unsafe { &mut *handle.cast::<Session>() }, address, block)
 }

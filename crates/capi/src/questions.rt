@@ -1,12 +1,14 @@
 //! What a store reports beside messages.
 
-ghost use Rattle.std.specs.Prelude.{◌≡◌, ◌≤◌, ℕ, take, IsTrue, IfOk};
+ghost use Rattle.std.specs.Prelude.{◌≡◌, ◌++◌, ◌≤◌, ℕ, length, drop, IsTrue, IfOk, IfErr};
 ghost use Rattle.model.specs.Session.{State};
+ghost use Rattle.recover.specs.declared.fault.StoreFault.TheVariants as faults;
 ghost use Rattle.store.specs.Agrees.{IsStoreOn};
 ghost use Rattle.store.specs.declared.store.Store.{Store as Kept};
 ghost use Rattle.engine.specs.Situation.{IsReady, IsOpen, seen_on};
 ghost use Rattle.engine.specs.Steps.{HoldsState};
 ghost use Rattle.capi.specs.Questions.{last_kept};
+ghost use Rattle.capi.specs.StatusCalls.{IsStatusRefused, IsUntold};
 ghost use Rattle.capi.specs.Statuses.{TellsStatus};
 
 use crate::told::Status;
@@ -38,6 +40,7 @@ pub(crate) fn status_on<D: Drive>(
 ) -> Result<Status, StoreFault>
     requires { IsStoreOn (D.journal drive.old) (D.capacity drive.old) store.now }
     ensures reported { IfOk result (TellsStatus (D.journal drive.old) (D.honest drive.new) store.now) }
+    ensures refused { IfErr result (λ fault. IsTrue (D.honest drive.new) → IsStatusRefused (D.journal drive.old) store.now fault) }
     ensures journal { D.journal drive.new ≡ D.journal drive.old }
     ensures writes { D.writes drive.new ≡ D.writes drive.old }
     ensures capacity { D.capacity drive.new ≡ D.capacity drive.old }
@@ -70,17 +73,16 @@ pub(crate) fn status_on<D: Drive>(
     })
 }
 
-/// Puts a label's text at the beginning of the room: how many bytes it has.
+/// Puts a label's text at the beginning of the room, and leaves what comes after it: how many bytes the text has.
 fn put_label(alloc: Global, label: Label, into: &mut [u8; 64]) -> Result<u32, StoreFault>
-    ensures { IfOk result (λ length. (length ≤ 64) × (take length into.new ≡ label)) }
+    requires { length label ≤ 64 }
+    ensures text { IfOk result (λ count. (count ≡ length label) × (into.new ≡ label ++ drop count into.old)) }
+    ensures refused { IfErr result (λ fault. fault ≡ faults.Memory) }
 {
     let Ok(text) = label.text(alloc) else {
         return Err(StoreFault::Memory);
     };
     let bytes = text.as_bytes();
-    if bytes.len() > 64 {
-        return Err(StoreFault::Label);
-    }
     into[..bytes.len()].copy_from_slice(bytes);
     Ok(bytes.len() as u32)
 }
@@ -93,6 +95,7 @@ pub(crate) fn opened_status<D: Drive>(
 ) -> Result<Status, StoreFault>
     requires { IsReady (seen_on D.Drive engine.old drive.old) }
     ensures reported { IfOk result (λ told. (kept : Kept) × IsOpen (seen_on D.Drive engine.new drive.new) kept × TellsStatus (D.journal drive.new) (D.honest drive.new) kept told) }
+    ensures refused { IfErr result (λ fault. IsUntold fault (seen_on D.Drive engine.old drive.old) (seen_on D.Drive engine.new drive.new)) }
     ensures holds { (volume : ℕ) (S : State) → IsTrue (D.honest drive.new) → HoldsState volume S (seen_on D.Drive engine.old drive.old) → HoldsState volume S (seen_on D.Drive engine.new drive.new) }
     ensures journal { D.journal drive.new ≡ D.journal drive.old }
     ensures writes { D.writes drive.new ≡ D.writes drive.old }

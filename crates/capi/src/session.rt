@@ -37,9 +37,8 @@ pub struct Session {
 
 impl Session {
     ghost use Rattle.std.specs.Prelude.{◌≡◌, ◌≤◌, Some, None, [], length, IfErr, OnOk};
-    ghost use Rattle.drive.specs.MemDrive as memory;
-    ghost use Rattle.capi.specs.declared.fault.Fault.TheVariants as faults;
-    ghost use Rattle.capi.specs.Sessions.{seen, waiting, blocks, SameVolume, AnswersAll, StopsBy, Answered, Took, Shows, Gives};
+    ghost use Rattle.capi.specs.Calls.{Ended};
+    ghost use Rattle.capi.specs.Sessions.{seen, waiting, SameVolume, AnswersAll, StopsBy, Answered, Took, Shows, Gives};
     ghost use Rattle.capi.specs.Media.{seen_by, in_memory};
     ghost use Rattle.capi.specs.Commits.{CommitIs};
     ghost use Rattle.capi.specs.Opens.{Opened, Unopened, Opens, OpensFile, OpensMemory};
@@ -97,9 +96,7 @@ impl Session {
 
     /// A session that holds nothing, and refuses each message.
     pub(crate) fn ended(alloc: Global) -> Session
-        ensures medium { blocks result ≡ [] }
-        ensures ended { result.ended ≡ Some faults.Device }
-        ensures waiting { waiting result ≡ [] }
+        ensures { Ended result }
     {
         Session {
             alloc,
@@ -212,7 +209,7 @@ impl Session {
 
     /// Shows the first block that was written in memory and not taken yet: whether there is one.
     pub fn next_block(&self, address: &mut u32, block: &mut Block) -> bool
-        ensures { Shows self.now result address.new block.new }
+        ensures { Shows self.now result (address.old, block.old) (address.new, block.new) }
     {
         let Medium::Memory(drive) = &self.medium else {
             return false;
@@ -267,7 +264,7 @@ impl Session {
 
     /// What the volume is, and how far it is written. A refusal leaves what is there.
     pub fn status(&mut self, told: &mut Status) -> Result<(), Fault>
-        ensures status { StatusIs result told.old told.new self.new }
+        ensures status { StatusIs result told.old told.new self.old self.new }
         ensures asked { Asked self.old self.new }
     {
         match status_by(self.alloc, &mut self.medium, &mut self.engine) {
@@ -295,9 +292,7 @@ impl Session {
 
     /// Lets all go that the session holds, so that a file is closed and unlocked, and no memory is kept.
     pub fn end(&mut self)
-        ensures medium { blocks self.new ≡ [] }
-        ensures ended { self.new.ended ≡ Some faults.Device }
-        ensures waiting { waiting self.new ≡ [] }
+        ensures { Ended self.new }
     {
         *self = Session::ended(self.alloc);
     }

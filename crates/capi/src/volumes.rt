@@ -1,17 +1,18 @@
 //! New volumes, and drives over the descriptors of a caller.
 
-ghost use Rattle.std.specs.Prelude.{◌≡◌, ◌<◌, ℕ, List, IfOk, IfErr};
-ghost use Rattle.drive.specs.FileDrive.{capacity_of, BeginsWith};
+ghost use Rattle.limits.specs.declared.TheConstants.{MOMENT_LIMIT};
+ghost use Rattle.std.specs.Prelude.{◌≡◌, ◌<◌, ℕ, List, IfOk, IfErr, OnOk};
+ghost use Rattle.drive.specs.FileDrive.{capacity_of, honest_of, journal_of, BeginsWith};
+ghost use Rattle.formatting.specs.Beginning.{IsBegun, IsUnbegun};
 ghost use Rattle.capi.specs.declared.fault.Fault.TheVariants as faults;
 ghost use Rattle.capi.specs.Formats.{FormatsFile, FormatsOn, IsMadeInMemory, IsNotMade, Makes};
 
 use crate::fault::{Fault, fault_of};
-use drive::{Drive, FileDrive, MemDrive};
+use drive::{Drive, FileDrive, Look, MemDrive};
 use formatting::{format, require_beginning};
+use limits::{BLOCK_SIZE, MOMENT_LIMIT};
 use std::alloc::Global;
-
-/// The moment at which moments end, in microseconds from 1970-01-01 UTC.
-const MOMENT_LIMIT: u64 = 4_102_444_800_000_000;
+use store::StoreFault;
 
 /// The drive over a descriptor, which is closed where it is dropped, also where this is refused.
 pub(crate) fn drive_of(fd: i32, capacity: u32) -> Result<FileDrive, Fault>
@@ -39,12 +40,19 @@ pub(crate) fn format_file(
         Ok(drive) => drive,
         Err(fault) => return Err(fault),
     };
-    format_on(alloc, &mut drive, label, moment)
+    let mut look = Look::new(&[]);
+    format_on(alloc, &mut drive, &mut look, label, moment)
 }
 
-/// Makes a volume on a file, or finishes one.
-fn format_on(alloc: Global, drive: &mut FileDrive, label: &[u8], moment: u64) -> Result<(), Fault>
-    ensures { FormatsOn label.now moment result drive.old drive.new }
+/// Makes a volume on a file, or finishes one. What lies after its last whole block is kept in `look`.
+fn format_on(
+    alloc: Global,
+    drive: &mut FileDrive,
+    look: &mut Look,
+    label: &[u8],
+    moment: u64,
+) -> Result<(), Fault>
+    ensures { FormatsOn label.now moment result look.new.part drive.old drive.new }
 {
     let Ok(text) = std::str::from_utf8(label) else {
         return Err(Fault::Text);
@@ -52,10 +60,32 @@ fn format_on(alloc: Global, drive: &mut FileDrive, label: &[u8], moment: u64) ->
     if moment >= MOMENT_LIMIT {
         return Err(Fault::Volume);
     }
-    if let Err(fault) = require_beginning(alloc, drive, text, moment) {
+    if let Err(fault) = require_beginning_of(alloc, drive, look, text, moment) {
         return Err(fault_of(fault));
     }
     make(alloc, drive, text, moment)
+}
+
+/// Refuses a file whose bytes after its last whole block do not begin the next block of a format with these words.
+fn require_beginning_of(
+    alloc: Global,
+    drive: &mut FileDrive,
+    look: &mut Look,
+    label: &str,
+    moment: u64,
+) -> Result<(), StoreFault>
+    requires { moment < MOMENT_LIMIT }
+    ensures journal { journal_of drive.new ≡ journal_of drive.old }
+    ensures capacity { capacity_of drive.new ≡ capacity_of drive.old }
+    ensures honest { honest_of drive.new ≡ honest_of drive.old }
+    ensures begun { OnOk result (IsBegun (capacity_of drive.old) label.now moment (journal_of drive.old) look.new.part) }
+    ensures refused { IfErr result (IsUnbegun (capacity_of drive.old) label.now moment (journal_of drive.old) look.new.part) }
+{
+    let mut part = [0; BLOCK_SIZE];
+    let Ok(count) = drive.part(&mut part, look) else {
+        return Err(StoreFault::Device);
+    };
+    require_beginning(alloc, drive, &part[..count], label, moment)
 }
 
 /// A new volume in memory.
@@ -83,7 +113,7 @@ pub(crate) fn format_memory(
 
 /// Makes a volume on a drive.
 fn make<D: Drive>(alloc: Global, drive: &mut D, label: &str, moment: u64) -> Result<(), Fault>
-    requires { moment < 4_102_444_800_000_000 }
+    requires { moment < MOMENT_LIMIT }
     ensures makes { Makes label.now moment (D.capacity drive.old) result (D.journal drive.old) (D.journal drive.new) (D.honest drive.new) }
     ensures capacity { D.capacity drive.new ≡ D.capacity drive.old }
 {

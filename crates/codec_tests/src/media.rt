@@ -10,7 +10,7 @@ use indexmap::IndexMap;
 use limits::PARTITION_START;
 use osta::{Label, Name};
 use recover::{State, StoreFault, state_at};
-use std::alloc::Global;
+use std::alloc::{AllocError, Global};
 use std::process::Abort;
 use std::test::Fail;
 use volume::front_blocks;
@@ -88,25 +88,44 @@ pub(crate) const FORMATTED: Numbers = Numbers {
     commits: 0,
 };
 
+/// What the data of a table begins with: the lengths of its header and of the implementation use, and the label's dstring.
+const LENGTHS_AND_LABEL: [&[u8]; 4] = [&[196, 0, 44, 0], b"\x08DISC", &[0; 122], &[5]];
+
+/// The revisions, and the implementation use up to its numbers: its identifier, its version, and that it has no record.
+const REVISIONS_AND_IDENTIFIER: [&[u8]; 4] = [
+    &[1, 2, 1, 2, 1, 2, 0, 0],
+    b"\x00*udfburn sessions",
+    &[0; 14],
+    &[2, 0, 0, 0],
+];
+
+/// Appends each of the pieces.
+fn put_all(bytes: &mut Vec<u8>, pieces: &[&[u8]]) -> Result<(), AllocError> {
+    for piece in pieces {
+        bytes.extend_from_slice(piece)?;
+    }
+    Ok(())
+}
+
+/// Appends each of the numbers.
+fn put_numbers(bytes: &mut Vec<u8>, numbers: &[u32]) -> Result<(), AllocError> {
+    for number in numbers {
+        bytes.extend_from_slice(&number.to_le_bytes())?;
+    }
+    Ok(())
+}
+
 /// The block of a table's data without records.
 pub(crate) fn table_block(alloc: Global, numbers: Numbers, entries: &[u32]) -> Result<Block, Fail> {
     let mut bytes = Vec::new(alloc);
-    bytes.extend_from_slice(&[196, 0, 44, 0])?;
-    bytes.extend_from_slice(b"\x08DISC")?;
-    bytes.extend_from_slice(&[0; 122])?;
-    bytes.push(5)?;
-    bytes.extend_from_slice(&numbers.previous.to_le_bytes())?;
-    bytes.extend_from_slice(&numbers.files.to_le_bytes())?;
-    bytes.extend_from_slice(&numbers.directories.to_le_bytes())?;
-    bytes.extend_from_slice(&[1, 2, 1, 2, 1, 2, 0, 0])?;
-    bytes.extend_from_slice(b"\x00*udfburn sessions")?;
-    bytes.extend_from_slice(&[0; 14])?;
-    bytes.extend_from_slice(&[2, 0, 0, 0])?;
-    bytes.extend_from_slice(&numbers.next_unique.to_le_bytes())?;
-    bytes.extend_from_slice(&numbers.commits.to_le_bytes())?;
-    for number in entries {
-        bytes.extend_from_slice(&number.to_le_bytes())?;
-    }
+    put_all(&mut bytes, &LENGTHS_AND_LABEL)?;
+    put_numbers(
+        &mut bytes,
+        &[numbers.previous, numbers.files, numbers.directories],
+    )?;
+    put_all(&mut bytes, &REVISIONS_AND_IDENTIFIER)?;
+    put_numbers(&mut bytes, &[numbers.next_unique, numbers.commits])?;
+    put_numbers(&mut bytes, entries)?;
     Ok(block_of(&bytes))
 }
 

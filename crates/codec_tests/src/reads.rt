@@ -50,7 +50,7 @@ fn shared_state(
 }
 
 /// How many reads a state takes after another one, found by the first read whose failure is not noticed.
-fn reads_behind(alloc: Global, drive: &mut MemDrive, before: u32, at: u32) -> Result<u64, Fail> {
+fn reads_after(alloc: Global, drive: &mut MemDrive, before: u32, at: u32) -> Result<u64, Fail> {
     for reads in 0..300u64 {
         let mut known = ReadCache::new(alloc);
         let _ = shared_state(alloc, drive, &mut known, before)?;
@@ -69,10 +69,10 @@ fn what_two_states_share_is_read_once(rt: HostRuntime) -> Result<(), Fail> {
     let alloc = rt.alloc();
     let mut drive = chain(&rt, alloc, 2)?;
     // The VAT ICB, its data and the file set.
-    assert!(rt; reads_behind(alloc, &mut drive, 268, 266)? == 3);
+    assert!(rt; reads_after(alloc, &mut drive, 268, 266)? == 3);
     // Beside these the root that they do not share, its entry and its data.
-    assert!(rt; reads_behind(alloc, &mut drive, 266, 261)? == 5);
+    assert!(rt; reads_after(alloc, &mut drive, 266, 261)? == 5);
     // And the file, which comes after the format.
-    assert!(rt; reads_behind(alloc, &mut drive, 261, 266)? == 6);
+    assert!(rt; reads_after(alloc, &mut drive, 261, 266)? == 6);
     Ok(())
 }

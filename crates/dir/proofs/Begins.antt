@@ -16,13 +16,13 @@ use Rattle.dir.proofs.Placing.{plain_bounds, laid-nil, laid-put, onward-full, on
 use Rattle.dir.proofs.Refusals.{all_Fit}
 
 -- two bytes after a prefix
-behind_front : (front behind : List ℕ) (i : ℕ) → length front ≤ i → u16_at i (front ++ behind) ≡ u16_at (i - length front) behind
-behind_front front behind i past =
+later_front : (front after : List ℕ) (i : ℕ) → length front ≤ i → u16_at i (front ++ after) ≡ u16_at (i - length front) after
+later_front front after i past =
     let next : i + 1 - length front ≡ i - length front + 1 = omega arith in
     omega (
       arith,
-      get_or-append_right front behind (length front) i 0 refl past,
-      get_or-append_right front behind (length front) (i + 1) 0 refl (omega arith) ∙ ap (λ (k : ℕ). get_or behind k 0) next,
+      get_or-append_right front after (length front) i 0 refl past,
+      get_or-append_right front after (length front) (i + 1) 0 refl (omega arith) ∙ ap (λ (k : ℕ). get_or after k 0) next,
     )
 
 -- an identifier that may be put ends within the block
@@ -35,10 +35,10 @@ end_between at x xs room = by (stays xs (2048 - (at + plain_size (length x.name)
     by false = (room, omega arith)
 
 -- of identifiers that are laid from a place of a block on, one begins at each block's start within their bytes
-laid_begins : (xs : List Identifier) (number at i : ℕ) (behind : List ℕ) → All FitsIdentifier xs → at < 2048 → FitsInBlock at xs → (at + i) % 2048 ≡ 0 → i < length (laid number at xs)
-    → u16_at i (laid number at xs ++ behind) ≡ 257
-laid_begins [] number at i behind fit inside stood start within = absurd (omega (arith, ap length (laid-nil number at)))
-laid_begins (x ∷ xs) number at i behind fit inside stood start within =
+laid_begins : (xs : List Identifier) (number at i : ℕ) (after : List ℕ) → All FitsIdentifier xs → at < 2048 → FitsInBlock at xs → (at + i) % 2048 ≡ 0 → i < length (laid number at xs)
+    → u16_at i (laid number at xs ++ after) ≡ 257
+laid_begins [] number at i after fit inside stood start within = absurd (omega (arith, ap length (laid-nil number at)))
+laid_begins (x ∷ xs) number at i after fit inside stood start within =
     let room = stands_within at x xs (fit 0 x (omega arith)).name (omega arith) stood in
     let bounds = end_between at x xs room in
     let plain = plain_bounds (length x.name) in
@@ -48,24 +48,24 @@ laid_begins (x ∷ xs) number at i behind fit inside stood start within =
     let size : length one ≡ end - at = omega (arith, bounds.0, length-identifier number more x) in
     let put : laid number at (x ∷ xs) ≡ one ++ onward number end xs = laid-put number at x xs room in
     let all : length (laid number at (x ∷ xs)) ≡ length one + length (onward number end xs) = ap length put ∙ length-append one (onward number end xs) in
-    let whole : laid number at (x ∷ xs) ++ behind ≡ one ++ (onward number end xs ++ behind) = ap (λ (t : List ℕ). t ++ behind) put ∙ append_assoc one (onward number end xs) behind in
+    let whole : laid number at (x ∷ xs) ++ after ≡ one ++ (onward number end xs ++ after) = ap (λ (t : List ℕ). t ++ after) put ∙ append_assoc one (onward number end xs) after in
     let rest : All FitsIdentifier xs = λ k d lt. fit (suc k) d (omega arith) in
     ap (u16_at i) whole ∙ elim (cases_lt i (length one)) [
       | inl here ↦
           let none : i ≡ 0 = omega (arith, here, size, bounds.1, start) in
-          ap (λ (k : ℕ). u16_at k (one ++ (onward number end xs ++ behind))) none ∙ tag-identifier number more x (onward number end xs ++ behind)
+          ap (λ (k : ℕ). u16_at k (one ++ (onward number end xs ++ after))) none ∙ tag-identifier number more x (onward number end xs ++ after)
       | inr past ↦
           let j : ℕ = i - length one in
-          behind_front one (onward number end xs ++ behind) i past ∙ elim (cases_lt end 2048) [
+          later_front one (onward number end xs ++ after) i past ∙ elim (cases_lt end 2048) [
             | inl lt ↦
                 let same = onward-within number end xs lt in
-                ap (λ (t : List ℕ). u16_at j (t ++ behind)) same
-                ∙ laid_begins xs number end j behind rest lt (stands_next at x xs lt) (omega (arith, size, bounds.0, start, past)) (omega (arith, within, all, past, ap length same))
+                ap (λ (t : List ℕ). u16_at j (t ++ after)) same
+                ∙ laid_begins xs number end j after rest lt (stands_next at x xs lt) (omega (arith, size, bounds.0, start, past)) (omega (arith, within, all, past, ap length same))
             | inr ge ↦
                 let full : end ≡ 2048 = omega (arith, ge, bounds.1) in
                 let same = onward-full number end xs full in
-                ap (λ (t : List ℕ). u16_at j (t ++ behind)) same
-                ∙ laid_begins xs (number + 1) 0 j behind rest (omega arith) (inl refl) (omega (arith, size, full, start, past)) (omega (arith, within, all, past, ap length same))
+                ap (λ (t : List ℕ). u16_at j (t ++ after)) same
+                ∙ laid_begins xs (number + 1) 0 j after rest (omega arith) (inl refl) (omega (arith, size, full, start, past)) (omega (arith, within, all, past, ap length same))
           ]
     ]
 

@@ -4,10 +4,10 @@ use Rattle.std.proofs.lemmas.List.{append-nil, drop_at, drop_all, length-take, l
 use borrow.Rule.Slice.PartMut.{put_mid}
 
 -- a text written from the tag's end to the end of the bytes
-pub behind_tag : (into written text : List ℕ) → 16 ≤ length into → length text ≡ length into - 16
+pub after_tag : (into written text : List ℕ) → 16 ≤ length into → length text ≡ length into - 16
     → written ≡ text ++ drop (length text) (take (length into - 16) (drop 16 into))
     → drop 16 (put_mid 16 (length into - 16) into written) ≡ text
-behind_tag into written text long len put =
+after_tag into written text long len put =
     let rest : List ℕ = drop (length into - 16) (drop 16 into) in
     let nothing : drop (length text) (take (length into - 16) (drop 16 into)) ≡ [] =
     drop_all (length text) (take (length into - 16) (drop 16 into)) (omega (arith, length-take (length into - 16) (drop 16 into))) in

@@ -83,8 +83,8 @@ rest_of_all P a x y b all =
     first_of_all P (a ++ x ∷ []) y b (subst (λ (t : List _). All P t) (sym (append_assoc a (x ∷ []) (y ∷ b))) all)
 
 -- the identifiers after one that fits are short
-pub short_behind : (done : List Identifier) (m : Identifier) (ms : List Identifier) → All FitsIdentifier (done ++ (m ∷ ms)) → IsFirstNameShort ms
-short_behind done m ms fit y r e =
+pub short_after : (done : List Identifier) (m : Identifier) (ms : List Identifier) → All FitsIdentifier (done ++ (m ∷ ms)) → IsFirstNameShort ms
+short_after done m ms fit y r e =
     let all : All FitsIdentifier (done ++ (m ∷ y ∷ r)) = subst (λ (t : List Identifier). All FitsIdentifier (done ++ (m ∷ t))) e fit in
     (rest_of_all FitsIdentifier done m y r all).name
 
@@ -111,8 +111,8 @@ read_more is_first whole first done old new x k r f in_range =
           let before = k.far in
           omega (arith, ap length r.rest, length-drop n bytes);
       sound = λ rest short there stood.
-          let behind = sym r.rest ∙ there ∙ next_laid is_first first old new x r rest in
-          let here = read_stands (first + old.index) old.at bytes rest k.bytes inside r.split r.head r.padded short behind
+          let after = sym r.rest ∙ there ∙ next_laid is_first first old new x r rest in
+          let here = read_stands (first + old.index) old.at bytes rest k.bytes inside r.split r.head r.padded short after
           (λ (lt : end < 2048). subst (λ (m : ℕ). FitsInBlock m rest) (within_next end new.at r.at lt) stood) in
           let said : bytes ≡ laid (first + old.index) old.at (x ∷ rest) = here.0 ∙ ap (λ (y : Identifier). laid (first + old.index) old.at (y ∷ rest)) (sym r.says) in
           let stands : FitsInBlock old.at (x ∷ rest) = subst (λ (y : Identifier). FitsInBlock old.at (y ∷ rest)) (sym r.says) here.1 in
@@ -136,13 +136,13 @@ read_more is_first whole first done old new x k r f in_range =
         let fit_all : All FitsIdentifier (done ++ (m ∷ ms)) = subst (λ (t : List Identifier). All FitsIdentifier t) split fit in
         let there : bytes ≡ laid (first + old.index) old.at (m ∷ ms) = before.there ∙ ap (laid (first + old.index) old.at) e in
         let stood : FitsInBlock old.at (m ∷ ms) = subst (λ (t : List Identifier). FitsInBlock old.at t) e before.stood in
-        let found = laid_found (first + old.index) old.at bytes m ms k.bytes in_range old.in_block k.at4 (first_of_all FitsIdentifier done m ms fit_all) (short_behind done m ms fit_all) there stood in
+        let found = laid_found (first + old.index) old.at bytes m ms k.bytes in_range old.in_block k.at4 (first_of_all FitsIdentifier done m ms fit_all) (short_after done m ms fit_all) there stood in
         let same : m ≡ x = sym found.says ∙ sym r.says in
         let high : end ≤ 2048 = elim (fits_cases (size_of bytes) (2048 - old.at) r.split.within) [ inl q ↦ omega (arith, old.in_block) | inr q ↦ omega (arith, old.in_block) ] in
         record {
           more = ms;
           split = split ∙ ap (λ (y : Identifier). done ++ (y ∷ ms)) same ∙ sym (append_assoc done (x ∷ []) ms);
-          there = r.rest ∙ found.behind ∙ sym (next_laid is_first first old new x r ms);
+          there = r.rest ∙ found.after ∙ sym (next_laid is_first first old new x r ms);
           stood = elim (cases_lt end 2048) [
             | inl lt ↦ subst (λ (n : ℕ). FitsInBlock n ms) (sym (within_next end new.at r.at lt)) (found.next lt)
             | inr ge ↦ inl (full_next end new.at r.at (omega arith))

@@ -158,10 +158,10 @@ begun start here at block over some =
     ]
 
 -- where an identifier that was put ends
-pub put_end : (at end behind : ℕ) (x : Identifier) (rest : List Identifier) (full : Bool) → end ≡ at + plain_size (length x.name)
-    → full ≡ not (stays rest (2048 - end)) → behind ≡ (if full then 2048 else end) → behind ≡ identifier_end at x rest
-put_end at end behind x rest full end-is full-is behind-is =
-    behind-is ∙ ap (λ (b : Bool). if b then 2048 else end) (full-is ∙ ap (λ (n : ℕ). not (stays rest (2048 - n))) end-is)
+pub put_end : (at end after : ℕ) (x : Identifier) (rest : List Identifier) (full : Bool) → end ≡ at + plain_size (length x.name)
+    → full ≡ not (stays rest (2048 - end)) → after ≡ (if full then 2048 else end) → after ≡ identifier_end at x rest
+put_end at end after x rest full end-is full-is after-is =
+    after-is ∙ ap (λ (b : Bool). if b then 2048 else end) (full-is ∙ ap (λ (n : ℕ). not (stays rest (2048 - n))) end-is)
     ∙ turned (stays rest (2048 - (at + plain_size (length x.name))))
   where
     turned : (b : Bool) → (if not b then 2048 else end) ≡ (if b then at + plain_size (length x.name) else 2048)

@@ -75,11 +75,11 @@ without_before (y ∷ xs) zero k x less found = absurd (omega (arith, less))
 without_before (y ∷ xs) (suc i) zero x less found = found
 without_before (y ∷ xs) (suc i) (suc k) x less found = without_before xs i k x (omega (arith, less)) found
 
-pub without_behind : {X : Type 0} (xs : List X) (i k : ℕ) (x : X) → i ≤ k → slice_get xs (suc k) ≡ Some x → slice_get (remove xs i) k ≡ Some x
-without_behind [] i k x less found = absurd (cc)
-without_behind (y ∷ xs) zero k x less found = found
-without_behind (y ∷ xs) (suc i) zero x less found = absurd (omega (arith, less))
-without_behind (y ∷ xs) (suc i) (suc k) x less found = without_behind xs i k x (omega (arith, less)) found
+pub without_after : {X : Type 0} (xs : List X) (i k : ℕ) (x : X) → i ≤ k → slice_get xs (suc k) ≡ Some x → slice_get (remove xs i) k ≡ Some x
+without_after [] i k x less found = absurd (cc)
+without_after (y ∷ xs) zero k x less found = found
+without_after (y ∷ xs) (suc i) zero x less found = absurd (omega (arith, less))
+without_after (y ∷ xs) (suc i) (suc k) x less found = without_after xs i k x (omega (arith, less)) found
 
 -- ---- directories among names
 
@@ -201,7 +201,7 @@ front_without entries ids new i start end e front kept found starts ends bytes c
     let next : i + 1 ≡ suc i = omega arith in
     let before : take start ids.bytes.items ≡ flat_map plain (take i n) =
     ap (take start) (front_split entries ids i front (omega arith)) ∙ take_at (flat_map plain (take i n)) (flat_map plain (drop i t)) start (sym starts) in
-    let behind : drop end ids.bytes.items ≡ flat_map plain (drop (suc i) t) =
+    let after : drop end ids.bytes.items ≡ flat_map plain (drop (suc i) t) =
     ap (drop end) (front_split entries ids (i + 1) front (omega arith)) ∙ drop_at (flat_map plain (take (i + 1) n)) (flat_map plain (drop (i + 1) t)) end (sym ends)
     ∙ ap (λ (m : ℕ). flat_map plain (drop m t)) next in
     let names = ap (take new.count) (named_without entries i) ∙ front_removed n i new.count ids.count count kept (omega (arith, front.few)) in
@@ -210,7 +210,7 @@ front_without entries ids new i start end e front kept found starts ends bytes c
       few = omega (arith, front.few, length-append (take i entries) (drop (suc i) entries), length-take i entries, length-drop (suc i) entries);
       proper = subst (λ (es : List (List ℕ × Entry)). All IsEntryInRange es) (sym left) (All-append IsEntryInRange (take i entries) (drop (suc i) (take ids.count entries)) first (All-drop IsEntryInRange (suc i) (take ids.count entries) front.proper));
       bytes =
-          bytes ∙ ap (λ (b : List ℕ). b ++ drop end ids.bytes.items) before ∙ ap (λ (b : List ℕ). flat_map plain (take i n) ++ b) behind
+          bytes ∙ ap (λ (b : List ℕ). b ++ drop end ids.bytes.items) before ∙ ap (λ (b : List ℕ). flat_map plain (take i n) ++ b) after
           ∙ sym (flat_map-append plain (take i n) (drop (suc i) t)) ∙ ap (flat_map plain) (sym names);
       size = size;
       full = full;
@@ -260,8 +260,8 @@ front_size entries ids front all =
 
 -- ---- identifiers that are left to be laid
 
-behind_next : (next : ℕ) → next + 1 - 1 ≡ next
-behind_next next = omega arith
+later_next : (next : ℕ) → next + 1 - 1 ≡ next
+later_next next = omega arith
 
 -- no identifier that is kept is passed by the parent's, and after those that are kept
 pub left_unknown : (known next : ℕ) (entries : List (List ℕ × Entry)) (bytes : List ℕ) → (next ≡ 0) ⊎ (known < next) → AreLeft known next entries bytes → AreLeft known (next + 1) entries bytes
@@ -272,7 +272,7 @@ left_unknown known next entries bytes over left =
       | inl none ↦ ap (λ (n : ℕ). drop (n - 1) rest) none ∙ ap (λ (n : ℕ). drop n rest) (sym none)
       | inr past ↦ drop_all (next - 1) rest (omega arith) ∙ sym (drop_all next rest (omega arith))
     ] in
-    left ∙ ap (flat_map plain) (same ∙ ap (λ (n : ℕ). drop n rest) (sym (behind_next next)))
+    left ∙ ap (flat_map plain) (same ∙ ap (λ (n : ℕ). drop n rest) (sym (later_next next)))
 
 known_first : (known next parent : ℕ) (entries : List (List ℕ × Entry)) (x : Identifier) → 0 < next → next ≤ known → slice_get (identifiers parent entries) next ≡ Some x
     → drop (next - 1) (take known (named entries)) ≡ x ∷ drop next (take known (named entries))
@@ -297,9 +297,9 @@ pub left_taken : (x : Identifier) (rest bytes : List ℕ) (size : ℕ) → size 
 left_taken x rest bytes size is left = ap (take size) left ∙ take_at (plain x) rest size (omega (arith, length-identifier 0 0 x))
 
 -- and goes on after it
-pub left_behind : (known next : ℕ) (entries : List (List ℕ × Entry)) (x : Identifier) (bytes : List ℕ) (size : ℕ) → size ≡ plain_size (length x.name)
+pub left_after : (known next : ℕ) (entries : List (List ℕ × Entry)) (x : Identifier) (bytes : List ℕ) (size : ℕ) → size ≡ plain_size (length x.name)
     → bytes ≡ plain x ++ flat_map plain (drop next (take known (named entries))) → AreLeft known (next + 1) entries (drop size bytes)
-left_behind known next entries x bytes size is left =
+left_after known next entries x bytes size is left =
     let rest = flat_map plain (drop next (take known (named entries))) in
     ap (drop size) left ∙ drop_at (plain x) rest size (omega (arith, length-identifier 0 0 x))
-    ∙ ap (λ (n : ℕ). flat_map plain (drop n (take known (named entries)))) (sym (behind_next next))
+    ∙ ap (λ (n : ℕ). flat_map plain (drop n (take known (named entries)))) (sym (later_next next))

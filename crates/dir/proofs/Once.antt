@@ -7,6 +7,7 @@ use Rattle.std.specs.List.{All, IsDistinct, concat}
 use Rattle.ecma.specs.Descriptor.{padded}
 use Rattle.std.proofs.lemmas.Bool.{cases_lt}
 use Rattle.std.proofs.lemmas.List.{append-nil, nil_from_length, get_or-drop, take_all, drop_all, take-append-drop, replicate-append-replicate, length-take, length-drop, length-map}
+use Rattle.limits.specs.declared.TheConstants.{DIRECTORY_NAMES, PARTITION_BLOCKS}
 use Rattle.dir.specs.declared.entry.Entry.{Entry}
 use Rattle.dir.specs.declared.entry.Kind.{Kind}
 use Rattle.dir.specs.declared.entry.Kind.TheVariants.{File, Directory}
@@ -50,11 +51,11 @@ laid_once (x ∷ xs) (y ∷ ys) number at s all low inside at4 fx fy ex ey sx sy
     let rest : xs ≡ ys = elim (cases_lt (at + n) 2048) [
       | inl lt ↦
           laid_once xs ys number (at + n) (drop n s) bytes (omega arith) lt end4 (tail_of FitsIdentifier x xs fx) (tail_of FitsIdentifier y ys fy)
-          (a.behind ∙ onward-within number (at + n) xs lt) (b.behind ∙ onward-within number (at + n) ys lt) (a.next lt) (b.next lt)
+          (a.after ∙ onward-within number (at + n) xs lt) (b.after ∙ onward-within number (at + n) ys lt) (a.next lt) (b.next lt)
       | inr ge ↦
           let full : at + n ≡ 2048 = omega arith in
           laid_once xs ys (number + 1) 0 (drop n s) bytes (omega arith) (omega arith) refl (tail_of FitsIdentifier x xs fx) (tail_of FitsIdentifier y ys fy)
-          (a.behind ∙ onward-full number (at + n) xs full) (b.behind ∙ onward-full number (at + n) ys full) (inl refl) (inl refl)
+          (a.after ∙ onward-full number (at + n) xs full) (b.after ∙ onward-full number (at + n) ys full) (inl refl) (inl refl)
     ] in
     cc
   where
@@ -91,7 +92,7 @@ one_list (e ∷ es) (f ∷ fs) x y q =
     cc
 
 -- blocks are the data of one directory
-pub directory_once : (first size p q : ℕ) (es fs : List (List ℕ × Entry)) (blocks : List (List ℕ)) → first ≤ 449_743 → AreBytes (concat blocks)
+pub directory_once : (first size p q : ℕ) (es fs : List (List ℕ × Entry)) (blocks : List (List ℕ)) → first ≤ PARTITION_BLOCKS → AreBytes (concat blocks)
     → IsDirectory p es first size blocks → IsDirectory q fs first size blocks → (p ≡ q) × (es ≡ fs)
 directory_once first size p q es fs blocks low all a b =
     let few = a.few in
@@ -140,7 +141,7 @@ concat_blocked (suc count) bytes few =
     ]
 
 -- a directory's blocks are its data
-pub laid_directory : (parent first : ℕ) (entries : List (List ℕ × Entry)) → parent < 2 ^ 32 → length entries ≤ 512 → All IsDirectoryEntry entries
+pub laid_directory : (parent first : ℕ) (entries : List (List ℕ × Entry)) → parent < 2 ^ 32 → length entries ≤ DIRECTORY_NAMES → All IsDirectoryEntry entries
     → IsDistinct (pointwise nat_eq) (keys_of entries)
     → IsDirectory parent entries first (length (laid first 0 (identifiers parent entries))) (identifier_blocks first (identifiers parent entries))
 laid_directory parent first entries low few all apart =

@@ -12,8 +12,8 @@ use Rattle.ecma.proofs.Seals.{is_sealed}
 use Rattle.dir.proofs.Spelled.{identifier_is, length-use_of, length-body_of, name_size-identifier, use_size-identifier, kind-identifier, icb-identifier, unique-identifier, head-identifier, tail-identifier}
 
 -- the use of an identifier that is padded is a multiple of 4
-pub use_whole : (at : ℕ) (bytes behind : List ℕ) → IsPadded at bytes behind → use_size bytes % 4 ≡ 0
-use_whole at bytes behind p = elim p.lengthened [ inl none ↦ omega arith | inr long ↦ long.whole ]
+pub use_whole : (at : ℕ) (bytes after : List ℕ) → IsPadded at bytes after → use_size bytes % 4 ≡ 0
+use_whole at bytes after p = elim p.lengthened [ inl none ↦ omega arith | inr long ↦ long.whole ]
 
 pub size_whole : (bytes : List ℕ) → use_size bytes % 4 ≡ 0 → size_of bytes ≡ plain_size (name_size bytes) + use_size bytes
 size_whole bytes whole = rounded_more (use_size bytes) (name_size bytes) whole
@@ -27,13 +27,13 @@ length-said_by bytes whole =
     length-take-le (name_size bytes) (drop (38 + u) bytes) (omega (arith, length-drop (38 + u) bytes))
 
 -- bytes that pass the tests are an identifier
-pub identifier_read : (number at : ℕ) (bytes behind : List ℕ) → IsBytes bytes → HasHead number bytes → size_of bytes ≡ length bytes
-    → IsPadded at bytes behind → bytes ≡ identifier number (identifier_in bytes) (use_size bytes)
-identifier_read number at bytes behind fits h whole p =
+pub identifier_read : (number at : ℕ) (bytes after : List ℕ) → IsBytes bytes → HasHead number bytes → size_of bytes ≡ length bytes
+    → IsPadded at bytes after → bytes ≡ identifier number (identifier_in bytes) (use_size bytes)
+identifier_read number at bytes after fits h whole p =
     let u = use_size bytes in
     let l = name_size bytes in
     let name = (identifier_in bytes).name in
-    let u4 = use_whole at bytes behind p in
+    let u4 = use_whole at bytes after p in
     let size = size_whole bytes u4 in
     let count : length bytes - (38 + u + l) ≡ plain_size l - (38 + l) = omega arith in
     let pad : List ℕ = replicate (plain_size l - (38 + l)) 0 in

@@ -7,6 +7,7 @@ use Rattle.std.specs.List.{All, AllByRecursion, IsDistinct, concat}
 use Rattle.std.specs.Map.{keys_of, lookup}
 use Rattle.std.proofs.lemmas.Bool.{eqb-true, eq-eqb, and_from, and_parts}
 use Rattle.std.proofs.lemmas.List.{append-nil, take_at, drop_at, take-append-drop, nil_from_length, length-map, map-append}
+use Rattle.limits.specs.declared.TheConstants.{DIRECTORY_NAMES}
 use Rattle.osta.specs.Compressed.{compressed, Named}
 use Rattle.osta.specs.Name.{IsName}
 use Rattle.osta.proofs.Names.{name_spelled}
@@ -19,7 +20,7 @@ use Rattle.ecma.specs.Blocks.{block_count}
 use Rattle.dir.specs.Layout.{laid, FitsInBlock}
 use Rattle.dir.specs.Reads.{IsFirstNameShort}
 use Rattle.dir.specs.Split.{FitsIdentifier}
-use Rattle.dir.proofs.Directories.{IsRead, Continues, first_of_all, short_behind}
+use Rattle.dir.proofs.Directories.{IsRead, Continues, first_of_all, short_after}
 use Rattle.dir.proofs.Entries.{name_Fits, parent_Fits}
 use Rattle.dir.proofs.Placing.{laid-nil, length-laid, stands_within}
 
@@ -74,9 +75,9 @@ split_entries (p ∷ es) (x ∷ a) m ms e =
     }
 
 -- what is left of entries of which some are done
-behind_done : (p parent : ℕ) (es entries : List (List ℕ × Entry)) (done more : List Identifier) → identifiers p es ≡ (identifiers parent entries ++ done) ++ more
+after_done : (p parent : ℕ) (es entries : List (List ℕ × Entry)) (done more : List Identifier) → identifiers p es ≡ (identifiers parent entries ++ done) ++ more
     → map of_entry es ≡ map of_entry entries ++ (done ++ more)
-behind_done p parent es entries done more e =
+after_done p parent es entries done more e =
     let regrouped : identifiers p es ≡ of_parent parent ∷ (map of_entry entries ++ (done ++ more)) =
     e ∙ append_assoc (identifiers parent entries) done more in
     cc
@@ -112,7 +113,7 @@ name_refused whole first parent p entries es fids r low all e some refused =
         let s = split_entries es (map of_entry entries) m ms names in
         let fit : All FitsIdentifier (identifiers parent entries ++ (m ∷ ms)) = subst (λ (t : List Identifier). All FitsIdentifier t) split (all_Fit p es low all) in
         let item = first_of_all IsDirectoryEntry s.front s.item s.back (subst (λ (t : List (List ℕ × Entry)). All IsDirectoryEntry t) s.parts all) in
-        refused s.item.0 s.item.1 ms item (short_behind (identifiers parent entries) m ms fit)
+        refused s.item.0 s.item.1 ms item (short_after (identifiers parent entries) m ms fit)
         (there ∙ ap (λ (y : Identifier). laid (first + fids.index) fids.at (y ∷ ms)) (sym s.items))
         (subst (λ (y : Identifier). FitsInBlock fids.at (y ∷ ms)) (sym s.items) stood)
 
@@ -202,7 +203,7 @@ pub twice : (whole : List ℕ) (first parent p : ℕ) (entries es : List (List �
     → old ≡ lookup (pointwise nat_eq text) entries → true ≡ is_some old → ⊥
 twice whole first parent p entries es fids text e old r entry known low all apart there old-is some =
     let k = r.only (identifiers p es) (all_Fit p es low all) there in
-    let names : map of_entry es ≡ map of_entry entries ++ (of_name text e ∷ k.more) = behind_done p parent es entries (of_name text e ∷ []) k.more k.split in
+    let names : map of_entry es ≡ map of_entry entries ++ (of_name text e ∷ k.more) = after_done p parent es entries (of_name text e ∷ []) k.more k.split in
     let s = split_entries es (map of_entry entries) (of_name text e) k.more names in
     let parts_all : All IsDirectoryEntry (s.front ++ (s.item ∷ s.back)) = subst (λ (t : List (List ℕ × Entry)). All IsDirectoryEntry t) s.parts all in
     let item = first_of_all IsDirectoryEntry s.front s.item s.back parts_all in
@@ -229,11 +230,11 @@ start_there first index at xs i a =
     ap (λ (n : ℕ). laid first n xs) (sym a) ∙ ap (λ (n : ℕ). laid n at xs) (omega arith)
 
 pub short_names : (p : ℕ) (es : List (List ℕ × Entry)) → p < 2 ^ 32 → All IsDirectoryEntry es → IsFirstNameShort (map of_entry es)
-short_names p es low all = short_behind [] (of_parent p) (map of_entry es) (all_Fit p es low all)
+short_names p es low all = short_after [] (of_parent p) (map of_entry es) (all_Fit p es low all)
 
 -- what was read is a directory
 pub directory_found : (first size parent : ℕ) (entries : List (List ℕ × Entry)) (blocks : List (List ℕ)) (fids : Fids)
-    → IsRead (take size (concat blocks)) first (identifiers parent entries) fids → parent < 2 ^ 32 → All IsDirectoryEntry entries → length entries ≤ 512
+    → IsRead (take size (concat blocks)) first (identifiers parent entries) fids → parent < 2 ^ 32 → All IsDirectoryEntry entries → length entries ≤ DIRECTORY_NAMES
     → IsDistinct (pointwise nat_eq) (keys_of entries) → length fids.«data».now ≡ 0 → length (take size (concat blocks)) ≡ size
     → length blocks ≡ block_count size → drop size (concat blocks) ≡ replicate (2048 * length blocks - size) 0
     → IsDirectory parent entries first size blocks

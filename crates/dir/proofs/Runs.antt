@@ -14,7 +14,7 @@ use Rattle.dir.specs.Laying.{identifiers_left, left_of, IsFilled, IsFilledTo}
 use Rattle.dir.specs.Layout.{identifier_end, fits, stays, FitsInBlock}
 use Rattle.dir.specs.Split.{name_size}
 use Rattle.dir.proofs.Filling.{drop_some, filled_front, filled_more, identifier_at, stays-some}
-use Rattle.dir.proofs.Fronts.{left_behind, left_known, left_taken, left_within}
+use Rattle.dir.proofs.Fronts.{left_after, left_known, left_taken, left_within}
 use Rattle.dir.proofs.Placing.{fits_cases, plain_bounds, stands_within}
 use Rattle.dir.proofs.Spelled.{length-identifier, name_size-identifier}
 
@@ -78,14 +78,14 @@ head_room old start before at next kept block run head =
     (subst (λ (t : List Identifier). FitsInBlock at t) (drop_some ids next head.x head.there) run.stood)
 
 -- and the one after it begins what is kept after it
-pub head_behind : (old : Lay) (start : ℕ) (before : List ℕ) (at next : ℕ) (kept block : List ℕ) → IsRun old start before at next kept block → next < old.known
+pub head_after : (old : Lay) (start : ℕ) (before : List ℕ) (at next : ℕ) (kept block : List ℕ) → IsRun old start before at next kept block → next < old.known
     → IsHead (identifiers_of old.dir.now) (next + 1) (drop (plain_size (name_size kept)) kept)
-head_behind old start before at next kept block run more =
+head_after old start before at next kept block run more =
     let dir = old.dir.now in
     let entries = dir.entries.entries in
     let head = head_of old.known dir.parent next entries kept old.known_are run.some run.few run.left in
     let size : plain_size (name_size kept) ≡ plain_size (length head.x.name) = ap plain_size head.name in
-    let left = left_behind old.known next entries head.x kept (plain_size (name_size kept)) size
+    let left = left_after old.known next entries head.x kept (plain_size (name_size kept)) size
     (left_known old.known next dir.parent entries head.x kept run.some run.few head.there run.left) in
     head_of old.known dir.parent (next + 1) entries (drop (plain_size (name_size kept)) kept) old.known_are (omega arith) (omega arith) left
 
@@ -111,7 +111,7 @@ run_begun old start before into written inside stood some few len copied put =
     let room : length place ≡ 2048 - start = omega (arith, length-drop start before) in
     let front : length (take start before) ≡ start = omega (arith, length-take start before) in
     let count = min (length kept) (length place) in
-    let behind : drop start written ≡ into = ap (drop start) put ∙ drop_at (take start before) into start front in
+    let after : drop start written ≡ into = ap (drop start) put ∙ drop_at (take start before) into start front in
     let filling : length into ≡ 2048 - start =
     omega (arith, ap length copied, length-append (take count kept) (drop count place), length-take count kept, length-drop count place) in
     let sized : length written ≡ 2048 = omega (arith, ap length put, length-append (take start before) into) in
@@ -123,7 +123,7 @@ run_begun old start before into written inside stood some few len copied put =
       few = few;
       left = old.left;
       copied =
-          ap (take (length (take (2048 - start) kept))) (behind ∙ copied)
+          ap (take (length (take (2048 - start) kept))) (after ∙ copied)
           ∙ subst (λ (n : ℕ). take (length (take n kept)) (take count kept ++ drop count place) ≡ take n kept) room (copied_front kept place);
       stood = stood;
       size = sized;
@@ -132,10 +132,10 @@ run_begun old start before into written inside stood some few len copied put =
     }
 
 -- what is copied stays so after it
-copied_behind : (room size : ℕ) (kept at_place : List ℕ) → size ≤ room → size ≤ length kept
+copied_after : (room size : ℕ) (kept at_place : List ℕ) → size ≤ room → size ≤ length kept
     → take (length (take room kept)) at_place ≡ take room kept
     → take (length (take (room - size) (drop size kept))) (drop size at_place) ≡ take (room - size) (drop size kept)
-copied_behind room size kept at_place fits_room fits_kept copied =
+copied_after room size kept at_place fits_room fits_kept copied =
     let m = length (take (room - size) (drop size kept)) in
     let whole : size + m ≡ length (take room kept) = omega (arith, length-take (room - size) (drop size kept), length-drop size kept, length-take room kept) in
     let rest : size + (room - size) ≡ room = omega arith in
@@ -149,12 +149,12 @@ copied_first room size kept at_place fits_room fits_kept copied =
     sym (take-take size (length (take room kept)) at_place (omega (arith, length-take room kept))) ∙ ap (take size) copied ∙ take-take size room kept fits_room
 
 -- one more is put, where the one after it is kept too and stays
-pub run_more : (old : Lay) (start : ℕ) (before : List ℕ) (at next end : ℕ) (kept behind block moved written : List ℕ) → IsRun old start before at next kept block → next < old.known
-    → behind ≡ drop (plain_size (name_size kept)) kept → end ≡ at + plain_size (name_size kept)
-    → fits (plain_size (name_size behind)) (2048 - end) ≡ true
+pub run_more : (old : Lay) (start : ℕ) (before : List ℕ) (at next end : ℕ) (kept after block moved written : List ℕ) → IsRun old start before at next kept block → next < old.known
+    → after ≡ drop (plain_size (name_size kept)) kept → end ≡ at + plain_size (name_size kept)
+    → fits (plain_size (name_size after)) (2048 - end) ≡ true
     → ((x : Identifier) → take (end - at) (drop at block) ≡ identifier 0 x 0 → moved ≡ identifier old.number x 0)
-    → written ≡ take at block ++ (moved ++ drop end block) → IsRun old start before end (next + 1) behind written
-run_more old start before at next end kept behind block moved written run more behind-is end-is stay relocates put =
+    → written ≡ take at block ++ (moved ++ drop end block) → IsRun old start before end (next + 1) after written
+run_more old start before at next end kept after block moved written run more after-is end-is stay relocates put =
     let dir = old.dir.now in
     let entries = dir.entries.entries in
     let ids = identifiers_of dir in
@@ -164,10 +164,10 @@ run_more old start before at next end kept behind block moved written run more b
     let size_is : plain_size (name_size kept) ≡ size = ap plain_size head.name in
     let room = head_room old start before at next kept block run head in
     let at_end : end ≡ at + size = end-is ∙ ap (λ (n : ℕ). at + n) size_is in
-    let left : AreLeft old.known (next + 1) entries behind =
-    subst (AreLeft old.known (next + 1) entries) (sym (behind-is ∙ ap (λ (n : ℕ). drop n kept) size_is))
-    (left_behind old.known next entries x kept size refl (left_known old.known next dir.parent entries x kept run.some run.few head.there run.left)) in
-    let second = head_of old.known dir.parent (next + 1) entries behind old.known_are (omega arith) (omega arith) left in
+    let left : AreLeft old.known (next + 1) entries after =
+    subst (AreLeft old.known (next + 1) entries) (sym (after-is ∙ ap (λ (n : ℕ). drop n kept) size_is))
+    (left_after old.known next entries x kept size refl (left_known old.known next dir.parent entries x kept run.some run.few head.there run.left)) in
+    let second = head_of old.known dir.parent (next + 1) entries after old.known_are (omega arith) (omega arith) left in
     let y = second.x in
     let fitting : fits (plain_size (length y.name)) (2048 - end) ≡ true = ap (λ (n : ℕ). fits (plain_size n) (2048 - end)) (sym second.name) ∙ stay in
     let stays_there : stays (left_of dir (next + 1)) (2048 - end) ≡ true = stays-some ids (next + 1) (2048 - end) y second.there ∙ fitting in
@@ -183,7 +183,7 @@ run_more old start before at next end kept behind block moved written run more b
     let at_size : length (take at block) ≡ at = omega (arith, length-take at block) in
     let len : length written ≡ 2048 =
     omega (arith, ap length put, length-append (take at block) (moved ++ drop end block), length-append moved (drop end block), length-drop end block) in
-    let behind_it : drop end written ≡ drop size place =
+    let after_it : drop end written ≡ drop size place =
     ap (drop end) (put ∙ sym (append_assoc (take at block) moved (drop end block)))
     ∙ drop_at (take at block ++ moved) (drop end block) end (omega (arith, length-append (take at block) moved))
     ∙ ap (λ (n : ℕ). drop n block) at_end ∙ sym (drop-drop size at block) in
@@ -201,10 +201,10 @@ run_more old start before at next end kept behind block moved written run more b
       few = omega arith;
       left = left;
       copied =
-          ap (take (length (take (2048 - end) behind))) behind_it
-          ∙ subst (λ (b : List ℕ). take (length (take (2048 - end) b)) (drop size place) ≡ take (2048 - end) b) (sym (behind-is ∙ ap (λ (n : ℕ). drop n kept) size_is))
+          ap (take (length (take (2048 - end) after))) after_it
+          ∙ subst (λ (b : List ℕ). take (length (take (2048 - end) b)) (drop size place) ≡ take (2048 - end) b) (sym (after-is ∙ ap (λ (n : ℕ). drop n kept) size_is))
           (subst (λ (n : ℕ). take (length (take n (drop size kept))) (drop size place) ≡ take n (drop size kept)) left_room
-          (copied_behind (2048 - at) size kept place (omega arith) head.long run.copied));
+          (copied_after (2048 - at) size kept place (omega arith) head.long run.copied));
       stood = inr stays_there;
       size = len;
       filled = λ (from : Lay) (f : IsFilled from old start before).

@@ -29,11 +29,11 @@ laid_end number full at x [] short all room =
 laid_end number full at x (y ∷ r) short all room =
     let bounds = plain_bounds (length y.name) in
     let few : length y.name ≤ 255 = all 0 y (omega arith) in
-    let behind : (k : ℕ) (d : Identifier) → k < length r → length (slice_index_or r k d).name ≤ 255 =
+    let after : (k : ℕ) (d : Identifier) → k < length r → length (slice_index_or r k d).name ≤ 255 =
     λ (k : ℕ) (d : Identifier) (lt : k < length r). all (suc k) d (omega arith) in
     by (fits (plain_size (length y.name)) (2048 - (at + plain_size (length x.name)))) refl
-    (λ (inside : at + plain_size (length x.name) + plain_size (length y.name) ≤ 2048). laid_end number full (at + plain_size (length x.name)) y r few behind inside)
-    (laid_end (number + 1) (full + 1) 0 y r few behind (omega arith))
+    (λ (inside : at + plain_size (length x.name) + plain_size (length y.name) ≤ 2048). laid_end number full (at + plain_size (length x.name)) y r few after inside)
+    (laid_end (number + 1) (full + 1) 0 y r few after (omega arith))
   where
     by : (b : Bool) → fits (plain_size (length y.name)) (2048 - (at + plain_size (length x.name))) ≡ b
         → (at + plain_size (length x.name) + plain_size (length y.name) ≤ 2048

@@ -88,8 +88,8 @@ body_put x more use_end name_end into head extra name pad room use_end-is name_e
     ∙ ap (λ (p : List ℕ). head_of x.characteristics (length x.name) x.icb x.unique more ++ (use_of more ++ (x.name ++ p))) pad-said
 
 -- what is after the tag, when it was written there
-pub behind_tag : (into body : List ℕ) → 16 ≤ length into → length body ≡ length into - 16 → drop 16 (put_mid 16 (length into - 16) into body) ≡ body
-behind_tag into body long len =
+pub after_tag : (into body : List ℕ) → 16 ≤ length into → length body ≡ length into - 16 → drop 16 (put_mid 16 (length into - 16) into body) ≡ body
+after_tag into body long len =
     drop_at (take 16 into) (body ++ drop (length into - 16) (drop 16 into)) 16 (omega (arith, length-take 16 into))
     ∙ ap (λ (x : List ℕ). body ++ x) (drop_all (length into - 16) (drop 16 into) (omega (arith, length-drop 16 into)))
     ∙ append-nil body
@@ -97,7 +97,7 @@ behind_tag into body long len =
 pub identifier_is : (number more : ℕ) (x : Identifier) (bytes body : List ℕ) → IsBytes bytes → Sealed 257 number bytes
     → drop 16 bytes ≡ body → body ≡ body_of x more → bytes ≡ identifier number x more
 unfolding identifier
-identifier_is number more x bytes body all s behind same = sealed_is 257 number bytes (body_of x more) all s (behind ∙ same)
+identifier_is number more x bytes body all s after same = sealed_is 257 number bytes (body_of x more) all s (after ∙ same)
 
 pub length-identifier : (number more : ℕ) (x : Identifier) → length (identifier number x more) ≡ plain_size (length x.name) + more
 unfolding identifier

@@ -85,9 +85,9 @@ length-name fid whole =
 -- an implementation use by its two parts
 pub use_from_parts : (used : List ℕ) → take (min (length used) 32) used ≡ take (min (length used) 32) developer
     → drop (min (length used) 32) used ≡ replicate (length used - 32) 0 → used ≡ use_of (length used)
-use_from_parts used front behind =
+use_from_parts used front after =
     let m = min (length used) 32 in
-    sym (take-append-drop m used) ∙ ap (λ (t : List ℕ). t ++ drop m used) front ∙ ap (λ (t : List ℕ). take m developer ++ t) behind
+    sym (take-append-drop m used) ∙ ap (λ (t : List ℕ). t ++ drop m used) front ∙ ap (λ (t : List ℕ). take m developer ++ t) after
 
 pub parts_from_use : (used : List ℕ) → used ≡ use_of (length used)
     → (take (min (length used) 32) used ≡ take (min (length used) 32) developer) × (drop (min (length used) 32) used ≡ replicate (length used - 32) 0)
@@ -98,14 +98,14 @@ parts_from_use used e =
     (ap (take m) e ∙ take_at (take m developer) z m len, ap (drop m) e ∙ drop_at (take m developer) z m len)
 
 -- the test of an implementation use
-pub use_tested : (used id behind : List ℕ) (m : ℕ) (r : Bool) → m ≡ min (length used) 32 → id ≡ take m used → behind ≡ drop m used
-    → behind ≡ replicate (length behind) 0 → r ≡ bytes_eq id (take m developer) → IsTrue r ↔ (used ≡ use_of (length used))
-use_tested used id behind m r m-is id-is behind-is zeros tested =
+pub use_tested : (used id after : List ℕ) (m : ℕ) (r : Bool) → m ≡ min (length used) 32 → id ≡ take m used → after ≡ drop m used
+    → after ≡ replicate (length after) 0 → r ≡ bytes_eq id (take m developer) → IsTrue r ↔ (used ≡ use_of (length used))
+use_tested used id after m r m-is id-is after-is zeros tested =
     let decides = bytes_eq-Decides id (take m developer) in
     let front : id ≡ take (min (length used) 32) used = id-is ∙ ap (λ (n : ℕ). take n used) m-is in
     let known : take m developer ≡ take (min (length used) 32) developer = ap (λ (n : ℕ). take n developer) m-is in
-    let tail : behind ≡ drop (min (length used) 32) used = behind-is ∙ ap (λ (n : ℕ). drop n used) m-is in
-    let len : length behind ≡ length used - 32 = omega (arith, ap length tail, length-drop (min (length used) 32) used) in
+    let tail : after ≡ drop (min (length used) 32) used = after-is ∙ ap (λ (n : ℕ). drop n used) m-is in
+    let len : length after ≡ length used - 32 = omega (arith, ap length tail, length-drop (min (length used) 32) used) in
     let rest : drop (min (length used) 32) used ≡ replicate (length used - 32) 0 = sym tail ∙ zeros ∙ ap (λ (n : ℕ). replicate n 0) len in (
       λ so. use_from_parts used (sym front ∙ decides.0 (sym tested ∙ so) ∙ known) rest,
       λ e. tested ∙ decides.1 (front ∙ (parts_from_use used e).0 ∙ sym known),

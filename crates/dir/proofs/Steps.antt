@@ -20,18 +20,18 @@ bytes_front n bytes all i = elim (cases_lt i n) [
 ]
 
 -- how an end that was read is the one that the layout asks for
-end_read : (at : ℕ) (x : Identifier) (rest : List Identifier) (bytes behind : List ℕ) (number : ℕ)
+end_read : (at : ℕ) (x : Identifier) (rest : List Identifier) (bytes after : List ℕ) (number : ℕ)
     → length x.name ≡ name_size bytes → length bytes ≡ plain_size (name_size bytes) + use_size bytes → at < 2048 → at + length bytes ≤ 2048
     → ((y : Identifier) (r : List Identifier) → rest ≡ y ∷ r → length y.name ≤ 255)
-    → IsPadded at bytes behind → behind ≡ onward number (at + length bytes) rest
+    → IsPadded at bytes after → after ≡ onward number (at + length bytes) rest
     → (at + length bytes < 2048 → FitsInBlock (at + length bytes) rest)
     → identifier_end at x rest ≡ at + length bytes
-end_read at x [] bytes behind number len size inside room short p there stood =
+end_read at x [] bytes after number len size inside room short p there stood =
     elim p.lengthened [
       | inl none ↦ omega arith
       | inr long ↦ let few = long.next in absurd (omega (arith, ap length (there ∙ onward-nil number (at + length bytes))))
     ]
-end_read at x (y ∷ rest) bytes behind number len size inside room short p there stood =
+end_read at x (y ∷ rest) bytes after number len size inside room short p there stood =
     elim p.lengthened [
       | inl none ↦
           elim (cases_lt (at + length bytes) 2048) [
@@ -54,7 +54,7 @@ end_read at x (y ∷ rest) bytes behind number len size inside room short p ther
           let left : 2048 - (at + plain_size (length x.name)) ≡ use_size bytes = omega arith in
           let bounds = plain_bounds (length y.name) in
           let few = short y rest refl in
-          let next : name_size behind ≡ length y.name =
+          let next : name_size after ≡ length y.name =
           ap name_size (there ∙ onward-full number (at + length bytes) (y ∷ rest) whole) ∙ name_size-laid (number + 1) 0 y rest (omega arith) in
           let leave : stays (y ∷ rest) (2048 - (at + plain_size (length x.name))) ≡ false =
           ap (λ (n : ℕ). fits (plain_size (length y.name)) n) left ∙ ap (λ (n : ℕ). fits (plain_size n) (use_size bytes)) (sym next) ∙ long.left in
@@ -113,7 +113,7 @@ pub record Found (number at : ℕ) (bytes : List ℕ) (x : Identifier) (rest : L
   pub head : HasHead number (take (size_of bytes) bytes)
   pub says : identifier_in (take (size_of bytes) bytes) ≡ x
   pub padded : IsPadded at (take (size_of bytes) bytes) (drop (size_of bytes) bytes)
-  pub behind : drop (size_of bytes) bytes ≡ onward number (at + size_of bytes) rest
+  pub after : drop (size_of bytes) bytes ≡ onward number (at + size_of bytes) rest
   pub next : at + size_of bytes < 2048 → FitsInBlock (at + size_of bytes) rest
 
 -- how far an identifier of the layout is lengthened
@@ -128,23 +128,23 @@ more_cases at x rest = by (stays rest (2048 - (at + plain_size (length x.name)))
     by false e = inr (ap (λ (b : Bool). if b then at + plain_size (length x.name) else 2048) e, e)
 
 -- an identifier that is lengthened at all is lengthened by an EntityID or more, and another one comes after it
-lengthened_by : (number at more : ℕ) (x : Identifier) (rest : List Identifier) (bytes behind : List ℕ)
+lengthened_by : (number at more : ℕ) (x : Identifier) (rest : List Identifier) (bytes after : List ℕ)
     → at % 4 ≡ 0 → length x.name ≤ 255 → at < 2048 → FitsInBlock at (x ∷ rest)
     → ((y : Identifier) (r : List Identifier) → rest ≡ y ∷ r → length y.name ≤ 255)
     → more + (at + plain_size (length x.name)) ≡ 2048 → stays rest (2048 - (at + plain_size (length x.name))) ≡ false
     → length bytes ≡ plain_size (length x.name) + more → use_size bytes ≡ more
-    → behind ≡ laid (number + 1) 0 rest
-    → (more ≡ 0) ⊎ IsLengthened at bytes behind
-lengthened_by number at more x [] bytes behind at4 short inside stood next_short full leave len use_is there = absurd (cc)
-lengthened_by number at more x (y ∷ rest) bytes behind at4 short inside stood next_short full leave len use_is there =
+    → after ≡ laid (number + 1) 0 rest
+    → (more ≡ 0) ⊎ IsLengthened at bytes after
+lengthened_by number at more x [] bytes after at4 short inside stood next_short full leave len use_is there = absurd (cc)
+lengthened_by number at more x (y ∷ rest) bytes after at4 short inside stood next_short full leave len use_is there =
     let bounds = plain_bounds (length x.name) in
     let next = plain_bounds (length y.name) in
     let few = next_short y rest refl in
     let room : 0 + plain_size (length y.name) ≤ 2048 = omega arith in
-    let name : name_size behind ≡ length y.name = ap name_size there ∙ name_size-laid (number + 1) 0 y rest room in
+    let name : name_size after ≡ length y.name = ap name_size there ∙ name_size-laid (number + 1) 0 y rest room in
     let left : 2048 - (at + plain_size (length x.name)) ≡ more = omega arith in
-    let long : 38 ≤ length behind = omega (arith, ap length there, length-laid (number + 1) 0 y rest room) in
-    let lengthened : 32 ≤ more → IsLengthened at bytes behind = λ (some : 32 ≤ more). record {
+    let long : 38 ≤ length after = omega (arith, ap length there, length-laid (number + 1) 0 y rest room) in
+    let lengthened : 32 ≤ more → IsLengthened at bytes after = λ (some : 32 ≤ more). record {
       some = omega arith;
       whole = omega arith;
       full = omega arith;
@@ -231,6 +231,6 @@ laid_found number at bytes x rest all in_range inside at4 f next_short there sto
               ]
         ];
       };
-      behind = two ∙ ap (λ (m : ℕ). onward number m rest) here;
+      after = two ∙ ap (λ (m : ℕ). onward number m rest) here;
       next = λ (lt : at + size_of bytes < 2048). subst (λ (m : ℕ). FitsInBlock m rest) here (stands_next at x rest (omega arith));
     }

@@ -64,12 +64,12 @@ pub record HasHead (number : ℕ) (bytes : List ℕ) : Type 0 where
 
 -- an implementation use lengthens the identifier at a place to its block's end, since what comes after it was not
 -- put into the block
-pub record IsLengthened (at : ℕ) (bytes behind : List ℕ) : Type 0 where
+pub record IsLengthened (at : ℕ) (bytes after : List ℕ) : Type 0 where
   pub some : 32 ≤ use_size bytes
   pub whole : use_size bytes % 4 ≡ 0
   pub full : at + length bytes ≡ BLOCK_BYTES
-  pub next : 38 ≤ length behind
-  pub left : fits (plain_size (name_size behind)) (use_size bytes) ≡ false
+  pub next : 38 ≤ length after
+  pub left : fits (plain_size (name_size after)) (use_size bytes) ≡ false
 
 -- the implementation use is one that lengthens by as many bytes
 abbrev pub IsUse : List ℕ → Type 0
@@ -81,10 +81,10 @@ HasZeros bytes =
     drop (38 + use_size bytes + name_size bytes) bytes ≡ replicate (length bytes - (38 + use_size bytes + name_size bytes)) 0
 
 -- implementation use and padding are those of the layout
-pub record IsPadded (at : ℕ) (bytes behind : List ℕ) : Type 0 where
+pub record IsPadded (at : ℕ) (bytes after : List ℕ) : Type 0 where
   pub filled : IsUse bytes
   pub padding : HasZeros bytes
-  pub lengthened : (use_size bytes ≡ 0) ⊎ IsLengthened at bytes behind
+  pub lengthened : (use_size bytes ≡ 0) ⊎ IsLengthened at bytes after
 
 -- what an identifier can say
 pub record FitsIdentifier (x : Identifier) : Type 0 where

@@ -83,10 +83,10 @@ impl Fid<'_> {
 
     /// Whether implementation use and padding are as the layout has them, for an identifier at a
     /// place of its block and the data after it.
-    pub(crate) fn is_padded(&self, at: usize, behind: &[u8]) -> bool
+    pub(crate) fn is_padded(&self, at: usize, after: &[u8]) -> bool
         requires whole { IsWholeIdentifier self.now }
         requires room { at + length self.now.bytes.now ≤ BLOCK_BYTES }
-        ensures { IsTrue result ↔ IsPadded at self.now.bytes.now behind.now }
+        ensures { IsTrue result ↔ IsPadded at self.now.bytes.now after.now }
     {
         if !self.has_zeros() {
             return false;
@@ -97,7 +97,7 @@ impl Fid<'_> {
         if !self.has_use() {
             return false;
         }
-        self.is_lengthened(at, behind)
+        self.is_lengthened(at, after)
     }
 
     /// Whether the bytes after the name are zeros.
@@ -117,8 +117,8 @@ impl Fid<'_> {
     {
         let size = self.implementation_use.len();
         let id_size = size.min(32);
-        let (id, behind) = self.implementation_use.split_at(id_size);
-        if !are_zeros(behind) {
+        let (id, after) = self.implementation_use.split_at(id_size);
+        if !are_zeros(after) {
             return false;
         }
         let developer = EntityId::DEVELOPER.to_bytes();
@@ -127,10 +127,10 @@ impl Fid<'_> {
 
     /// Whether the implementation use reaches from a place to the block's end, and the identifier
     /// after it was not to be put into that block.
-    fn is_lengthened(&self, at: usize, behind: &[u8]) -> bool
+    fn is_lengthened(&self, at: usize, after: &[u8]) -> bool
         requires whole { IsWholeIdentifier self.now }
         requires room { at + length self.now.bytes.now ≤ BLOCK_BYTES }
-        ensures { IsTrue result ↔ IsLengthened at self.now.bytes.now behind.now }
+        ensures { IsTrue result ↔ IsLengthened at self.now.bytes.now after.now }
     {
         let size = self.implementation_use.len();
         if size < 32 {
@@ -142,10 +142,10 @@ impl Fid<'_> {
         if at + self.bytes.len() != BLOCK_SIZE {
             return false;
         }
-        if behind.len() < HEAD_SIZE {
+        if after.len() < HEAD_SIZE {
             return false;
         }
-        !fits(plain_size(usize::from(behind[19])), size)
+        !fits(plain_size(usize::from(after[19])), size)
     }
 }
 
@@ -217,17 +217,17 @@ impl<'a> Fids<'a> {
         if !fits(size, BLOCK_SIZE - self.at) {
             return Err(DirFault::Span);
         }
-        let (bytes, behind) = data.split_at(size);
+        let (bytes, after) = data.split_at(size);
         let end = self.at + size;
         *self = if end == BLOCK_SIZE {
             Fids {
-                data: behind,
+                data: after,
                 at: 0,
                 index: self.index + 1,
             }
         } else {
             Fids {
-                data: behind,
+                data: after,
                 at: end,
                 index: self.index,
             }

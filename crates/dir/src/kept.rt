@@ -84,7 +84,7 @@ impl Identifiers {
         requires there { index < length dir.now.entries.entries }
         ensures front { IsIdentifierPrefix self.new (remove dir.now.entries.entries index) }
         ensures within { index < self.old.count → self.new.count + 1 ≡ self.old.count }
-        ensures behind { self.old.count ≤ index → self.new.count ≡ self.old.count }
+        ensures after { self.old.count ≤ index → self.new.count ≡ self.old.count }
     {
         if index >= self.count {
             return;

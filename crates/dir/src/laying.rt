@@ -43,7 +43,7 @@ pub struct Lay<'a> {
 }
 
 impl<'a> Lay<'a> {
-    ghost use Rattle.std.specs.Prelude.{◌≡◌, ◌≤◌, ◌-◌, ◌+◌, ◌++◌, [], ◌∷◌, length, take, drop, replicate, slice_get, Some, IfSome, IsTrue, MatchOption, false};
+    ghost use Rattle.std.specs.Prelude.{◌≡◌, ◌≤◌, ◌-◌, ◌+◌, ◌++◌, [], ◌∷◌, length, take, drop, replicate, slice_get, Some, IfSome, IsTrue, MatchOption, IfNone, false};
     ghost use Rattle.std.specs.Option.{option_map};
     ghost use Rattle.ecma.specs.Numbers.{u16_at};
     ghost use Rattle.dir.specs.Directory.{directory_blocks, identifiers_of};
@@ -90,6 +90,7 @@ impl<'a> Lay<'a> {
     /// The next block, or `None` after the last.
     pub fn next_block(&mut self) -> Option<Block>
         ensures next { MatchOption result (blocks_left self.old ≡ []) (λ block. blocks_left self.old ≡ block ∷ blocks_left self.new) }
+        ensures ended { IfNone result (blocks_left self.new ≡ []) }
         // It begins with an identifier's tag, and so is no file entry.
         ensures tag { IfSome result (λ block. u16_at 0 block ≡ 257) }
     {
@@ -104,6 +105,8 @@ impl<'a> Lay<'a> {
     pub fn next_into(&mut self, block: &mut Block) -> bool
         ensures some { IsTrue result → blocks_left self.old ≡ block.new ∷ blocks_left self.new }
         ensures none { result ≡ false → blocks_left self.old ≡ [] }
+        ensures ended { result ≡ false → blocks_left self.new ≡ [] }
+        ensures stays { result ≡ false → block.new ≡ block.old }
         ensures tag { IsTrue result → u16_at 0 block.new ≡ 257 }
     {
         if self.item.is_none() {
@@ -117,7 +120,7 @@ impl<'a> Lay<'a> {
             };
             at = self.put(&item, at, block);
         }
-        clear_behind(block, at);
+        clear_after(block, at);
         self.number += 1;
         true
     }
@@ -139,14 +142,14 @@ impl<'a> Lay<'a> {
         let mut next = self.next;
         let mut kept = self.kept;
         while next < self.known {
-            let (one, behind) = kept.split_at(kept_size(kept));
+            let (one, after) = kept.split_at(kept_size(kept));
             let end = at + one.len();
-            if !fits(kept_size(behind), BLOCK_SIZE - end) {
+            if !fits(kept_size(after), BLOCK_SIZE - end) {
                 break;
             }
             relocate(self.number, &mut block[at..end]);
             at = end;
-            kept = behind;
+            kept = after;
             next += 1;
         }
         self.kept = kept;
@@ -174,10 +177,10 @@ impl<'a> Lay<'a> {
             Some(next) => !fits(plain_size(next.name.len()), BLOCK_SIZE - end),
             None => false,
         };
-        let behind = if full { BLOCK_SIZE } else { end };
-        let more = (behind - end) as u16;
-        item.write_from(kept, self.number, more, &mut block[at..behind]);
-        behind
+        let after = if full { BLOCK_SIZE } else { end };
+        let more = (after - end) as u16;
+        item.write_from(kept, self.number, more, &mut block[at..after]);
+        after
     }
 
     /// Goes past the next identifier, and gives its bytes for the block number 0 and not lengthened, if they are kept.
@@ -195,8 +198,8 @@ impl<'a> Lay<'a> {
         if next == 0 || next > self.known {
             return None;
         }
-        let (bytes, behind) = self.kept.split_at(plain_size(item.name.len()));
-        self.kept = behind;
+        let (bytes, after) = self.kept.split_at(plain_size(item.name.len()));
+        self.kept = after;
         Some(bytes)
     }
 }
@@ -227,7 +230,7 @@ fn copy_front(bytes: &[u8], into: &mut [u8])
 }
 
 /// Clears a block from a place on.
-fn clear_behind(block: &mut Block, at: usize)
+fn clear_after(block: &mut Block, at: usize)
     requires { at ≤ BLOCK_BYTES }
     ensures { block.new ≡ take at block.old ++ replicate (BLOCK_BYTES - at) 0 }
 {

@@ -48,6 +48,6 @@ fn ends_in_zeros(blocks: &[Block], size: usize) -> bool
     requires { size ≤ BLOCK_BYTES * length blocks.now }
     ensures { IsTrue result ↔ (drop size (concat blocks.now) ≡ replicate (BLOCK_BYTES * length blocks.now - size) 0) }
 {
-    let (_, behind) = blocks.as_flattened().split_at(size);
-    are_zeros(behind)
+    let (_, after) = blocks.as_flattened().split_at(size);
+    are_zeros(after)
 }

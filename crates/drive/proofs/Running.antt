@@ -85,10 +85,10 @@ module _ (at d : ℕ) (all p : List (List ℕ)) (le : d + length p ≤ length al
   packet_broken k r q = runs_as (take-append-drop (d + length p) all) (runs_longer (drop (d + length p) all) (packet_runs k r q))
 
 -- what is left of two lists after the first
-drop_behind : (first second : List (List ℕ)) (d : ℕ) → length first ≤ d → drop d (first ++ second) ≡ drop (d - length first) second
-drop_behind [] second d h = ap (λ n. drop n second) (let same : d ≡ d - 0 = omega arith in same)
-drop_behind (b ∷ first) second zero h = absurd (omega (arith, h))
-drop_behind (b ∷ first) second (suc d) h = drop_behind first second d (omega (arith, h)) ∙ ap (λ n. drop n second) (let same : d - length first ≡ suc d - length (b ∷ first) = omega arith in same)
+drop_after : (first second : List (List ℕ)) (d : ℕ) → length first ≤ d → drop d (first ++ second) ≡ drop (d - length first) second
+drop_after [] second d h = ap (λ n. drop n second) (let same : d ≡ d - 0 = omega arith in same)
+drop_after (b ∷ first) second zero h = absurd (omega (arith, h))
+drop_after (b ∷ first) second (suc d) h = drop_after first second d (omega (arith, h)) ∙ ap (λ n. drop n second) (let same : d - length first ≡ suc d - length (b ∷ first) = omega arith in same)
 
 take_own : (n : ℕ) (bs : List (List ℕ)) → take n bs ≡ take (length (take n bs)) bs
 take_own zero bs = refl
@@ -96,9 +96,9 @@ take_own (suc n) [] = refl
 take_own (suc n) (b ∷ bs) = ap (λ (cs : List (List ℕ)). b ∷ cs) (take_own n bs)
 
 -- a packet of the second list
-pub packet_behind : (first second : List (List ℕ)) (d n : ℕ) → length first ≤ d → take n (drop (d - length first) second) ≡ take (length (take n (drop (d - length first) second))) (drop d (first ++ second))
-packet_behind first second d n h =
-    take_own n (drop (d - length first) second) ∙ ap (λ (bs : List (List ℕ)). take (length (take n (drop (d - length first) second))) bs) (sym (drop_behind first second d h))
+pub packet_after : (first second : List (List ℕ)) (d n : ℕ) → length first ≤ d → take n (drop (d - length first) second) ≡ take (length (take n (drop (d - length first) second))) (drop d (first ++ second))
+packet_after first second d n h =
+    take_own n (drop (d - length first) second) ∙ ap (λ (bs : List (List ℕ)). take (length (take n (drop (d - length first) second))) bs) (sym (drop_after first second d h))
 
 -- the last write has more
 pub longer_last : (writes : List (List (List ℕ))) (write more : List (List ℕ)) → longer (writes ++ write ∷ []) more ≡ writes ++ (write ++ more) ∷ []

@@ -11,7 +11,7 @@ use Rattle.durability.specs.Volume.{Medium, partition_start, graph_of, IsStoredA
 use Rattle.durability.specs.Step.{Moves, CarriesOut}
 use Rattle.durability.proofs.Lists.{side, get-append, get_past, take_past}
 use Rattle.durability.proofs.Mediums.{Before, none-take, within, stands_more, stood_less, past_both}
-use Rattle.durability.proofs.History.{cut, none_behind, before, cut_same, commits_of}
+use Rattle.durability.proofs.History.{cut, none_after, before, cut_same, commits_of}
 use Rattle.durability.proofs.Stored.{stored_one, stored_more}
 use Rattle.durability.proofs.Trees.{Made, made_after, few_after}
 
@@ -107,7 +107,7 @@ module _ (formats : Formats) (capacity volume : ℕ) where
           before formats capacity volume B S stands,
           omega (arith, stands.last.is.0),
           omega (arith, stands.tells.commits, out.commits),
-          stood_less formats capacity volume T steps (cut formats capacity volume B S stands) (drop (stands.at + 1) B) (none_behind formats capacity volume B S stands)
+          stood_less formats capacity volume T steps (cut formats capacity volume B S stands) (drop (stands.at + 1) B) (none_after formats capacity volume B S stands)
               (subst (λ (M : Medium). RecoveredBefore formats steps capacity volume M T) (sym (take-append-drop (stands.at + 1) B)) stood),
         ) in (
           record {

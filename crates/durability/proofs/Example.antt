@@ -2,6 +2,7 @@
 use Rattle.std.proofs.Common.{◌≡◌, ◌⊎◌, inl, inr, ℕ, zero, suc, ◌+◌, ◌-◌, ◌≤◌, Bool, true, false, List, [], ◌∷◌, length, get_or, replicate, slice_get, count_by, Some, refl, sym, ◌∙◌, ap, arith}
 use Rattle.std.specs.Prelude.{is_some}
 use Rattle.std.proofs.lemmas.Bool.{true≢false}
+use Rattle.limits.specs.declared.TheConstants.{ADDRESSES}
 use Rattle.model.specs.Graph.{Entry}
 use Rattle.model.specs.Session.{after_one, formatted}
 use Rattle.model.proofs.Fresh.{sound_fresh, no_files, one_directory}
@@ -52,7 +53,7 @@ bounded = record {
     all : (t u : Table_) → t ≡ u → count_by is_some u.entries ≡ 1 + (u.files + u.directories) → count_by is_some t.entries ≡ 1 + (t.files + t.directories)
     all t u e a = rw e a
 
-    few : (t u : Table_) → t ≡ u → 1 + (u.files + u.directories) ≤ length u.entries → length u.entries ≤ 4097 → (1 + (t.files + t.directories) ≤ length t.entries) × (length t.entries ≤ 4097)
+    few : (t u : Table_) → t ≡ u → 1 + (u.files + u.directories) ≤ length u.entries → length u.entries ≤ ADDRESSES → (1 + (t.files + t.directories) ≤ length t.entries) × (length t.entries ≤ ADDRESSES)
     few t u e a b = rw e (a, b)
 
 is_table : Kind → Bool

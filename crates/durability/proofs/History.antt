@@ -32,15 +32,15 @@ module _ (formats : Formats) where
     size : length cut ≡ stands.at + 1
     size = length-take-le (stands.at + 1) B (omega (arith, inside))
 
-    pub none_behind : NoneImitates formats (length cut) (drop (stands.at + 1) B)
-    none_behind = none_from formats (length cut) (drop (stands.at + 1) B)
+    pub none_after : NoneImitates formats (length cut) (drop (stands.at + 1) B)
+    none_after = none_from formats (length cut) (drop (stands.at + 1) B)
         (λ j b e t. stands.last.no_later (length cut + j) b (omega (arith, size)) (ap (λ n. slice_get B n) (let k : length cut + j ≡ (stands.at + 1) + j = omega (arith, size) in k) ∙ sym (get-drop (stands.at + 1) B j) ∙ e) t)
 
     abbrev pub before : LastTable formats cut
     before = record {
       at = stands.at;
       block = stands.block;
-      last = last_less formats cut (drop (stands.at + 1) B) none_behind stands.at stands.block (subst (λ (M : Medium). IsLast formats M stands.at stands.block) (sym (take-append-drop (stands.at + 1) B)) stands.last);
+      last = last_less formats cut (drop (stands.at + 1) B) none_after stands.at stands.block (subst (λ (M : Medium). IsLast formats M stands.at stands.block) (sym (take-append-drop (stands.at + 1) B)) stands.last);
       table = stands.tells.table;
       moment = S.moment;
       has = subst (λ (M : Medium). HasTable formats M stands.at stands.block stands.tells.table S.moment) (sym (take-take stands.at (stands.at + 1) B (omega arith))) stands.tells.has;

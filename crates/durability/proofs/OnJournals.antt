@@ -51,20 +51,20 @@ module _ (formats : Formats) (capacity volume : ℕ) where
       → (stands : RecoversTo formats capacity volume (held J) S) → IsPlanned formats capacity volume (held J) S stands r blocks mark
       → (writes : List (List Block)) (left : List Block) → LastIsAlone blocks mark writes → IsLeft writes left → J' ≡ J ++ written (length J) left
       → Advances formats capacity volume J S J' S ⊎ ((left ≡ blocks ++ mark ∷ []) × Advances formats capacity volume J S J' (after_one S r))
-  torn_advances exact bounded distinct J J' S r blocks mark once stands plan writes left are is behind =
+  torn_advances exact bounded distinct J J' S r blocks mark once stands plan writes left are is afterwards =
       elim (commit_torn formats distinct exact bounded capacity volume (held J) S stands r blocks mark plan writes left are is) [
         | inl stays ↦ inl (with_moves S stays)
         | inr whole ↦ inr (whole.0, with_moves (after_one S r) whole.1)
       ]
     where
       all : AddsPrefix J (length J) left J'
-      all = subst (λ (K : List Event). AddsPrefix J (length J) left K) (sym behind) (front_whole J (length J) left)
+      all = subst (λ (K : List Event). AddsPrefix J (length J) left K) (sym afterwards) (front_whole J (length J) left)
 
       with_moves : (S' : State) → Moves formats capacity volume (held J) S (held J ++ left) S' → Advances formats capacity volume J S J' S'
       with_moves S' moves = record {
         front = front_keeps J J' (length J) left all;
         once = front_once J J' (length J) left once (let same : length J ≡ length J = omega arith in same) all;
-        moves = subst (λ (M : List Block). Moves formats capacity volume (held J) S M S') (sym (held_write J J' (length J) left once (let same : length J ≡ length J = omega arith in same) behind)) moves;
+        moves = subst (λ (M : List Block). Moves formats capacity volume (held J) S M S') (sym (held_write J J' (length J) left once (let same : length J ≡ length J = omega arith in same) afterwards)) moves;
       }
 
   -- what holds on the blocks of a journal holds at its prefixes

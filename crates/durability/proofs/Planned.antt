@@ -33,7 +33,7 @@ use Rattle.durability.specs.Plan.{zeros, packed, Writing, Written, WritesNodes, 
 use Rattle.durability.proofs.Commits.{keeps, reached_used}
 use Rattle.durability.proofs.Mediums.{within, none-append}
 use Rattle.durability.proofs.Stored.{stored_one}
-use Rattle.durability.proofs.Tables.{IsNotGone, IsNotWritten, AreApart, longer_by, length_longer, length_inside, lead_behind, same_behind, unused_least, least_within, full_table, open_table}
+use Rattle.durability.proofs.Tables.{IsNotGone, IsNotWritten, AreApart, longer_by, length_longer, length_inside, lead_after, same_after, unused_least, least_within, full_table, open_table}
 use Rattle.durability.proofs.Written.{AllIn, nodes_stored, placed_extent, none_nodes, none_placed}
 
 -- one name more at the end of a path
@@ -371,15 +371,15 @@ module _ (formats : Formats) (capacity volume : ℕ) (exact : AreExact formats) 
     abbrev graph' : Graph
     graph' = graph_of formats (B ++ blocks) W
 
-    keeps_behind : (address : ℕ) → IsNotNode address p.nodes → IsNotGone address p.gone → IsKeptUnder graph graph' address
-    keeps_behind address unnode ungone =
-        keeps formats capacity volume B blocks S stands W address (same_behind V p.written p.gone address (unwritten formats p.nodes start p.node_blocks p.written p.writes address unnode) ungone)
+    keeps_after : (address : ℕ) → IsNotNode address p.nodes → IsNotGone address p.gone → IsKeptUnder graph graph' address
+    keeps_after address unnode ungone =
+        keeps formats capacity volume B blocks S stands W address (same_after V p.written p.gone address (unwritten formats p.nodes start p.node_blocks p.written p.writes address unnode) ungone)
 
     laid : (gone : List ℕ) → p.gone ≡ gone → NodesApart (length V) p.nodes → Laid graph graph' p.nodes gone
     laid gone e apart = record {
       stored = subst (λ (bs : List Block). AllIn (graph_of formats (B ++ bs) W) p.nodes) (sym p.blocks_are)
-          (nodes_stored formats p.nodes B start p.node_blocks p.written p.table_blocks W low refl p.writes (lead_behind V p.written p.gone (written_apart formats p.nodes start p.node_blocks p.written (length V) p.writes apart)));
-      kept = λ address unnode ungone. keeps_behind address unnode (subst (λ gs. IsNotGone address gs) (sym e) ungone);
+          (nodes_stored formats p.nodes B start p.node_blocks p.written p.table_blocks W low refl p.writes (lead_after V p.written p.gone (written_apart formats p.nodes start p.node_blocks p.written (length V) p.writes apart)));
+      kept = λ address unnode ungone. keeps_after address unnode (subst (λ gs. IsNotGone address gs) (sym e) ungone);
     }
 
     -- how the table's length changes
@@ -498,7 +498,7 @@ module _ (formats : Formats) (capacity volume : ℕ) (exact : AreExact formats) 
               omega (arith, stands.tells.table_length, count, count_used, count_by-le-length is_some V));
           follows = record {
             done = λ e. absurd (other e);
-            refused = λ _ address reached. keeps_behind address (subst (λ ns. IsNotNode address ns) (sym none.0) tt) (subst (λ gs. IsNotGone address gs) (sym none.1) tt);
+            refused = λ _ address reached. keeps_after address (subst (λ ns. IsNotNode address ns) (sym none.0) tt) (subst (λ gs. IsNotGone address gs) (sym none.1) tt);
           };
         }
 
@@ -529,7 +529,7 @@ module _ (formats : Formats) (capacity volume : ℕ) (exact : AreExact formats) 
     table_length_is = ap (λ (V' : List (Option ℕ)). length V') table_entries ∙ size_W
 
     set_kept : slice_get W 0 ≡ slice_get V 0
-    set_kept = same_behind V p.written p.gone 0
+    set_kept = same_after V p.written p.gone 0
         (unwritten formats p.nodes start p.node_blocks p.written p.writes 0 (not_node_zero p.nodes (length V) settled.apart)) (not_gone_zero p.gone (length V) settled.gone)
 
     -- none of the blocks imitates

@@ -139,8 +139,8 @@ module _ (formats : Formats) (need : State → Request → ℕ) (drive volume : 
         rw (front, count) (moves.fronts k low high)
 
     -- from its end on the later run says it
-    behind : (k : ℕ) → length B1 ≤ k → k ≤ length B' → RecoversTo formats drive volume (take k B') (after S (take (c k - n) (effect.done ++ C1)))
-    behind k low high =
+    afterwards : (k : ℕ) → length B1 ≤ k → k ≤ length B' → RecoversTo formats drive volume (take k B') (after S (take (c k - n) (effect.done ++ C1)))
+    afterwards k low high =
         let least : n + length effect.done ≤ later.c k = omega (arith, later.at_start, later.never_falls (length B1) k low) in
         let count : c k - n ≡ length effect.done + (later.c k - (n + length effect.done)) = omega (arith, pick_high k (length B1) n (later.c k) low) in
         let same : after S (take (c k - n) (effect.done ++ C1)) ≡ after (after S effect.done) (take (later.c k - (n + length effect.done)) C1) =
@@ -196,7 +196,7 @@ module _ (formats : Formats) (need : State → Request → ℕ) (drive volume : 
         subst (λ m. Fits need volume (length B') (after S effect.done) m (n + length effect.done) ds rest later.marks later.counts C1) size later.fits,
       );
       front = (moves.more.0 ++ later.front.0, later.front.1 ∙ ap (λ (M : Medium). M ++ later.front.0) moves.more.1 ∙ append_assoc B moves.more.0 later.front.0);
-      stands = λ k low high. ⊎_elim (λ lt. inside k low lt) (λ ge. behind k ge high) (side k (length B1));
+      stands = λ k low high. ⊎_elim (λ lt. inside k low lt) (λ ge. afterwards k ge high) (side k (length B1));
       never_falls = λ j k le. grows j k le (side j (length B1)) (side k (length B1));
       at_start = starts (side (length B) (length B1));
       at_marks = subst (λ m. AtRisingMarks c (length B) (m ∷ later.marks) ((n + length effect.done) ∷ later.counts)) size

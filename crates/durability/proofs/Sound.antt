@@ -3,6 +3,7 @@ use Rattle.std.proofs.Common.{◌≡◌, ℕ, ◌+◌, ◌≤◌, List, length, 
 use Rattle.std.proofs.lemmas.List.{length-map}
 use Rattle.model.specs.Tree.{Path, Node, found_names, names_in, names_of}
 use Rattle.std.specs.FinMap.{get, len}
+use Rattle.limits.specs.declared.TheConstants.{DIRECTORY_NAMES}
 use Rattle.model.specs.Session.{State}
 use Rattle.model.specs.Graph.{Body, Entry, content_in}
 use Rattle.model.specs.Graph.Body.{Bytes, Entries}
@@ -13,12 +14,12 @@ use Rattle.durability.specs.Formats.NodePlace.{Nowhere, Extent, Inside}
 use Rattle.durability.specs.Volume.{Medium, HoldsDirectory, HoldsBody, extent, RecoversTo}
 
 module _ (formats : Formats) (bounded : AreBounded formats) where
-  few_entries : (M : Medium) (size : ℕ) (place : NodePlace) (parent : ℕ) (es : List Entry) → HoldsDirectory formats M size place parent es → length es ≤ 512
+  few_entries : (M : Medium) (size : ℕ) (place : NodePlace) (parent : ℕ) (es : List Entry) → HoldsDirectory formats M size place parent es → length es ≤ DIRECTORY_NAMES
   few_entries M size Nowhere parent es h = absurd h
   few_entries M size (Inside inside) parent es h = absurd h
   few_entries M size (Extent first) parent es h = bounded.names parent first size es (extent M first size) h.1
 
-  few_names : (M : Medium) (fields : NodeFields) (body : Body) → HoldsBody formats M fields body → length (names_in (content_in body)) ≤ 512
+  few_names : (M : Medium) (fields : NodeFields) (body : Body) → HoldsBody formats M fields body → length (names_in (content_in body)) ≤ DIRECTORY_NAMES
   few_names M fields (Bytes bytes) h = omega arith
   few_names M fields (Entries parent es) h = omega (arith, few_entries M fields.size fields.place parent es h.1, length-map es (λ (e : Entry). e.name))
 
@@ -37,8 +38,8 @@ module _ (formats : Formats) (bounded : AreBounded formats) where
         table = omega (arith, nodes.1, s.tells.table_length);
       }
     where
-      names : (path : Path) (o : Option Node) → get S.tree path ≡ o → length (found_names o) ≤ 512
+      names : (path : Path) (o : Option Node) → get S.tree path ≡ o → length (found_names o) ≤ DIRECTORY_NAMES
       names path None e = omega arith
       names path (Some node) e =
           let found = (s.tells.makes.reached path node).0 e in
-          subst (λ (n : Node). length (names_of n) ≤ 512) (sym found.4) (few_names (take s.at B) found.3.fields found.2.body found.3.body)
+          subst (λ (n : Node). length (names_of n) ≤ DIRECTORY_NAMES) (sym found.4) (few_names (take s.at B) found.3.fields found.2.body found.3.body)

@@ -129,11 +129,11 @@ gone_grows [] V = omega arith
 gone_grows (g ∷ gone) V = omega (arith, gone_grows gone (with_entry V g None), length_grows V g None)
 
 -- what was written is found in the table after, and all else as it was
-pub lead_behind : (V : List Entry) (written : List Written) (gone : List ℕ) → AreApart (length V) written → Lead (entries_after V written gone) written
-lead_behind V written gone apart = written_lead written (without_all V gone) (apart_more written (length V) (length (without_all V gone)) (gone_grows gone V) apart)
+pub lead_after : (V : List Entry) (written : List Written) (gone : List ℕ) → AreApart (length V) written → Lead (entries_after V written gone) written
+lead_after V written gone apart = written_lead written (without_all V gone) (apart_more written (length V) (length (without_all V gone)) (gone_grows gone V) apart)
 
-pub same_behind : (V : List Entry) (written : List Written) (gone : List ℕ) (address : ℕ) → IsNotWritten address written → IsNotGone address gone → slice_get (entries_after V written gone) address ≡ slice_get V address
-same_behind V written gone address unwritten kept = written_elsewhere written (without_all V gone) address unwritten ∙ gone_elsewhere gone V address kept
+pub same_after : (V : List Entry) (written : List Written) (gone : List ℕ) (address : ℕ) → IsNotWritten address written → IsNotGone address gone → slice_get (entries_after V written gone) address ≡ slice_get V address
+same_after V written gone address unwritten kept = written_elsewhere written (without_all V gone) address unwritten ∙ gone_elsewhere gone V address kept
 
 -- the least unused address has no used entry, and lies at the table's end at most
 unused_first : (V : List Entry) (number : ℕ) → slice_get V (used_first V) ≡ Some (Some number) → ⊥

@@ -190,13 +190,13 @@ module _ (formats : Formats) (distinct : AreDistinct formats) where
             subst (λ n. RecoveredTo formats capacity volume N n (after S (take j (first ++ second)))) count
             (subst (λ (T : State). RecoveredTo formats capacity volume N ((after S first).commits + i) T) state (s.later i (omega (arith, high, few, length-append first second))))
 
-    pub endures : (requests : List Request) (B : Medium) (S : State) (done : List Request) (behind : Medium) → RecoversTo formats capacity volume B S → AreTried formats capacity volume B S requests done behind
-        → Endures formats capacity volume B S done behind
-    endures [] B S done behind stands (none, same) =
+    pub endures : (requests : List Request) (B : Medium) (S : State) (done : List Request) (afterwards : Medium) → RecoversTo formats capacity volume B S → AreTried formats capacity volume B S requests done afterwards
+        → Endures formats capacity volume B S done afterwards
+    endures [] B S done afterwards stands (none, same) =
         rw (none, same) (subst (λ (M : Medium). Endures formats capacity volume B S [] M) (append-nil B) (endures_none B [] S stands tt))
-    endures (r ∷ requests) B S done behind stands (left, now, later, one, order, more) =
+    endures (r ∷ requests) B S done afterwards stands (left, now, later, one, order, more) =
         let f = tried B S r left now one in
-        rw order (endures_join B (B ++ left) behind S now later f (endures requests (B ++ left) (after S now) later behind f.stands more))
+        rw order (endures_join B (B ++ left) afterwards S now later f (endures requests (B ++ left) (after S now) later afterwards f.stands more))
 
     -- at any moment of commits in turn: the state after the first of them
     moments : (requests : List Request) (B : Medium) (S : State) (writes : List (List Block)) (left : List Block) → RecoversTo formats capacity volume B S → AreCommitted formats capacity volume B S requests writes
@@ -205,7 +205,7 @@ module _ (formats : Formats) (distinct : AreDistinct formats) where
         let empty : left ≡ [] = subst (λ (ws : List (List Block)). IsLeft ws left) none is in
         (0, omega arith, endures_none B left S stands (subst (λ (xs : List Block). NoneImitates formats (length B) xs) (sym empty) tt))
     moments (r ∷ requests) B S writes left stands (standing, blocks, mark, first, others, plan, are, order, more) is =
-        go (split_left first others left (subst (λ (ws : List (List Block)). IsLeft ws left) order is)) (λ rest behind. moments requests (B ++ (blocks ++ mark ∷ [])) (after_one S r) others rest whole.stands more behind)
+        go (split_left first others left (subst (λ (ws : List (List Block)). IsLeft ws left) order is)) (λ rest afterwards. moments requests (B ++ (blocks ++ mark ∷ [])) (after_one S r) others rest whole.stands more afterwards)
       where
         whole : Endures formats capacity volume B S (r ∷ []) (B ++ (blocks ++ mark ∷ []))
         whole = (mark_decides B S standing r blocks mark plan).2
@@ -217,8 +217,8 @@ module _ (formats : Formats) (distinct : AreDistinct formats) where
           | inl stays ↦ (0, omega arith, endures_same B left S stands stays)
           | inr all ↦ (1, omega arith, endures_one B left S r stands all.1)
         ]
-        go (inr (rest, e, behind)) later =
-            let l = later rest behind in
+        go (inr (rest, e, afterwards)) later =
+            let l = later rest afterwards in
             let all : (B ++ (blocks ++ mark ∷ [])) ++ rest ≡ B ++ left =
             append_assoc B (blocks ++ mark ∷ []) rest ∙ ap (λ (xs : List Block). B ++ (xs ++ rest)) (sym (joined_writes blocks mark first are)) ∙ ap (λ (xs : List Block). B ++ xs) (sym e) in (
               suc l.0,
@@ -244,9 +244,9 @@ module _ (formats : Formats) (distinct : AreDistinct formats) where
     pub answered_endure : (answered others : List Request) (B : Medium) (S : State) (first second : List (List Block)) (left : List Block) → RecoversTo formats capacity volume B S
         → AreCommitted formats capacity volume B S answered first → AreCommitted formats capacity volume (B ++ joined first) (after S answered) others second → IsLeft second left
         → (j : ℕ) × (j ≤ length others) × Endures formats capacity volume B S (answered ++ take j others) ((B ++ joined first) ++ left)
-    answered_endure answered others B S first second left stands before behind is =
+    answered_endure answered others B S first second left stands before afterwards is =
         let f = all_whole answered B S first stands before in
-        let s = moments others (B ++ joined first) (after S answered) second left f.stands behind is in
+        let s = moments others (B ++ joined first) (after S answered) second left f.stands afterwards is in
         (s.0, s.1, endures_join B (B ++ joined first) ((B ++ joined first) ++ left) S answered (take s.0 others) f s.2)
 
     -- ---- runs

@@ -23,11 +23,11 @@ last_left [] mark left (inl torn) = one_torn mark left torn
 last_left [] mark left (inr (rest, whole, none)) = inr (inr (whole ∙ ap (λ (xs : List Block). mark ∷ xs) none))
 last_left (write ∷ writes) mark left (inl torn) = inl (inl torn)
 last_left (write ∷ writes) mark left (inr (rest, whole, more)) =
-    let behind : (b : Block) → rest ≡ joined writes ++ b ∷ [] → left ≡ joined (write ∷ writes) ++ b ∷ [] =
+    let afterwards : (b : Block) → rest ≡ joined writes ++ b ∷ [] → left ≡ joined (write ∷ writes) ++ b ∷ [] =
     λ b e. whole ∙ ap (λ (xs : List Block). write ++ xs) e ∙ sym (append_assoc write (joined writes) (b ∷ [])) in
     elim (last_left writes mark rest more) [
       | inl part ↦ inl (inr (rest, whole, part))
-      | inr all ↦ elim all [ inl blank ↦ inr (inl (behind unwritten blank)) | inr is ↦ inr (inr (behind mark is)) ]
+      | inr all ↦ elim all [ inl blank ↦ inr (inl (afterwards unwritten blank)) | inr is ↦ inr (inr (afterwards mark is)) ]
     ]
 
 -- what is left is no longer than what was written
@@ -74,7 +74,7 @@ split_left [] others left is = inr (left, refl, is)
 split_left (write ∷ writes) others left (inl torn) = inl (inl torn)
 split_left (write ∷ writes) others left (inr (rest, whole, more)) = elim (split_left writes others rest more) [
   | inl part ↦ inl (inr (rest, whole, part))
-  | inr behind ↦ inr (behind.0, whole ∙ ap (λ (xs : List Block). write ++ xs) behind.1 ∙ sym (append_assoc write (joined writes) behind.0), behind.2)
+  | inr afterwards ↦ inr (afterwards.0, whole ∙ ap (λ (xs : List Block). write ++ xs) afterwards.1 ∙ sym (append_assoc write (joined writes) afterwards.0), afterwards.2)
 ]
 
 -- after writes that are whole

@@ -126,9 +126,9 @@ module _ (formats : Formats) where
     pub none_placed : (bytes : List ℕ) (from first : ℕ) (blocks : List Block) (at : ℕ) → at ≡ from + partition_start → IsPlaced formats bytes from first blocks → NoneImitates formats at blocks
     none_placed bytes from first blocks at is placed =
         let gap : List Block = replicate (first - from) zeros in
-        let behind : first + partition_start ≡ at + length gap = omega (arith, placed.start.low, length-replicate (first - from) zeros) in
+        let afterwards : first + partition_start ≡ at + length gap = omega (arith, placed.start.low, length-replicate (first - from) zeros) in
         subst (λ (xs : List Block). NoneImitates formats at xs) (sym placed.whole)
-        (none-append formats at gap (packed bytes) (none_zeros (first - from) at) (subst (λ n. NoneImitates formats n (packed bytes)) behind placed.start.clear))
+        (none-append formats at gap (packed bytes) (none_zeros (first - from) at) (subst (λ n. NoneImitates formats n (packed bytes)) afterwards placed.start.clear))
 
     none_all : (blocks : List Block) (at : ℕ) → ((block : Block) → (k : ℕ) → slice_get blocks k ≡ Some block → (location : ℕ) (fields : NodeFields) → formats.IsEntry fields block location → ⊥) → NoneImitates formats at blocks
     none_all [] at h = tt

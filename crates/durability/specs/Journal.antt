@@ -9,15 +9,15 @@ use Rattle.durability.specs.Runs.{Delivery, Answer, Holds}
 
 module _ (formats : Formats) where
   -- The journal goes on from the one before, each address once. At each prefix before its end the old state is recovered, at its end the new one.
-  pub record Advances (capacity volume : ℕ) (before : List Event) (S : State) (behind : List Event) (S' : State) : Type 0 where
-    pub front : take (length before) behind ≡ before
-    pub once : Once behind
-    pub moves : Moves formats capacity volume (held before) S (held behind) S'
+  pub record Advances (capacity volume : ℕ) (before : List Event) (S : State) (afterwards : List Event) (S' : State) : Type 0 where
+    pub front : take (length before) afterwards ≡ before
+    pub once : Once afterwards
+    pub moves : Moves formats capacity volume (held before) S (held afterwards) S'
 
   -- The headline on a journal: at each prefix of what was written what is recovered is the state after the first of the committed requests.
-  pub record HoldsOnJournal (need : State → Request → ℕ) (drive volume : ℕ) (S : State) (before behind : List Event) (deliveries : List Delivery) (answers : List Answer) : Type 0 where
-    pub front : take (length before) behind ≡ before
-    pub once : Once behind
-    pub holds : Holds formats need drive volume S (held before) (held behind) deliveries answers
-    pub stands : (k : ℕ) → length before ≤ k → k ≤ length behind
-        → (holds.c k ≤ length holds.committed) × RecoversTo formats drive volume (held (take k behind)) (after S (take (holds.c k) holds.committed))
+  pub record HoldsOnJournal (need : State → Request → ℕ) (drive volume : ℕ) (S : State) (before afterwards : List Event) (deliveries : List Delivery) (answers : List Answer) : Type 0 where
+    pub front : take (length before) afterwards ≡ before
+    pub once : Once afterwards
+    pub holds : Holds formats need drive volume S (held before) (held afterwards) deliveries answers
+    pub stands : (k : ℕ) → length before ≤ k → k ≤ length afterwards
+        → (holds.c k ≤ length holds.committed) × RecoversTo formats drive volume (held (take k afterwards)) (after S (take (holds.c k) holds.committed))

@@ -123,21 +123,21 @@ module _ (formats : Formats) where
       × (answers ≡ option_to_list answer ++ rest) × (C ≡ effect.done ++ C1)
       × Runs need drive volume B1 (after S effect.done) ds rest C1 B' S'
 
-  -- The headline. The medium was `before` and is `behind`; each address was written once, in order, so a prefix of the journal is a prefix of the medium.
-  pub record Holds (need : State → Request → ℕ) (drive volume : ℕ) (S : State) (before behind : Medium) (deliveries : List Delivery) (answers : List Answer) : Type 0 where
+  -- The headline. The medium was `before` and is `afterwards`; each address was written once, in order, so a prefix of the journal is a prefix of the medium.
+  pub record Holds (need : State → Request → ℕ) (drive volume : ℕ) (S : State) (before afterwards : Medium) (deliveries : List Delivery) (answers : List Answer) : Type 0 where
     pub committed : List Request
     pub marks : List ℕ
     pub counts : List ℕ
     pub c : ℕ → ℕ
-    pub fits : Fits need volume (length behind) S (length before) 0 deliveries answers marks counts committed
+    pub fits : Fits need volume (length afterwards) S (length before) 0 deliveries answers marks counts committed
     pub new : AllNew S committed
     pub once : EachOnce committed
-    pub front : take (length before) behind ≡ before
-    pub stands : (k : ℕ) → length before ≤ k → k ≤ length behind → (c k ≤ length committed) × RecoversTo formats drive volume (take k behind) (after S (take (c k) committed))
+    pub front : take (length before) afterwards ≡ before
+    pub stands : (k : ℕ) → length before ≤ k → k ≤ length afterwards → (c k ≤ length committed) × RecoversTo formats drive volume (take k afterwards) (after S (take (c k) committed))
     pub never_falls : (j k : ℕ) → j ≤ k → c j ≤ c k
     pub at_start : c (length before) ≡ 0
     pub at_marks : AtMarks c marks counts
-    pub at_end : c (length behind) ≡ length committed
+    pub at_end : c (length afterwards) ≡ length committed
     -- what was recovered before is remembered, and so is each commit of the run
-    pub past : (k : ℕ) (T : State) → RecoveredTo formats drive volume before k T → RecoveredTo formats drive volume behind k T
-    pub later : (j : ℕ) → j ≤ length committed → RecoveredTo formats drive volume behind (S.commits + j) (after S (take j committed))
+    pub past : (k : ℕ) (T : State) → RecoveredTo formats drive volume before k T → RecoveredTo formats drive volume afterwards k T
+    pub later : (j : ℕ) → j ≤ length committed → RecoveredTo formats drive volume afterwards (S.commits + j) (after S (take j committed))

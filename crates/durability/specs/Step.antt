@@ -17,12 +17,12 @@ pub record FollowsRequest (graph graph' : Graph) (state : State) (request : Requ
 
 module _ (formats : Formats) where
   -- The medium goes on from the one before. At each prefix before its end the old state is recovered, at its end the new one.
-  pub record Moves (capacity volume : ℕ) (before : Medium) (S : State) (behind : Medium) (S' : State) : Type 0 where
-    pub more : (added : List Block) × (behind ≡ before ++ added)
-    pub fronts : (k : ℕ) → length before ≤ k → k < length behind → RecoversTo formats capacity volume (take k behind) S
-    pub ends : RecoversTo formats capacity volume behind S'
+  pub record Moves (capacity volume : ℕ) (before : Medium) (S : State) (afterwards : Medium) (S' : State) : Type 0 where
+    pub more : (added : List Block) × (afterwards ≡ before ++ added)
+    pub fronts : (k : ℕ) → length before ≤ k → k < length afterwards → RecoversTo formats capacity volume (take k afterwards) S
+    pub ends : RecoversTo formats capacity volume afterwards S'
     -- and what was recovered before is remembered
-    pub past : (commits : ℕ) (state : State) → RecoveredTo formats capacity volume before commits state → RecoveredTo formats capacity volume behind commits state
+    pub past : (commits : ℕ) (state : State) → RecoveredTo formats capacity volume before commits state → RecoveredTo formats capacity volume afterwards commits state
 
   -- The blocks of a commit, and its table entry after them, carry out the request at the recovered state.
   pub record CarriesOut (capacity volume : ℕ) (medium : Medium) (S : State) (stands : RecoversTo formats capacity volume medium S) (request : Request) (blocks : List Block) (mark : Block) : Type 0 where

@@ -17,12 +17,12 @@ module _ (formats : Formats) where
   RecoversToNothing medium = (capacity volume : ℕ) (S : State) → RecoversTo formats capacity volume medium S → ⊥
 
   -- The medium goes on from one that recovered to S, and holds what is left of these commits in turn. What is recovered is the state after those that are whole, and no other; what was recovered before is remembered, and so is each of these.
-  pub record Endures (capacity volume : ℕ) (before : Medium) (S : State) (done : List Request) (behind : Medium) : Type 0 where
-    pub more : (added : List Block) × (behind ≡ before ++ added)
-    pub stands : RecoversTo formats capacity volume behind (after S done)
-    pub alone : (other_capacity other_volume : ℕ) (T : State) → RecoversTo formats other_capacity other_volume behind T → T ≡ after S done
-    pub past : (commits : ℕ) (T : State) → RecoveredTo formats capacity volume before commits T → RecoveredTo formats capacity volume behind commits T
-    pub later : (j : ℕ) → j ≤ length done → RecoveredTo formats capacity volume behind (S.commits + j) (after S (take j done))
+  pub record Endures (capacity volume : ℕ) (before : Medium) (S : State) (done : List Request) (afterwards : Medium) : Type 0 where
+    pub more : (added : List Block) × (afterwards ≡ before ++ added)
+    pub stands : RecoversTo formats capacity volume afterwards (after S done)
+    pub alone : (other_capacity other_volume : ℕ) (T : State) → RecoversTo formats other_capacity other_volume afterwards T → T ≡ after S done
+    pub past : (commits : ℕ) (T : State) → RecoveredTo formats capacity volume before commits T → RecoveredTo formats capacity volume afterwards commits T
+    pub later : (j : ℕ) → j ≤ length done → RecoveredTo formats capacity volume afterwards (S.commits + j) (after S (take j done))
 
   -- A request at the recovered state is committed by its planned blocks, and so much is left of their writes; `done` has the request where that is all of them.
   pub record IsTried (capacity volume : ℕ) (medium : Medium) (S : State) (request : Request) (left : List Block) (done : List Request) : Type 0 where
@@ -38,10 +38,10 @@ module _ (formats : Formats) where
 
   -- Requests in turn, each begun where a state is recovered, after whatever is left of those before it; `done` has those that are there whole.
   abbrev pub AreTried : ℕ → ℕ → Medium → State → List Request → List Request → Medium → Type 0
-  AreTried capacity volume medium S [] done behind = (done ≡ []) × (behind ≡ medium)
-  AreTried capacity volume medium S (request ∷ requests) done behind =
+  AreTried capacity volume medium S [] done afterwards = (done ≡ []) × (afterwards ≡ medium)
+  AreTried capacity volume medium S (request ∷ requests) done afterwards =
       (left : List Block) × (now later : List Request) × IsTried capacity volume medium S request left now
-      × (done ≡ now ++ later) × AreTried capacity volume (medium ++ left) (after S now) requests later behind
+      × (done ≡ now ++ later) × AreTried capacity volume (medium ++ left) (after S now) requests later afterwards
 
   -- Requests in turn, each committed whole, and the writes of all of them.
   abbrev pub AreCommitted : ℕ → ℕ → Medium → State → List Request → List (List Block) → Type 0

@@ -20,9 +20,9 @@ concat_onto (p ∷ ps) rest = append_assoc p (concat ps) rest ∙ ap (λ (x : Li
 
 -- a text that is at a place, and what comes after it
 pub cut : (at next : ℕ) (text block rest : List ℕ) → next ≡ at + length text → IsAt at text block → drop next block ≡ rest → drop at block ≡ text ++ rest
-cut at next text block rest place stands behind =
+cut at next text block rest place stands after =
     let tail : drop (length text) (drop at block) ≡ drop next block = drop-drop (length text) at block ∙ ap (λ (n : ℕ). drop n block) (sym place) in
-    sym (take-append-drop (length text) (drop at block)) ∙ ap (λ (x : List ℕ). x ++ drop (length text) (drop at block)) stands ∙ ap (λ (x : List ℕ). text ++ x) (tail ∙ behind)
+    sym (take-append-drop (length text) (drop at block)) ∙ ap (λ (x : List ℕ). x ++ drop (length text) (drop at block)) stands ∙ ap (λ (x : List ℕ). text ++ x) (tail ∙ after)
 
 abbrev pub IsBytes : List ℕ → Type 0
 IsBytes bytes = (i : ℕ) → get_or bytes i 0 < 256

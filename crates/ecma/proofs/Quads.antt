@@ -157,12 +157,12 @@ quad_more p r first second s first-fits second-fits before reduced =
 
 -- ---- the first 32 bytes, by two of sixteen
 
-quad_first : (s second behind : List ℕ) → 32 ≤ length s → second ≡ drop 16 s → behind ≡ drop 16 second → s ≡ (sixteen s ++ sixteen second) ++ behind
-quad_first s second behind long cut cut-second =
+quad_first : (s second later : List ℕ) → 32 ≤ length s → second ≡ drop 16 s → later ≡ drop 16 second → s ≡ (sixteen s ++ sixteen second) ++ later
+quad_first s second later long cut cut-second =
     let length-second : length second ≡ length s - 16 = ap length cut ∙ length-drop 16 s in
     sixteen_first s (omega arith)
     ∙ ap (λ (x : List ℕ). sixteen s ++ x) (sym cut ∙ sixteen_first second (omega arith) ∙ ap (λ (x : List ℕ). sixteen second ++ x) (sym cut-second))
-    ∙ sym (append_assoc (sixteen s) (sixteen second) behind)
+    ∙ sym (append_assoc (sixteen s) (sixteen second) later)
 
 regrouped : (p first second : ℕ) → (p * 2 ^ 128 + first) * 2 ^ 128 + second ≡ p * 2 ^ 256 + (first * 2 ^ 128 + second)
 regrouped p first second = omega arith
@@ -172,9 +172,9 @@ quad_value s second front =
     ap polynomial (sym (append_assoc front (sixteen s) (sixteen second))) ∙ sixteen_more second (front ++ sixteen s)
     ∙ ap (λ (x : ℕ). x * 2 ^ 128 + big_number 16 second) (sixteen_more s front) ∙ regrouped (polynomial front) (big_number 16 s) (big_number 16 second)
 
-pub quad_reckoned : (bytes rest second behind : List ℕ) (r s n m : ℕ) → 32 ≤ length rest → n ≡ big_number 16 rest → m ≡ big_number 16 second
-    → second ≡ drop 16 rest → behind ≡ drop 16 second
-    → ((p : ℕ) → IsRemainder p r → IsRemainder (p * 2 ^ 256 + (n * 2 ^ 128 + m)) s) → IsReckoned bytes rest r → IsReckoned bytes behind s
-quad_reckoned bytes rest second behind r s n m long read read-second cut cut-second =
-    reckoned 256 bytes rest behind (sixteen rest ++ sixteen second) r s (n * 2 ^ 128 + m) (quad_first rest second behind long cut cut-second)
+pub quad_reckoned : (bytes rest second later : List ℕ) (r s n m : ℕ) → 32 ≤ length rest → n ≡ big_number 16 rest → m ≡ big_number 16 second
+    → second ≡ drop 16 rest → later ≡ drop 16 second
+    → ((p : ℕ) → IsRemainder p r → IsRemainder (p * 2 ^ 256 + (n * 2 ^ 128 + m)) s) → IsReckoned bytes rest r → IsReckoned bytes later s
+quad_reckoned bytes rest second later r s n m long read read-second cut cut-second =
+    reckoned 256 bytes rest later (sixteen rest ++ sixteen second) r s (n * 2 ^ 128 + m) (quad_first rest second later long cut cut-second)
     (λ front. rw (read, read-second) (quad_value rest second front))

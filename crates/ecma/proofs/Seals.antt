@@ -18,12 +18,12 @@ cells id sum crc len loc body =
 pub sealed_is : (id loc : ℕ) (bytes body : List ℕ) → IsBytes bytes → Sealed id loc bytes → drop 16 bytes ≡ body
     → bytes ≡ tag_cells id (crc_of body) (length body) loc ++ body
 unfolding cells
-sealed_is id loc bytes body fits s behind =
+sealed_is id loc bytes body fits s after =
     let long = s.long in
     let crc_is : u16_at 8 bytes ≡ crc_of body =
-    IsCrc-unique (drop 16 bytes) _ _ s.crc (IsCrc-crc_of (drop 16 bytes) (λ i. rw get_or-drop (fits (16 + i)))) ∙ ap crc_of behind in
-    let len_is : u16_at 10 bytes ≡ length body = s.crc_length ∙ sym (length-drop 16 bytes) ∙ ap length behind in
-    let p12 = cut 12 16 (to_le_bytes w32 loc) bytes body refl (u32_stands 12 bytes loc fits (omega arith) s.location) behind in
+    IsCrc-unique (drop 16 bytes) _ _ s.crc (IsCrc-crc_of (drop 16 bytes) (λ i. rw get_or-drop (fits (16 + i)))) ∙ ap crc_of after in
+    let len_is : u16_at 10 bytes ≡ length body = s.crc_length ∙ sym (length-drop 16 bytes) ∙ ap length after in
+    let p12 = cut 12 16 (to_le_bytes w32 loc) bytes body refl (u32_stands 12 bytes loc fits (omega arith) s.location) after in
     let p10 = cut 10 12 (to_le_bytes w16 (length body)) bytes _ refl (u16_stands 10 bytes (length body) fits (omega arith) len_is) p12 in
     let p8 = cut 8 10 (to_le_bytes w16 (crc_of body)) bytes _ refl (u16_stands 8 bytes (crc_of body) fits (omega arith) crc_is) p10 in
     let p6 = cut 6 8 (to_le_bytes w16 1) bytes _ refl (u16_stands 6 bytes 1 fits (omega arith) s.serial) p8 in

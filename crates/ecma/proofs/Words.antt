@@ -228,14 +228,14 @@ all_reckoned bytes [] r none so_far = rw (so_far.whole, append-nil) so_far.remai
 all_reckoned bytes (byte ∷ rest) r none so_far = absurd (omega arith)
 
 -- with so many bytes more, as one number
-pub reckoned : (k : ℕ) (bytes rest behind first : List ℕ) (r s number : ℕ) → rest ≡ first ++ behind
+pub reckoned : (k : ℕ) (bytes rest after first : List ℕ) (r s number : ℕ) → rest ≡ first ++ after
     → ((front : List ℕ) → polynomial (front ++ first) ≡ polynomial front * 2 ^ k + number)
-    → ((p : ℕ) → IsRemainder p r → IsRemainder (p * 2 ^ k + number) s) → IsReckoned bytes rest r → IsReckoned bytes behind s
-reckoned k bytes rest behind first r s number cut value step so_far =
+    → ((p : ℕ) → IsRemainder p r → IsRemainder (p * 2 ^ k + number) s) → IsReckoned bytes rest r → IsReckoned bytes after s
+reckoned k bytes rest after first r s number cut value step so_far =
     let front = so_far.front in
     record {
       front = front ++ first;
-      whole = so_far.whole ∙ ap (λ (x : List ℕ). front ++ x) cut ∙ sym (append_assoc front first behind);
+      whole = so_far.whole ∙ ap (λ (x : List ℕ). front ++ x) cut ∙ sym (append_assoc front first after);
       remainder = subst (λ (p : ℕ). IsRemainder p s) (sym (value front)) (step (polynomial front) so_far.remainder);
     }
 
@@ -250,10 +250,10 @@ four_first _ long = absurd (omega arith)
 four_more : (s front : List ℕ) → polynomial (front ++ four s) ≡ polynomial front * 2 ^ 32 + big_number 4 s
 four_more s front = rw fold-append (omega arith)
 
-pub half_reckoned : (bytes rest behind : List ℕ) (r s number : ℕ) → 4 ≤ length rest → number ≡ big_number 4 rest → behind ≡ drop 4 rest
-    → ((p : ℕ) → IsRemainder p r → IsRemainder (p * 2 ^ 32 + number) s) → IsReckoned bytes rest r → IsReckoned bytes behind s
-half_reckoned bytes rest behind r s number long read cut =
-    reckoned 32 bytes rest behind (four rest) r s number (four_first rest long ∙ ap (λ (x : List ℕ). four rest ++ x) (sym cut))
+pub half_reckoned : (bytes rest after : List ℕ) (r s number : ℕ) → 4 ≤ length rest → number ≡ big_number 4 rest → after ≡ drop 4 rest
+    → ((p : ℕ) → IsRemainder p r → IsRemainder (p * 2 ^ 32 + number) s) → IsReckoned bytes rest r → IsReckoned bytes after s
+half_reckoned bytes rest after r s number long read cut =
+    reckoned 32 bytes rest after (four rest) r s number (four_first rest long ∙ ap (λ (x : List ℕ). four rest ++ x) (sym cut))
     (λ front. four_more rest front ∙ ap (λ (x : ℕ). polynomial front * 2 ^ 32 + x) (sym read))
 
 -- the first eight, one by one
@@ -267,10 +267,10 @@ eight_first _ long = absurd (omega arith)
 eight_more : (s front : List ℕ) → polynomial (front ++ eight s) ≡ polynomial front * 2 ^ 64 + big_number 8 s
 eight_more s front = rw fold-append (omega arith)
 
-pub word_reckoned : (bytes rest behind : List ℕ) (r s number : ℕ) → 8 ≤ length rest → number ≡ big_number 8 rest → behind ≡ drop 8 rest
-    → ((p : ℕ) → IsRemainder p r → IsRemainder (p * 2 ^ 64 + number) s) → IsReckoned bytes rest r → IsReckoned bytes behind s
-word_reckoned bytes rest behind r s number long read cut =
-    reckoned 64 bytes rest behind (eight rest) r s number (eight_first rest long ∙ ap (λ (x : List ℕ). eight rest ++ x) (sym cut))
+pub word_reckoned : (bytes rest after : List ℕ) (r s number : ℕ) → 8 ≤ length rest → number ≡ big_number 8 rest → after ≡ drop 8 rest
+    → ((p : ℕ) → IsRemainder p r → IsRemainder (p * 2 ^ 64 + number) s) → IsReckoned bytes rest r → IsReckoned bytes after s
+word_reckoned bytes rest after r s number long read cut =
+    reckoned 64 bytes rest after (eight rest) r s number (eight_first rest long ∙ ap (λ (x : List ℕ). eight rest ++ x) (sym cut))
     (λ front. eight_more rest front ∙ ap (λ (x : ℕ). polynomial front * 2 ^ 64 + x) (sym read))
 
 -- the first sixteen, one by one
@@ -285,10 +285,10 @@ sixteen_first _ long = absurd (omega arith)
 pub sixteen_more : (s front : List ℕ) → polynomial (front ++ sixteen s) ≡ polynomial front * 2 ^ 128 + big_number 16 s
 sixteen_more s front = rw fold-append (omega arith)
 
-pub pair_reckoned : (bytes rest behind : List ℕ) (r s number : ℕ) → 16 ≤ length rest → number ≡ big_number 16 rest → behind ≡ drop 16 rest
-    → ((p : ℕ) → IsRemainder p r → IsRemainder (p * 2 ^ 128 + number) s) → IsReckoned bytes rest r → IsReckoned bytes behind s
-pair_reckoned bytes rest behind r s number long read cut =
-    reckoned 128 bytes rest behind (sixteen rest) r s number (sixteen_first rest long ∙ ap (λ (x : List ℕ). sixteen rest ++ x) (sym cut))
+pub pair_reckoned : (bytes rest after : List ℕ) (r s number : ℕ) → 16 ≤ length rest → number ≡ big_number 16 rest → after ≡ drop 16 rest
+    → ((p : ℕ) → IsRemainder p r → IsRemainder (p * 2 ^ 128 + number) s) → IsReckoned bytes rest r → IsReckoned bytes after s
+pair_reckoned bytes rest after r s number long read cut =
+    reckoned 128 bytes rest after (sixteen rest) r s number (sixteen_first rest long ∙ ap (λ (x : List ℕ). sixteen rest ++ x) (sym cut))
     (λ front. sixteen_more rest front ∙ ap (λ (x : ℕ). polynomial front * 2 ^ 128 + x) (sym read))
 
 pub byte_reckoned : (bytes rest : List ℕ) (r s i : ℕ) → i < length rest → ((p : ℕ) → IsRemainder p r → IsRemainder (p * 2 ^ 8 + get_or rest i 0) s)

@@ -28,7 +28,7 @@ use Rattle.durability.proofs.Commits.{moves_front}
 use Rattle.udf.specs.Udf.{udf, spelled}
 use Rattle.udf.specs.Said.{model_record}
 use Rattle.store.specs.declared.store.Store.{Store}
-use Rattle.store.specs.Asked.{model_request, said_query}
+use Rattle.lookup.specs.Asked.{model_request, said_query}
 use Rattle.store.specs.Calls.{IsOpenOn, IsStillOpenOn, Applies, IsCommitDone, IsFailed, IsLeftUnwritten, Gets, Lists, Stats}
 use Rattle.engine.specs.Situation.{Situation, IsOpen, with_store}
 use Rattle.engine.specs.Answered.{due_of}
@@ -64,28 +64,28 @@ pub none_knows : (volume : ℕ) (S : State) (s : Situation) → s.store ≡ None
 none_knows volume S s none store here = absurd (none-some store (sym none ∙ here.0))
 
 module _ (volume : ℕ) where
-  quiet : (d : Delivery) (a : Option medium.Answer) (S : State) (before behind : Situation) → Row (need spelled) S (length before.journal) volume d a nothing
-      → Once before.journal → RecoversTo udf before.capacity volume (held before.journal) S → behind.journal ≡ before.journal → behind.capacity ≡ before.capacity
-      → ((store : Store) → IsOpen behind store → IsOpenOn behind.capacity volume behind.journal S store) → IsStep volume d S before a S behind
-  quiet d a S before behind row once stands journal capacity knows = record {
+  quiet : (d : Delivery) (a : Option medium.Answer) (S : State) (before afterwards : Situation) → Row (need spelled) S (length before.journal) volume d a nothing
+      → Once before.journal → RecoversTo udf before.capacity volume (held before.journal) S → afterwards.journal ≡ before.journal → afterwards.capacity ≡ before.capacity
+      → ((store : Store) → IsOpen afterwards store → IsOpenOn afterwards.capacity volume afterwards.journal S store) → IsStep volume d S before a S afterwards
+  quiet d a S before afterwards row once stands journal capacity knows = record {
     effect = nothing;
     row = row;
     blocks = omega (arith, ap (λ (J : List Event). length J) journal);
     state = refl;
     advances = subst (λ (J : List Event). Advances udf before.capacity volume before.journal S J S) (sym journal) (stay before.capacity volume before.journal S once stands);
     capacity = capacity;
-    at = record { once = subst Once (sym journal) once; stands = stands_there before behind volume S journal capacity stands; knows = knows };
+    at = record { once = subst Once (sym journal) once; stands = stands_there before afterwards volume S journal capacity stands; knows = knows };
   }
 
   -- a step from where nothing was written since
-  step_from : (d : Delivery) (a : Option medium.Answer) (S S' : State) (before during behind : Situation) → during.journal ≡ before.journal → during.capacity ≡ before.capacity
-      → IsStep volume d S during a S' behind → IsStep volume d S before a S' behind
-  step_from d a S S' before during behind journal capacity step = record {
+  step_from : (d : Delivery) (a : Option medium.Answer) (S S' : State) (before during afterwards : Situation) → during.journal ≡ before.journal → during.capacity ≡ before.capacity
+      → IsStep volume d S during a S' afterwards → IsStep volume d S before a S' afterwards
+  step_from d a S S' before during afterwards journal capacity step = record {
     effect = step.effect;
     row = subst (λ (J : List Event). Row (need spelled) S (length J) volume d a step.effect) journal step.row;
-    blocks = subst (λ (J : List Event). length behind.journal ≡ length J + step.effect.blocks) journal step.blocks;
+    blocks = subst (λ (J : List Event). length afterwards.journal ≡ length J + step.effect.blocks) journal step.blocks;
     state = step.state;
-    advances = subst (λ (c : ℕ). Advances udf c volume before.journal S behind.journal S') capacity (subst (λ (J : List Event). Advances udf during.capacity volume J S behind.journal S') journal step.advances);
+    advances = subst (λ (c : ℕ). Advances udf c volume before.journal S afterwards.journal S') capacity (subst (λ (J : List Event). Advances udf during.capacity volume J S afterwards.journal S') journal step.advances);
     capacity = step.capacity ∙ capacity;
     at = step.at;
   }
@@ -104,12 +104,12 @@ module _ (volume : ℕ) where
   short_due S mark capacity most r New a (inl e) = subst (λ (x : medium.Answer). AnswersNew S mark capacity most r x nothing) (sym e) (fails nothing (inl refl) (omega arith) (λ some. absurd (omega arith)))
   short_due S mark capacity most r New a (inr e) = subst (λ (x : medium.Answer). AnswersNew S mark capacity most r x nothing) (sym e) (no_memory nothing (refl, refl))
 
-  short_step : (d : Delivery) (S : State) (before : Situation) (a : Answer) (behind : Situation) → HoldsState volume S before → IsShort before a behind → Row (need spelled) S (length before.journal) volume d (Some (model_answer a)) nothing
-      → (S' : State) × IsStep volume d S before (Some (model_answer a)) S' behind
-  short_step d S before a behind at short row = (S, quiet d (Some (model_answer a)) S before behind row at.once at.stands short.journal short.capacity (none_knows volume S behind short.store))
+  short_step : (d : Delivery) (S : State) (before : Situation) (a : Answer) (afterwards : Situation) → HoldsState volume S before → IsShort before a afterwards → Row (need spelled) S (length before.journal) volume d (Some (model_answer a)) nothing
+      → (S' : State) × IsStep volume d S before (Some (model_answer a)) S' afterwards
+  short_step d S before a afterwards at short row = (S, quiet d (Some (model_answer a)) S before afterwards row at.once at.stands short.journal short.capacity (none_knows volume S afterwards short.store))
 
-  short_fails : (before : Situation) (a : Answer) (behind : Situation) → IsShort before a behind → MayFail (model_answer a)
-  short_fails before a behind short = may_fail failed refl refl short.refusal a short.shortage short.told
+  short_fails : (before : Situation) (a : Answer) (afterwards : Situation) → IsShort before a afterwards → MayFail (model_answer a)
+  short_fails before a afterwards short = may_fail failed refl refl short.refusal a short.shortage short.told
 
   -- ---- queries
 
@@ -145,7 +145,7 @@ module _ (volume : ℕ) where
 
   -- ---- requests
 
-  module _ (S : State) (r : Request) (during : Situation) (a : Answer) (behind : Situation) (new : due S r.client r.number ≡ New) where
+  module _ (S : State) (r : Request) (during : Situation) (a : Answer) (afterwards : Situation) (new : due S r.client r.number ≡ New) where
     abbrev delivery : Delivery
     delivery = medium.Delivery.Delivered (medium.Message.Asks r)
 
@@ -156,63 +156,63 @@ module _ (volume : ℕ) where
     new_row effect row = subst (λ (d : Due). AnswersDue S (length during.journal) volume (need spelled S r) r d (model_answer a) effect) (sym new) row
 
     -- the journal went on
-    moved : (done : List Request) (row : IsNew (record { done = done; blocks = length behind.journal - length during.journal })) → length during.journal ≤ length behind.journal
-        → Advances udf during.capacity volume during.journal S behind.journal (after S done) → behind.capacity ≡ during.capacity
-        → ((store : Store) → IsOpen behind store → IsOpenOn behind.capacity volume behind.journal (after S done) store) → IsStep volume delivery S during (Some (model_answer a)) (after S done) behind
+    moved : (done : List Request) (row : IsNew (record { done = done; blocks = length afterwards.journal - length during.journal })) → length during.journal ≤ length afterwards.journal
+        → Advances udf during.capacity volume during.journal S afterwards.journal (after S done) → afterwards.capacity ≡ during.capacity
+        → ((store : Store) → IsOpen afterwards store → IsOpenOn afterwards.capacity volume afterwards.journal (after S done) store) → IsStep volume delivery S during (Some (model_answer a)) (after S done) afterwards
     moved done row grows advances capacity knows = record {
-      effect = record { done = done; blocks = length behind.journal - length during.journal };
-      row = new_row (record { done = done; blocks = length behind.journal - length during.journal }) row;
+      effect = record { done = done; blocks = length afterwards.journal - length during.journal };
+      row = new_row (record { done = done; blocks = length afterwards.journal - length during.journal }) row;
       blocks = omega (arith, grows);
       state = refl;
       advances = advances;
       capacity = capacity;
-      at = record { once = advances.once; stands = subst (λ (c : ℕ). RecoversTo udf c volume (held behind.journal) (after S done)) (sym capacity) advances.moves.ends; knows = knows };
+      at = record { once = advances.once; stands = subst (λ (c : ℕ). RecoversTo udf c volume (held afterwards.journal) (after S done)) (sym capacity) advances.moves.ends; knows = knows };
     }
 
-    module _ (kept : Store) (store : behind.store ≡ Some kept) (capacity : behind.capacity ≡ during.capacity) where
-      knows_kept : (T : State) → IsStillOpenOn during.capacity volume behind.journal T kept → (x : Store) → IsOpen behind x → IsOpenOn behind.capacity volume behind.journal T x
-      knows_kept T still = kept_knows volume T behind kept store (subst (λ (c : ℕ). IsStillOpenOn c volume behind.journal T kept) (sym capacity) still)
+    module _ (kept : Store) (store : afterwards.store ≡ Some kept) (capacity : afterwards.capacity ≡ during.capacity) where
+      knows_kept : (T : State) → IsStillOpenOn during.capacity volume afterwards.journal T kept → (x : Store) → IsOpen afterwards x → IsOpenOn afterwards.capacity volume afterwards.journal T x
+      knows_kept T still = kept_knows volume T afterwards kept store (subst (λ (c : ℕ). IsStillOpenOn c volume afterwards.journal T kept) (sym capacity) still)
 
-      when_done : (reply : _) → IsCommitDone during.capacity volume during.journal S r reply behind.journal kept → a ≡ answer.Reply reply → (S' : State) × IsStep volume delivery S during (Some (model_answer a)) S' behind
+      when_done : (reply : _) → IsCommitDone during.capacity volume during.journal S r reply afterwards.journal kept → a ≡ answer.Reply reply → (S' : State) × IsStep volume delivery S during (Some (model_answer a)) S' afterwards
       when_done reply d is =
-          let effect : Effect = record { done = r ∷ []; blocks = length behind.journal - length during.journal } in
+          let effect : Effect = record { done = r ∷ []; blocks = length afterwards.journal - length during.journal } in
           let told_is : model_answer a ≡ medium.Answer.Replied (reply_to S r) = ap model_answer is ∙ ap (λ x. medium.Answer.Replied x) d.reply_is in
-          let row : IsNew (record { done = r ∷ []; blocks = length behind.journal - length during.journal }) =
-          subst (λ (x : medium.Answer). AnswersNew S (length during.journal) volume (need spelled S r) r x (record { done = r ∷ []; blocks = length behind.journal - length during.journal })) (sym told_is)
-          (committed (record { done = r ∷ []; blocks = length behind.journal - length during.journal }) refl (omega (arith, d.some)) (omega (arith, d.few)) d.room) in
+          let row : IsNew (record { done = r ∷ []; blocks = length afterwards.journal - length during.journal }) =
+          subst (λ (x : medium.Answer). AnswersNew S (length during.journal) volume (need spelled S r) r x (record { done = r ∷ []; blocks = length afterwards.journal - length during.journal })) (sym told_is)
+          (committed (record { done = r ∷ []; blocks = length afterwards.journal - length during.journal }) refl (omega (arith, d.some)) (omega (arith, d.few)) d.room) in
           (after S (r ∷ []), moved (r ∷ []) row (omega (arith, d.some)) d.advances capacity (knows_kept (after S (r ∷ [])) d.knows))
 
-      when_failed : IsFailed during.capacity volume during.journal S r behind.journal kept → a ≡ answer.Fault → length during.journal ≤ length behind.journal → (S' : State) × IsStep volume delivery S during (Some (model_answer a)) S' behind
+      when_failed : IsFailed during.capacity volume during.journal S r afterwards.journal kept → a ≡ answer.Fault → length during.journal ≤ length afterwards.journal → (S' : State) × IsStep volume delivery S during (Some (model_answer a)) S' afterwards
       when_failed f is grows =
           let told_is : model_answer a ≡ medium.Answer.Fault = ap model_answer is in
-          let row : IsNew (record { done = f.done; blocks = length behind.journal - length during.journal }) =
-          subst (λ (x : medium.Answer). AnswersNew S (length during.journal) volume (need spelled S r) r x (record { done = f.done; blocks = length behind.journal - length during.journal })) (sym told_is)
-          (fails (record { done = f.done; blocks = length behind.journal - length during.journal }) (whether f.whether) (omega (arith, f.few)) (λ some. f.room (omega (arith, some)))) in
+          let row : IsNew (record { done = f.done; blocks = length afterwards.journal - length during.journal }) =
+          subst (λ (x : medium.Answer). AnswersNew S (length during.journal) volume (need spelled S r) r x (record { done = f.done; blocks = length afterwards.journal - length during.journal })) (sym told_is)
+          (fails (record { done = f.done; blocks = length afterwards.journal - length during.journal }) (whether f.whether) (omega (arith, f.few)) (λ some. f.room (omega (arith, some)))) in
           (after S f.done, moved f.done row grows f.advances capacity (knows_kept (after S f.done) f.knows))
         where
-          whether : (f.done ≡ []) ⊎ ((f.done ≡ r ∷ []) × (length during.journal < length behind.journal)) → (f.done ≡ []) ⊎ ((f.done ≡ r ∷ []) × (1 ≤ length behind.journal - length during.journal))
+          whether : (f.done ≡ []) ⊎ ((f.done ≡ r ∷ []) × (length during.journal < length afterwards.journal)) → (f.done ≡ []) ⊎ ((f.done ≡ r ∷ []) × (1 ≤ length afterwards.journal - length during.journal))
           whether (inl none) = inl none
           whether (inr (one, some)) = inr (one, omega (arith, some))
 
-      when_left : Once during.journal → RecoversTo udf during.capacity volume (held during.journal) S → IsLeftUnwritten during.capacity volume during.journal S behind.journal kept → IsNew nothing → (S' : State) × IsStep volume delivery S during (Some (model_answer a)) S' behind
+      when_left : Once during.journal → RecoversTo udf during.capacity volume (held during.journal) S → IsLeftUnwritten during.capacity volume during.journal S afterwards.journal kept → IsNew nothing → (S' : State) × IsStep volume delivery S during (Some (model_answer a)) S' afterwards
       when_left once stands left row =
-          (S, quiet delivery (Some (model_answer a)) S during behind (new_row nothing row) once stands left.journal capacity (knows_kept S left.knows))
+          (S, quiet delivery (Some (model_answer a)) S during afterwards (new_row nothing row) once stands left.journal capacity (knows_kept S left.knows))
 
       as_new : (x : medium.Answer) (effect : Effect) → model_answer a ≡ x → AnswersNew S (length during.journal) volume (need spelled S r) r x effect → IsNew effect
       as_new x effect e row = subst (λ (y : medium.Answer). AnswersNew S (length during.journal) volume (need spelled S r) r y effect) (sym e) row
 
-      when_applied : Once during.journal → RecoversTo udf during.capacity volume (held during.journal) S → (result : _) → Applies during.capacity volume during.journal S r result behind.journal kept → a ≡ applied result
-          → (S' : State) × IsStep volume delivery S during (Some (model_answer a)) S' behind
+      when_applied : Once during.journal → RecoversTo udf during.capacity volume (held during.journal) S → (result : _) → Applies during.capacity volume during.journal S r result afterwards.journal kept → a ≡ applied result
+          → (S' : State) × IsStep volume delivery S during (Some (model_answer a)) S' afterwards
       when_applied once stands (Ok reply) d is = when_done reply d is
-      when_applied once stands (Err refusal) (inl (e, f)) is = when_failed f (is ∙ ap refused e) (front_grows during.journal behind.journal f.advances.front)
+      when_applied once stands (Err refusal) (inl (e, f)) is = when_failed f (is ∙ ap refused e) (front_grows during.journal afterwards.journal f.advances.front)
       when_applied once stands (Err refusal) (inr (inl (e, left))) is = when_left once stands left (as_new medium.Answer.Memory nothing (ap model_answer (is ∙ ap refused e)) (no_memory nothing (refl, refl)))
       when_applied once stands (Err refusal) (inr (inr (e, left, over))) is = when_left once stands left (as_new medium.Answer.Full nothing (ap model_answer (is ∙ ap refused e)) (full nothing (refl, refl) over))
 
   -- a request for which another thing is due
-  settled : (S : State) (r : Request) (during : Situation) (store : Store) (a : Answer) (behind : Situation) → IsOpenOn during.capacity volume during.journal S store → behind ≡ with_store (Some store) during
+  settled : (S : State) (r : Request) (during : Situation) (store : Store) (a : Answer) (afterwards : Situation) → IsOpenOn during.capacity volume during.journal S store → afterwards ≡ with_store (Some store) during
       → AnswersDue S (length during.journal) volume (need spelled S r) r (due S r.client r.number) (model_answer a) nothing
-      → IsStep volume (medium.Delivery.Delivered (medium.Message.Asks r)) S during (Some (model_answer a)) S behind
-  settled S r during store a behind knows same row =
+      → IsStep volume (medium.Delivery.Delivered (medium.Message.Asks r)) S during (Some (model_answer a)) S afterwards
+  settled S r during store a afterwards knows same row =
       subst (λ (s : Situation). IsStep volume (medium.Delivery.Delivered (medium.Message.Asks r)) S during (Some (model_answer a)) S s) (sym same)
       (quiet (medium.Delivery.Delivered (medium.Message.Asks r)) (Some (model_answer a)) S during (with_store (Some store) during) row knows.once knows.stands refl refl
       (kept_knows volume S (with_store (Some store) during) store refl (λ here. knows)))
@@ -221,49 +221,49 @@ module _ (volume : ℕ) where
       → AnswersDue S (length during.journal) volume (need spelled S r) r (due S r.client r.number) (model_answer a) nothing
   due_row S r during a d e row = subst (λ (x : Due). AnswersDue S (length during.journal) volume (need spelled S r) r x (model_answer a) nothing) e row
 
-  dealt : (d : Due) (S : State) (r : asking.Request) (during : Situation) (store : Store) (a : Answer) (behind : Situation) → d ≡ due S r.client r.number → IsOpenOn during.capacity volume during.journal S store
-      → IsDealt d volume S r during store a behind → (S' : State) × IsStep volume (medium.Delivery.Delivered (medium.Message.Asks (model_request r))) S during (Some (model_answer a)) S' behind
-  dealt (Repeat kept) S r during store a behind e knows (reply, is, same, stays) =
-      (S, settled S (model_request r) during store a behind knows stays (due_row S (model_request r) during a (Repeat kept) e (inl (ap model_answer is ∙ ap (λ x. medium.Answer.Replied x) same), (refl, refl))))
-  dealt (Stale latest) S r during store a behind e knows (is, stays) = (S, settled S (model_request r) during store a behind knows stays (due_row S (model_request r) during a (Stale latest) e (inl (ap model_answer is), (refl, refl))))
-  dealt (Gap latest) S r during store a behind e knows (is, stays) = (S, settled S (model_request r) during store a behind knows stays (due_row S (model_request r) during a (Gap latest) e (inl (ap model_answer is), (refl, refl))))
-  dealt ClientsFull S r during store a behind e knows (is, stays) = (S, settled S (model_request r) during store a behind knows stays (due_row S (model_request r) during a ClientsFull e (inl (ap model_answer is), (refl, refl))))
-  dealt New S r during store a behind e knows done = when_applied S (model_request r) during a behind (sym e) done.kept done.store done.capacity knows.once knows.stands done.result done.applies done.told
+  dealt : (d : Due) (S : State) (r : asking.Request) (during : Situation) (store : Store) (a : Answer) (afterwards : Situation) → d ≡ due S r.client r.number → IsOpenOn during.capacity volume during.journal S store
+      → IsDealt d volume S r during store a afterwards → (S' : State) × IsStep volume (medium.Delivery.Delivered (medium.Message.Asks (model_request r))) S during (Some (model_answer a)) S' afterwards
+  dealt (Repeat kept) S r during store a afterwards e knows (reply, is, same, stays) =
+      (S, settled S (model_request r) during store a afterwards knows stays (due_row S (model_request r) during a (Repeat kept) e (inl (ap model_answer is ∙ ap (λ x. medium.Answer.Replied x) same), (refl, refl))))
+  dealt (Stale latest) S r during store a afterwards e knows (is, stays) = (S, settled S (model_request r) during store a afterwards knows stays (due_row S (model_request r) during a (Stale latest) e (inl (ap model_answer is), (refl, refl))))
+  dealt (Gap latest) S r during store a afterwards e knows (is, stays) = (S, settled S (model_request r) during store a afterwards knows stays (due_row S (model_request r) during a (Gap latest) e (inl (ap model_answer is), (refl, refl))))
+  dealt ClientsFull S r during store a afterwards e knows (is, stays) = (S, settled S (model_request r) during store a afterwards knows stays (due_row S (model_request r) during a ClientsFull e (inl (ap model_answer is), (refl, refl))))
+  dealt New S r during store a afterwards e knows done = when_applied S (model_request r) during a afterwards (sym e) done.kept done.store done.capacity knows.once knows.stands done.result done.applies done.told
 
   -- ---- messages
 
-  use_step : (d : Delivery) (S : State) (before during : Situation) (store : Store) (a : Option medium.Answer) (behind : Situation) → Uses volume S before during store
-      → (S' : State) × IsStep volume d S during a S' behind → (S' : State) × IsStep volume d S before a S' behind
-  use_step d S before during store a behind uses (S', step) = (S', step_from d a S S' before during behind uses.journal uses.capacity step)
+  use_step : (d : Delivery) (S : State) (before during : Situation) (store : Store) (a : Option medium.Answer) (afterwards : Situation) → Uses volume S before during store
+      → (S' : State) × IsStep volume d S during a S' afterwards → (S' : State) × IsStep volume d S before a S' afterwards
+  use_step d S before during store a afterwards uses (S', step) = (S', step_from d a S S' before during afterwards uses.journal uses.capacity step)
 
-  calls_step : (m : Message) (S : State) (before : Situation) (a : Answer) (behind : Situation) → HoldsState volume S before → Calls volume m S before a behind
-      → (S' : State) × IsStep volume (medium.Delivery.Delivered (model_message m)) S before (Some (model_answer a)) S' behind
-  calls_step (message.Malformed cause) S before a behind at (is, same) = (
+  calls_step : (m : Message) (S : State) (before : Situation) (a : Answer) (afterwards : Situation) → HoldsState volume S before → Calls volume m S before a afterwards
+      → (S' : State) × IsStep volume (medium.Delivery.Delivered (model_message m)) S before (Some (model_answer a)) S' afterwards
+  calls_step (message.Malformed cause) S before a afterwards at (is, same) = (
     S,
     subst (λ (s : Situation). IsStep volume (medium.Delivery.Delivered (model_message (message.Malformed cause))) S before (Some (model_answer a)) S s) (sym same)
         (quiet _ (Some (model_answer a)) S before before (inl (ap model_answer is), (refl, refl)) at.once at.stands refl refl at.knows),
   )
-  calls_step message.NoMemory S before a behind at (is, same) = (
+  calls_step message.NoMemory S before a afterwards at (is, same) = (
     S,
     subst (λ (s : Situation). IsStep volume (medium.Delivery.Delivered medium.Message.NoMemory) S before (Some (model_answer a)) S s) (sym same)
         (quiet _ (Some (model_answer a)) S before before (ap model_answer is, (refl, refl)) at.once at.stands refl refl at.knows),
   )
-  calls_step (message.Query q) S before a behind at (inl short) = short_step _ S before a behind at short (inr (short_fails before a behind short), (refl, refl))
-  calls_step (message.Query q) S before a behind at (inr (during, store, uses, read)) =
-      use_step _ S before during store _ behind uses (
+  calls_step (message.Query q) S before a afterwards at (inl short) = short_step _ S before a afterwards at short (inr (short_fails before a afterwards short), (refl, refl))
+  calls_step (message.Query q) S before a afterwards at (inr (during, store, uses, read)) =
+      use_step _ S before during store _ afterwards uses (
         S,
-        quiet (medium.Delivery.Delivered (medium.Message.Queries (said_query q))) (Some (model_answer a)) S during behind (query_told S q a read.result, (refl, refl)) uses.knows.once uses.knows.stands read.journal read.capacity
-            (kept_knows volume S behind read.kept read.store read.knows),
+        quiet (medium.Delivery.Delivered (medium.Message.Queries (said_query q))) (Some (model_answer a)) S during afterwards (query_told S q a read.result, (refl, refl)) uses.knows.once uses.knows.stands read.journal read.capacity
+            (kept_knows volume S afterwards read.kept read.store read.knows),
       )
-  calls_step (message.Request r) S before a behind at (inl short) =
-      short_step _ S before a behind at short
-      (short_due S (length before.journal) volume (need spelled S (model_request r)) (model_request r) (due S r.client r.number) (model_answer a) (short_fails before a behind short))
-  calls_step (message.Request r) S before a behind at (inr (during, store, uses, done)) =
-      use_step _ S before during store _ behind uses
-      (dealt (due_of store r.client r.number) S r during store a behind (same_due S during store r.client r.number uses.knows) uses.knows done)
+  calls_step (message.Request r) S before a afterwards at (inl short) =
+      short_step _ S before a afterwards at short
+      (short_due S (length before.journal) volume (need spelled S (model_request r)) (model_request r) (due S r.client r.number) (model_answer a) (short_fails before a afterwards short))
+  calls_step (message.Request r) S before a afterwards at (inr (during, store, uses, done)) =
+      use_step _ S before during store _ afterwards uses
+      (dealt (due_of store r.client r.number) S r during store a afterwards (same_due S during store r.client r.number uses.knows) uses.knows done)
 
 pub calls_are_steps : CallsAreSteps
-calls_are_steps volume m S before a behind at calls = calls_step volume m S before a behind at calls
+calls_are_steps volume m S before a afterwards at calls = calls_step volume m S before a afterwards at calls
 
 pub restarts_are_steps : RestartsAreSteps
 restarts_are_steps volume S before at =

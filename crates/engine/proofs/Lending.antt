@@ -12,19 +12,19 @@ use Rattle.engine.specs.Situation.{Situation}
 use Rattle.engine.specs.Steps.{HoldsState}
 
 -- the recovered state is known to the store that is open then
-pub holds_opened : (volume : ℕ) (S : State) (before behind : Situation) (store : Store) → behind.store ≡ Some store → behind.journal ≡ before.journal → behind.capacity ≡ before.capacity
-    → HoldsState volume S before → IsOpenOn before.capacity volume before.journal S store → HoldsState volume S behind
-holds_opened volume S before behind store is journal size at knows = record {
+pub holds_opened : (volume : ℕ) (S : State) (before afterwards : Situation) (store : Store) → afterwards.store ≡ Some store → afterwards.journal ≡ before.journal → afterwards.capacity ≡ before.capacity
+    → HoldsState volume S before → IsOpenOn before.capacity volume before.journal S store → HoldsState volume S afterwards
+holds_opened volume S before afterwards store is journal size at knows = record {
   once = subst (λ (J : List Event). Once J) (sym journal) at.once;
-  stands = subst (λ (c : ℕ). RecoversTo udf c volume (held behind.journal) S) (sym size) (subst (λ (J : List Event). RecoversTo udf before.capacity volume (held J) S) (sym journal) at.stands);
-  knows = λ kept there. subst (λ (k : Store). IsOpenOn behind.capacity volume behind.journal S k) (ap (λ (o : Option Store). unwrap_or o store) (sym is ∙ there.0))
-      (subst (λ (c : ℕ). IsOpenOn c volume behind.journal S store) (sym size) (subst (λ (J : List Event). IsOpenOn before.capacity volume J S store) (sym journal) knows));
+  stands = subst (λ (c : ℕ). RecoversTo udf c volume (held afterwards.journal) S) (sym size) (subst (λ (J : List Event). RecoversTo udf before.capacity volume (held J) S) (sym journal) at.stands);
+  knows = λ kept there. subst (λ (k : Store). IsOpenOn afterwards.capacity volume afterwards.journal S k) (ap (λ (o : Option Store). unwrap_or o store) (sym is ∙ there.0))
+      (subst (λ (c : ℕ). IsOpenOn c volume afterwards.journal S store) (sym size) (subst (λ (J : List Event). IsOpenOn before.capacity volume J S store) (sym journal) knows));
 }
 
 -- and it is where none is
-pub holds_closed : (volume : ℕ) (S : State) (before behind : Situation) → behind.store ≡ None → behind.journal ≡ before.journal → behind.capacity ≡ before.capacity → HoldsState volume S before → HoldsState volume S behind
-holds_closed volume S before behind is journal size at = record {
+pub holds_closed : (volume : ℕ) (S : State) (before afterwards : Situation) → afterwards.store ≡ None → afterwards.journal ≡ before.journal → afterwards.capacity ≡ before.capacity → HoldsState volume S before → HoldsState volume S afterwards
+holds_closed volume S before afterwards is journal size at = record {
   once = subst (λ (J : List Event). Once J) (sym journal) at.once;
-  stands = subst (λ (c : ℕ). RecoversTo udf c volume (held behind.journal) S) (sym size) (subst (λ (J : List Event). RecoversTo udf before.capacity volume (held J) S) (sym journal) at.stands);
+  stands = subst (λ (c : ℕ). RecoversTo udf c volume (held afterwards.journal) S) (sym size) (subst (λ (J : List Event). RecoversTo udf before.capacity volume (held J) S) (sym journal) at.stands);
   knows = λ kept there. absurd (false≢true (ap (λ (o : Option Store). is_some o) (sym is ∙ there.0)));
 }

@@ -77,43 +77,43 @@ cut_here volume S before said answers T during next asked failed lost at steps s
 module _ (volume : ℕ) (S : State) (before : Situation) (at : HoldsState volume S before) where
   -- in a run, after the deliveries that were answered
   cut_along : (done : List delivered.Delivery) (said : List Delivery) (given : List told.Answer) (T : State) (during : Situation) → AllSaid done said → AllSteps volume said S before (model_answers given) T during → during.capacity ≡ before.capacity
-      → (deliveries : List delivered.Delivery) (answers : List told.Answer) (behind : Situation) (all : AllDelivered deliveries during answers behind) (S' : State) → AllWithstand volume deliveries T during answers behind all S'
-      → (lost : List Event) → LosesRun deliveries during answers behind all lost → IsRunCut before.capacity volume S before.journal (done ++ deliveries) (given ++ answers) lost
-  cut_along done said given T during are steps size [] answers behind all S' each lost none = absurd none
-  cut_along done said given T during are steps size (d ∷ deliveries) answers behind (a, next, rest, delivers, order, more) S' (one, is, U, step, withstands, later) lost (inl here) =
+      → (deliveries : List delivered.Delivery) (answers : List told.Answer) (afterwards : Situation) (all : AllDelivered deliveries during answers afterwards) (S' : State) → AllWithstand volume deliveries T during answers afterwards all S'
+      → (lost : List Event) → LosesRun deliveries during answers afterwards all lost → IsRunCut before.capacity volume S before.journal (done ++ deliveries) (given ++ answers) lost
+  cut_along done said given T during are steps size [] answers afterwards all S' each lost none = absurd none
+  cut_along done said given T during are steps size (d ∷ deliveries) answers afterwards (a, next, rest, delivers, order, more) S' (one, is, U, step, withstands, later) lost (inl here) =
       let c = cut_here volume S before said (model_answers given) T during next (Brings d) (faults_told a) lost at steps size withstands here in
       record { done = done; now = d; later = deliveries; order = refl; given = given; others = answers; answers_are = refl; said = said; are_said = are; under = c.0; cut = c.1; brought = c.2 }
-  cut_along done said given T during are steps size (d ∷ deliveries) answers behind (a, next, rest, delivers, order, more) S' (one, is, U, step, withstands, later) lost (inr there) =
+  cut_along done said given T during are steps size (d ∷ deliveries) answers afterwards (a, next, rest, delivers, order, more) S' (one, is, U, step, withstands, later) lost (inr there) =
       let so : AllSteps volume (said ++ one ∷ []) S before (model_answers (given ++ option_to_list a)) U next =
       subst (λ (xs : List Answer). AllSteps volume (said ++ one ∷ []) S before xs U next) (said_more given a) (steps_more volume said S before (model_answers given) T during one (said_told a) U next steps step) in
-      let c = cut_along (done ++ d ∷ []) (said ++ one ∷ []) (given ++ option_to_list a) U next (all_said_more done said d one are is) so (step.capacity ∙ size) deliveries rest behind more S' later lost there in
+      let c = cut_along (done ++ d ∷ []) (said ++ one ∷ []) (given ++ option_to_list a) U next (all_said_more done said d one are is) so (step.capacity ∙ size) deliveries rest afterwards more S' later lost there in
       subst (λ (ds : List delivered.Delivery). IsRunCut before.capacity volume S before.journal ds (given ++ answers) lost) (append_assoc done (d ∷ []) deliveries)
       (subst (λ (xs : List told.Answer). IsRunCut before.capacity volume S before.journal ((done ++ d ∷ []) ++ deliveries) xs lost) (append_assoc given (option_to_list a) rest ∙ ap (λ (xs : List told.Answer). given ++ xs) (sym order)) c)
 
   -- in a stream, after the messages that were answered
   cut_among : (done : List Message) (given : List told.Answer) (T : State) (during : Situation) → AllSteps volume (brought done) S before (model_answers given) T during → during.capacity ≡ before.capacity
-      → (messages : List Message) (answers : List told.Answer) (behind : Situation) (all : AllAnswered messages during answers behind) (S' : State) → EachWithstands volume messages T during answers behind all S'
-      → (lost : List Event) → LosesStream messages during answers behind all lost → IsStreamCut before.capacity volume S before.journal (done ++ messages) (given ++ answers) lost
-  cut_among done given T during steps size [] answers behind all S' each lost none = absurd none
-  cut_among done given T during steps size (m ∷ messages) [] behind all S' each lost none = absurd none
-  cut_among done given T during steps size (m ∷ messages) (a ∷ answers) behind (next, one, rest) S' (U, step, withstands, later) lost (inl here) =
+      → (messages : List Message) (answers : List told.Answer) (afterwards : Situation) (all : AllAnswered messages during answers afterwards) (S' : State) → EachWithstands volume messages T during answers afterwards all S'
+      → (lost : List Event) → LosesStream messages during answers afterwards all lost → IsStreamCut before.capacity volume S before.journal (done ++ messages) (given ++ answers) lost
+  cut_among done given T during steps size [] answers afterwards all S' each lost none = absurd none
+  cut_among done given T during steps size (m ∷ messages) [] afterwards all S' each lost none = absurd none
+  cut_among done given T during steps size (m ∷ messages) (a ∷ answers) afterwards (next, one, rest) S' (U, step, withstands, later) lost (inl here) =
       let c = cut_here volume S before (brought done) (model_answers given) T during next (AsksFor m) (faults a) lost at steps size withstands here in
       record { done = done; now = m; later = messages; order = refl; given = given; others = a ∷ answers; answers_are = refl; under = c.0; cut = c.1; asked = c.2 }
-  cut_among done given T during steps size (m ∷ messages) (a ∷ answers) behind (next, one, rest) S' (U, step, withstands, later) lost (inr there) =
+  cut_among done given T during steps size (m ∷ messages) (a ∷ answers) afterwards (next, one, rest) S' (U, step, withstands, later) lost (inr there) =
       let more = steps_more volume (brought done) S before (model_answers given) T during (Delivered (model_message m)) (Some (model_answer a)) U next steps step in
       let so : AllSteps volume (brought (done ++ m ∷ [])) S before (model_answers (given ++ a ∷ [])) U next =
       subst (λ (xs : List Answer). AllSteps volume (brought (done ++ m ∷ [])) S before xs U next) (said_more given (Some a))
       (subst (λ (ds : List Delivery). AllSteps volume ds S before (model_answers given ++ model_answer a ∷ []) U next) (sym (map-append (λ n. Delivered (model_message n)) done (m ∷ []))) more) in
-      let c = cut_among (done ++ m ∷ []) (given ++ a ∷ []) U next so (step.capacity ∙ size) messages answers behind rest S' later lost there in
+      let c = cut_among (done ++ m ∷ []) (given ++ a ∷ []) U next so (step.capacity ∙ size) messages answers afterwards rest S' later lost there in
       subst (λ (ms : List Message). IsStreamCut before.capacity volume S before.journal ms (given ++ a ∷ answers) lost) (append_assoc done (m ∷ []) messages)
       (subst (λ (xs : List told.Answer). IsStreamCut before.capacity volume S before.journal ((done ++ m ∷ []) ++ messages) xs lost) (append_assoc given (a ∷ []) answers) c)
 
 pub runs_reach : RunsReach
-runs_reach volume deliveries S before answers behind at run lost loses =
-    cut_along volume S before at [] [] [] S before tt (refl, refl, refl) refl deliveries answers (with_store run.kept behind) run.delivered run.state run.each lost loses
+runs_reach volume deliveries S before answers afterwards at run lost loses =
+    cut_along volume S before at [] [] [] S before tt (refl, refl, refl) refl deliveries answers (with_store run.kept afterwards) run.delivered run.state run.each lost loses
 
 pub served_reach : ServedReach
-served_reach volume messages S before answers behind at all S' each lost loses = cut_among volume S before at [] [] S before (refl, refl, refl) refl messages answers behind all S' each lost loses
+served_reach volume messages S before answers afterwards at all S' each lost loses = cut_among volume S before at [] [] S before (refl, refl, refl) refl messages answers afterwards all S' each lost loses
 
 -- ---- runs one after another
 
@@ -145,36 +145,36 @@ module _ (capacity volume : ℕ) where
       at zero few = subst (λ n. RecoveredTo udf capacity volume (held before) n S) (let e : S.commits ≡ S.commits + 0 = omega arith in e) (past_now udf capacity volume (held before) S stands)
       at (suc j) few = absurd (omega arith)
 
-  survives_join : (S : State) (before between behind : List Event) (first second : List Request) → Survives capacity volume S before first between → Survives capacity volume (after S first) between second behind
-      → Survives capacity volume S before (first ++ second) behind
-  survives_join S before between behind first second f s =
+  survives_join : (S : State) (before between afterwards : List Event) (first second : List Request) → Survives capacity volume S before first between → Survives capacity volume (after S first) between second afterwards
+      → Survives capacity volume S before (first ++ second) afterwards
+  survives_join S before between afterwards first second f s =
       let new : AllNew S (first ++ second) = new_append first second S f.new s.new in
       record {
-        front = front_on before between behind f.front (front_grows before between f.front) s.front;
+        front = front_on before between afterwards f.front (front_grows before between f.front) s.front;
         once = s.once;
-        stands = subst (λ (T : State). RecoversTo udf capacity volume (held behind) T) (sym (after-append first second S)) s.stands;
+        stands = subst (λ (T : State). RecoversTo udf capacity volume (held afterwards) T) (sym (after-append first second S)) s.stands;
         new = new;
         each_once = each_once S (first ++ second) new;
         past = λ commits T was. s.past commits T (f.past commits T was);
         later = λ j few. at j few (side j (length first));
       }
     where
-      at : (j : ℕ) → j ≤ length (first ++ second) → (j < length first) ⊎ (length first ≤ j) → RecoveredTo udf capacity volume (held behind) (S.commits + j) (after S (take j (first ++ second)))
+      at : (j : ℕ) → j ≤ length (first ++ second) → (j < length first) ⊎ (length first ≤ j) → RecoveredTo udf capacity volume (held afterwards) (S.commits + j) (after S (take j (first ++ second)))
       at j few (inl low) =
-          subst (λ (D : List Request). RecoveredTo udf capacity volume (held behind) (S.commits + j) (after S D)) (sym (take-append-le j first second (omega (arith, low))))
+          subst (λ (D : List Request). RecoveredTo udf capacity volume (held afterwards) (S.commits + j) (after S D)) (sym (take-append-le j first second (omega (arith, low))))
           (s.past (S.commits + j) (after S (take j first)) (f.later j (omega (arith, low))))
       at j few (inr high) =
           let i : ℕ = j - length first in
           let split : take j (first ++ second) ≡ first ++ take i second = take_past j i first second (omega (arith, high)) in
           let state : after (after S first) (take i second) ≡ after S (take j (first ++ second)) = sym (ap (λ (D : List Request). after S D) split ∙ after-append first (take i second) S) in
           let count : (after S first).commits + i ≡ S.commits + j = omega (arith, high, commits_after first S) in
-          subst (λ n. RecoveredTo udf capacity volume (held behind) n (after S (take j (first ++ second)))) count
-          (subst (λ (T : State). RecoveredTo udf capacity volume (held behind) ((after S first).commits + i) T) state (s.later i (omega (arith, high, few, length-append first second))))
+          subst (λ n. RecoveredTo udf capacity volume (held afterwards) n (after S (take j (first ++ second)))) count
+          (subst (λ (T : State). RecoveredTo udf capacity volume (held afterwards) ((after S first).commits + i) T) state (s.later i (omega (arith, high, few, length-append first second))))
 
   -- what is left of a commit
-  survives_lost : (S : State) (before behind : List Event) (under : List Request) → RecoversTo udf capacity volume (held before) S → Advances udf capacity volume before S behind (after S under) → AllNew S under → length under ≤ 1
-      → Survives capacity volume S before under behind
-  survives_lost S before behind under stood a new one = record {
+  survives_lost : (S : State) (before afterwards : List Event) (under : List Request) → RecoversTo udf capacity volume (held before) S → Advances udf capacity volume before S afterwards (after S under) → AllNew S under → length under ≤ 1
+      → Survives capacity volume S before under afterwards
+  survives_lost S before afterwards under stood a new one = record {
     front = a.front;
     once = a.once;
     stands = a.moves.ends;
@@ -184,22 +184,22 @@ module _ (capacity volume : ℕ) where
     later = λ j few. at j under few one a.moves.ends;
   }
     where
-      first : (n : ℕ) → n ≡ S.commits → RecoveredTo udf capacity volume (held behind) n S
-      first n e = subst (λ m. RecoveredTo udf capacity volume (held behind) m S) (sym e) (a.moves.past S.commits S (past_now udf capacity volume (held before) S stood))
+      first : (n : ℕ) → n ≡ S.commits → RecoveredTo udf capacity volume (held afterwards) n S
+      first n e = subst (λ m. RecoveredTo udf capacity volume (held afterwards) m S) (sym e) (a.moves.past S.commits S (past_now udf capacity volume (held before) S stood))
 
-      at : (j : ℕ) (left : List Request) → j ≤ length left → length left ≤ 1 → RecoversTo udf capacity volume (held behind) (after S left) → RecoveredTo udf capacity volume (held behind) (S.commits + j) (after S (take j left))
+      at : (j : ℕ) (left : List Request) → j ≤ length left → length left ≤ 1 → RecoversTo udf capacity volume (held afterwards) (after S left) → RecoveredTo udf capacity volume (held afterwards) (S.commits + j) (after S (take j left))
       at zero [] few most ends = first (S.commits + 0) (omega arith)
       at zero (r ∷ left) few most ends = first (S.commits + 0) (omega arith)
       at (suc j) [] few most ends = absurd (omega arith)
       at (suc zero) (r ∷ []) few most ends =
-          subst (λ n. RecoveredTo udf capacity volume (held behind) n (after_one S r)) (let e : (after_one S r).commits ≡ S.commits + suc zero = omega arith in e) (past_now udf capacity volume (held behind) (after_one S r) ends)
+          subst (λ n. RecoveredTo udf capacity volume (held afterwards) n (after_one S r)) (let e : (after_one S r).commits ≡ S.commits + suc zero = omega arith in e) (past_now udf capacity volume (held afterwards) (after_one S r) ends)
       at (suc (suc j)) (r ∷ []) few most ends = absurd (omega arith)
       at (suc j) (r ∷ s ∷ left) few most ends = absurd (omega arith)
 
-  survives_cut : (S : State) (before behind : List Event) (life : Life) (cut : IsRunCutShort capacity volume S before life behind) → Survives capacity volume S before (cut.run.holds.committed ++ life.under) behind
-  survives_cut S before behind life cut =
-      survives_join S before cut.during behind committed life.under run
-      (survives_lost (after S committed) cut.during behind life.under stood (subst (λ (T : State). Advances udf capacity volume cut.during (after S committed) behind T) (after-append committed life.under S) cut.advances) under.0 under.1)
+  survives_cut : (S : State) (before afterwards : List Event) (life : Life) (cut : IsRunCutShort capacity volume S before life afterwards) → Survives capacity volume S before (cut.run.holds.committed ++ life.under) afterwards
+  survives_cut S before afterwards life cut =
+      survives_join S before cut.during afterwards committed life.under run
+      (survives_lost (after S committed) cut.during afterwards life.under stood (subst (λ (T : State). Advances udf capacity volume cut.during (after S committed) afterwards T) (after-append committed life.under S) cut.advances) under.0 under.1)
     where
       committed : List Request
       committed = cut.run.holds.committed
@@ -221,15 +221,15 @@ module _ (capacity volume : ℕ) where
       under : AllNew (after S committed) life.under × (length life.under ≤ 1)
       under = few_under (after S committed) life.under cut.few
 
-  survives_all : (lives : List Life) (S : State) (before : List Event) (done : List Request) (behind : List Event) → Once before → RecoversTo udf capacity volume (held before) S → AreCut capacity volume S before lives done behind
-      → Survives capacity volume S before done behind
-  survives_all [] S before done behind once stands (none, same) =
-      subst (λ (D : List Request). Survives capacity volume S before D behind) (sym none) (subst (λ (J : List Event). Survives capacity volume S before [] J) (sym same) (survives_none S before once stands))
-  survives_all (life ∷ lives) S before done behind once stands (between, cut, rest, order, more) =
+  survives_all : (lives : List Life) (S : State) (before : List Event) (done : List Request) (afterwards : List Event) → Once before → RecoversTo udf capacity volume (held before) S → AreCut capacity volume S before lives done afterwards
+      → Survives capacity volume S before done afterwards
+  survives_all [] S before done afterwards once stands (none, same) =
+      subst (λ (D : List Request). Survives capacity volume S before D afterwards) (sym none) (subst (λ (J : List Event). Survives capacity volume S before [] J) (sym same) (survives_none S before once stands))
+  survives_all (life ∷ lives) S before done afterwards once stands (between, cut, rest, order, more) =
       let one = survives_cut S before between life cut in
       let now : List Request = cut.run.holds.committed ++ life.under in
-      subst (λ (D : List Request). Survives capacity volume S before D behind) (sym order)
-      (survives_join S before between behind now rest one (survives_all lives (after S now) between rest behind one.once one.stands more))
+      subst (λ (D : List Request). Survives capacity volume S before D afterwards) (sym order)
+      (survives_join S before between afterwards now rest one (survives_all lives (after S now) between rest afterwards one.once one.stands more))
 
 pub losses_reach : LossesReach
-losses_reach capacity volume S before lives done behind once stands cuts = survives_all capacity volume lives S before done behind once stands cuts
+losses_reach capacity volume S before lives done afterwards once stands cuts = survives_all capacity volume lives S before done afterwards once stands cuts

@@ -146,9 +146,9 @@ left_more faults.Memory bytes answers more reader o v w some told h = inl (last_
 pub took : (n : ℕ) (xs : List ℕ) → n ≤ length xs → (n ≡ 0 → ⊥) → take n xs ≡ [] → ⊥
 took n xs fits some e = some (sym (length-take-le n xs fits) ∙ ap length e)
 
-some_behind : (xs ys : List ℕ) → (ys ≡ [] → ⊥) → xs ++ ys ≡ [] → ⊥
-some_behind [] ys some e = some e
-some_behind (x ∷ xs) ys some e = absurd (omega (arith, ap length e))
+some_after : (xs ys : List ℕ) → (ys ≡ [] → ⊥) → xs ++ ys ≡ [] → ⊥
+some_after [] ys some e = some e
+some_after (x ∷ xs) ys some e = absurd (omega (arith, ap length e))
 
 -- ---- messages that are there
 
@@ -234,7 +234,7 @@ serving_some fault reader between after s t u i l n o v w piece h takes some e m
         withstands = served_withstand (h.messages ++ more.messages) s (h.answers ++ more.answers) u answered;
         front = subst (λ (x : List ℕ). PutsPrefix o w x) (sym (frames_append h.answers more.answers)) (front_more o v w (frames_of h.answers) (frames_of more.answers) h.told more.front);
       };
-      left_by = left_more fault (h.bytes ++ piece) h.answers more.answers after o v w (some_behind h.bytes piece some) h.told more.left;
+      left_by = left_more fault (h.bytes ++ piece) h.answers more.answers after o v w (some_after h.bytes piece some) h.told more.left;
     }
 
 whole_front : (a b : Option (List ℕ)) (x : List ℕ) → Appends a b x → PutsPrefix a b x

@@ -9,7 +9,7 @@ use Rattle.model.specs.Session.{Due, Reply, due_by, record_of, kept_or_stale}
 use Rattle.model.specs.Session.Due.{Repeat, Stale, Gap, ClientsFull, New}
 use Rattle.vat.specs.declared.record.Record.{Record}
 use Rattle.udf.specs.Said.{model_record}
-use Rattle.store.specs.TableChange.{IsNext}
+use Rattle.table_update.specs.TableChange.{IsNext}
 
 abbrev is_new : Due → Bool
 is_new (Repeat reply) = false

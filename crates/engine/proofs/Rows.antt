@@ -28,23 +28,23 @@ pub record Opened (before during : Situation) (store : Store) : Type 0 where
   pub honest : IsTrue during.honest → IsTrue before.honest
   pub failures : CountsFailures 0 before.failures during.failures
 
-follows_behind : (before during after : Situation) (store : Store) → Opened before during store → AddsBlocks during after → AddsBlocks before after
-follows_behind before during after store o f = record {
+follows_after : (before during after : Situation) (store : Store) → Opened before during store → AddsBlocks during after → AddsBlocks before after
+follows_after before during after store o f = record {
   ready = f.ready;
   front = (f.front.0, f.front.1 ∙ ap (λ (J : List Event). J ++ f.front.0) o.opens.journal);
   capacity = f.capacity ∙ o.capacity;
   honest = λ h. o.honest (f.honest h);
 }
 
-counts_behind : (n f0 f1 f2 : ℕ) → CountsFailures 0 f0 f1 → CountsFailures n f1 f2 → CountsFailures n f0 f2
-counts_behind n f0 f1 f2 a b = λ lt. let k : f1 + n ≤ f2 = b lt in let l : f0 + 0 ≤ f1 = a (omega (arith, k, lt)) in omega (arith, k, l)
+counts_after : (n f0 f1 f2 : ℕ) → CountsFailures 0 f0 f1 → CountsFailures n f1 f2 → CountsFailures n f0 f2
+counts_after n f0 f1 f2 a b = λ lt. let k : f1 + n ≤ f2 = b lt in let l : f0 + 0 ≤ f1 = a (omega (arith, k, lt)) in omega (arith, k, l)
 
 pub request_answered : (asked : Message) (request : Request) (before during after : Situation) (store : Store) (a : Answer) → asked ≡ message.Request request → Opened before during store
     → IsAnsweredAsDue (due_of store request.client request.number) during a after → AddsBlocks during after → CountsFailures (faults a) during.failures after.failures
     → Answered asked before a after
 request_answered asked request before during after store a e o due follows failures = record {
-  follows = follows_behind before during after store o follows;
-  failures = counts_behind (faults a) before.failures during.failures after.failures o.failures failures;
+  follows = follows_after before during after store o follows;
+  failures = counts_after (faults a) before.failures during.failures after.failures o.failures failures;
   row = subst (λ (m : Message). MessageRow m before a after) (sym e) (inr (during, store, o.opens, due));
 }
 
@@ -52,9 +52,9 @@ request_answered asked request before during after store a e o due follows failu
 pub committed_due : (due : Due) (before : Situation) (a : Answer) (after : Situation) → New ≡ due → IsCommitted before a after → IsAnsweredAsDue due before a after
 committed_due due before a after e h = subst (λ (d : Due). IsAnsweredAsDue d before a after) e h
 
-pub dealt_new : (due : Due) (volume : ℕ) (S : State) (request : Request) (during : Situation) (store : Store) (a : Answer) (behind : Situation) → New ≡ due
-    → IsApplied volume S request during a behind → IsDealt due volume S request during store a behind
-dealt_new due volume S request during store a behind e h = subst (λ (d : Due). IsDealt d volume S request during store a behind) e h
+pub dealt_new : (due : Due) (volume : ℕ) (S : State) (request : Request) (during : Situation) (store : Store) (a : Answer) (afterwards : Situation) → New ≡ due
+    → IsApplied volume S request during a afterwards → IsDealt due volume S request during store a afterwards
+dealt_new due volume S request during store a afterwards e h = subst (λ (d : Due). IsDealt d volume S request during store a afterwards) e h
 
 -- ---- at the recovered state
 
@@ -64,16 +64,16 @@ knows_there capacity later volume J K S store size journal knows =
     subst (λ (c : ℕ). IsOpenOn c volume K S store) (sym size) (subst (λ (L : List Event). IsOpenOn capacity volume L S store) (sym journal) knows)
 
 module _ (volume : ℕ) (S : State) where
-  pub request_calls : (asked : Message) (request : Request) (before during behind : Situation) (store : Store) (a : Answer) → asked ≡ message.Request request → Uses volume S before during store
-      → IsDealt (due_of store request.client request.number) volume S request during store a behind → Calls volume asked S before a behind
-  request_calls asked request before during behind store a e uses dealt = subst (λ (m : Message). Calls volume m S before a behind) (sym e) (inr (during, store, uses, dealt))
+  pub request_calls : (asked : Message) (request : Request) (before during afterwards : Situation) (store : Store) (a : Answer) → asked ≡ message.Request request → Uses volume S before during store
+      → IsDealt (due_of store request.client request.number) volume S request during store a afterwards → Calls volume asked S before a afterwards
+  request_calls asked request before during afterwards store a e uses dealt = subst (λ (m : Message). Calls volume m S before a afterwards) (sym e) (inr (during, store, uses, dealt))
 
-  pub request_short : (asked : Message) (request : Request) (before : Situation) (a : Answer) (behind : Situation) → asked ≡ message.Request request → IsShort before a behind → Calls volume asked S before a behind
-  request_short asked request before a behind e short = subst (λ (m : Message). Calls volume m S before a behind) (sym e) (inl short)
+  pub request_short : (asked : Message) (request : Request) (before : Situation) (a : Answer) (afterwards : Situation) → asked ≡ message.Request request → IsShort before a afterwards → Calls volume asked S before a afterwards
+  request_short asked request before a afterwards e short = subst (λ (m : Message). Calls volume m S before a afterwards) (sym e) (inl short)
 
-  pub query_calls : (asked : Message) (query : Query) (before during behind : Situation) (store : Store) (a : Answer) → asked ≡ message.Query query → Uses volume S before during store
-      → IsRead volume S query during a behind → Calls volume asked S before a behind
-  query_calls asked query before during behind store a e uses read = subst (λ (m : Message). Calls volume m S before a behind) (sym e) (inr (during, store, uses, read))
+  pub query_calls : (asked : Message) (query : Query) (before during afterwards : Situation) (store : Store) (a : Answer) → asked ≡ message.Query query → Uses volume S before during store
+      → IsRead volume S query during a afterwards → Calls volume asked S before a afterwards
+  query_calls asked query before during afterwards store a e uses read = subst (λ (m : Message). Calls volume m S before a afterwards) (sym e) (inr (during, store, uses, read))
 
-  pub query_short : (asked : Message) (query : Query) (before : Situation) (a : Answer) (behind : Situation) → asked ≡ message.Query query → IsShort before a behind → Calls volume asked S before a behind
-  query_short asked query before a behind e short = subst (λ (m : Message). Calls volume m S before a behind) (sym e) (inl short)
+  pub query_short : (asked : Message) (query : Query) (before : Situation) (a : Answer) (afterwards : Situation) → asked ≡ message.Query query → IsShort before a afterwards → Calls volume asked S before a afterwards
+  query_short asked query before a afterwards e short = subst (λ (m : Message). Calls volume m S before a afterwards) (sym e) (inl short)

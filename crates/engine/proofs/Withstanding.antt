@@ -32,9 +32,9 @@ use Rattle.drive.proofs.Once.{held_once, length-blocks_of}
 use Rattle.engine.proofs.Calling.{front_grows, same_due, stay}
 
 -- nothing was written
-pub unwritten : (volume : ℕ) (S : State) (asked : Request → Type 0) (failed : ℕ) (before behind : Situation) → Once before.journal → RecoversTo udf before.capacity volume (held before.journal) S
-    → behind.journal ≡ before.journal → behind.writes ≡ before.writes → MessageSurvivesPowerLoss volume S asked failed before behind
-unwritten volume S asked failed before behind once stands journal writes =
+pub unwritten : (volume : ℕ) (S : State) (asked : Request → Type 0) (failed : ℕ) (before afterwards : Situation) → Once before.journal → RecoversTo udf before.capacity volume (held before.journal) S
+    → afterwards.journal ≡ before.journal → afterwards.writes ≡ before.writes → MessageSurvivesPowerLoss volume S asked failed before afterwards
+unwritten volume S asked failed before afterwards once stands journal writes =
     let J : List Event = before.journal in
     record {
       added = [];
@@ -47,8 +47,8 @@ unwritten volume S asked failed before behind once stands journal writes =
     }
 
 -- what withstands asks for no less
-pub withstands_more : (volume : ℕ) (S : State) (asked more : Request → Type 0) (failed : ℕ) (before behind : Situation) → ((r : Request) → asked r → more r) → MessageSurvivesPowerLoss volume S asked failed before behind → MessageSurvivesPowerLoss volume S more failed before behind
-withstands_more volume S asked more failed before behind f w = record {
+pub withstands_more : (volume : ℕ) (S : State) (asked more : Request → Type 0) (failed : ℕ) (before afterwards : Situation) → ((r : Request) → asked r → more r) → MessageSurvivesPowerLoss volume S asked failed before afterwards → MessageSurvivesPowerLoss volume S more failed before afterwards
+withstands_more volume S asked more failed before afterwards f w = record {
   added = w.added;
   others = w.others;
   writes_are = w.writes_are;
@@ -62,9 +62,9 @@ pub new_there : (capacity volume : ℕ) (J : List Event) (S : State) (store : St
 new_there capacity volume J S store client number knows new = sym (new ∙ same_due volume S (situation (Some store) J 0 capacity true []) store client number knows)
 
 -- a store's commit
-pub applied_withstands : (volume : ℕ) (S : State) (r : Request) (asked : Request → Type 0) (failed : ℕ) (before behind : Situation) → asked r → due S r.client r.number ≡ New
-    → store.CommitSurvivesPowerLoss before.capacity volume before.journal S r before.writes failed behind.journal behind.writes → MessageSurvivesPowerLoss volume S asked failed before behind
-applied_withstands volume S r asked failed before behind asks new w = record {
+pub applied_withstands : (volume : ℕ) (S : State) (r : Request) (asked : Request → Type 0) (failed : ℕ) (before afterwards : Situation) → asked r → due S r.client r.number ≡ New
+    → store.CommitSurvivesPowerLoss before.capacity volume before.journal S r before.writes failed afterwards.journal afterwards.writes → MessageSurvivesPowerLoss volume S asked failed before afterwards
+applied_withstands volume S r asked failed before afterwards asks new w = record {
   added = w.added;
   others = w.others;
   writes_are = w.writes_are;
@@ -74,13 +74,13 @@ applied_withstands volume S r asked failed before behind asks new w = record {
 }
 
 -- from where nothing was written since
-pub withstands_from : (volume : ℕ) (S : State) (asked : Request → Type 0) (failed : ℕ) (before during behind : Situation) → during.journal ≡ before.journal → during.capacity ≡ before.capacity → during.writes ≡ before.writes
-    → MessageSurvivesPowerLoss volume S asked failed during behind → MessageSurvivesPowerLoss volume S asked failed before behind
-withstands_from volume S asked failed before during behind journal size writes w = record {
+pub withstands_from : (volume : ℕ) (S : State) (asked : Request → Type 0) (failed : ℕ) (before during afterwards : Situation) → during.journal ≡ before.journal → during.capacity ≡ before.capacity → during.writes ≡ before.writes
+    → MessageSurvivesPowerLoss volume S asked failed during afterwards → MessageSurvivesPowerLoss volume S asked failed before afterwards
+withstands_from volume S asked failed before during afterwards journal size writes w = record {
   added = w.added;
   others = w.others;
   writes_are = w.writes_are ∙ ap (λ (ws : List (List Block)). ws ++ w.added) writes;
-  front = subst (λ (L : List Event). AddsPrefix L (length L) (joined (w.added ++ w.others)) behind.journal) journal w.front;
+  front = subst (λ (L : List Event). AddsPrefix L (length L) (joined (w.added ++ w.others)) afterwards.journal) journal w.front;
   whole = λ ok. w.whole ok ∙ ap (λ (L : List Event). L ++ written (length L) (joined w.added)) journal;
   torn = λ left lost cut there.
       let back : (T : State) → Advances udf during.capacity volume during.journal S lost T → Advances udf before.capacity volume before.journal S lost T =
@@ -89,66 +89,66 @@ withstands_from volume S asked failed before during behind journal size writes w
 }
 
 -- where a run ended the state after all its commits is recovered
-pub held_stands : (volume capacity : ℕ) (deliveries : List medium.Delivery) (S : State) (before behind : List Event) (answers : List medium.Answer)
-    (run : HoldsOnJournal udf (need spelled) capacity volume S before behind deliveries answers) → RecoversTo udf capacity volume (held behind) (after S run.holds.committed)
-held_stands volume capacity deliveries S before behind answers run =
+pub held_stands : (volume capacity : ℕ) (deliveries : List medium.Delivery) (S : State) (before afterwards : List Event) (answers : List medium.Answer)
+    (run : HoldsOnJournal udf (need spelled) capacity volume S before afterwards deliveries answers) → RecoversTo udf capacity volume (held afterwards) (after S run.holds.committed)
+held_stands volume capacity deliveries S before afterwards answers run =
     let committed = run.holds.committed in
-    let size : length (held behind) ≡ length behind = ap (λ (bs : List Block). length bs) (held_once behind run.once) ∙ length-blocks_of behind in
-    let there = (run.stands (length behind) (front_grows before behind run.front) (omega arith)).1 in
-    let all : take (run.holds.c (length behind)) committed ≡ committed =
+    let size : length (held afterwards) ≡ length afterwards = ap (λ (bs : List Block). length bs) (held_once afterwards run.once) ∙ length-blocks_of afterwards in
+    let there = (run.stands (length afterwards) (front_grows before afterwards run.front) (omega arith)).1 in
+    let all : take (run.holds.c (length afterwards)) committed ≡ committed =
     ap (λ (n : ℕ). take (run.holds.c n) committed) (sym size) ∙ ap (λ (n : ℕ). take n committed) run.holds.at_end ∙ take-length committed in
-    subst (λ (rs : List Request). RecoversTo udf capacity volume (held behind) (after S rs)) all
-    (subst (λ (L : List Event). RecoversTo udf capacity volume (held L) (after S (take (run.holds.c (length behind)) committed))) (take-length behind) there)
+    subst (λ (rs : List Request). RecoversTo udf capacity volume (held afterwards) (after S rs)) all
+    (subst (λ (L : List Event). RecoversTo udf capacity volume (held L) (after S (take (run.holds.c (length afterwards)) committed))) (take-length afterwards) there)
 
 -- and no other
-pub held_ended : (volume capacity : ℕ) (deliveries : List medium.Delivery) (S : State) (before behind : List Event) (answers : List medium.Answer) (T : State)
-    (run : HoldsOnJournal udf (need spelled) capacity volume S before behind deliveries answers) → RecoversTo udf capacity volume (held behind) T → T ≡ after S run.holds.committed
-held_ended volume capacity deliveries S before behind answers T run stands =
-    stands_one udf exact capacity volume capacity volume (held behind) T (after S run.holds.committed) stands (held_stands volume capacity deliveries S before behind answers run)
+pub held_ended : (volume capacity : ℕ) (deliveries : List medium.Delivery) (S : State) (before afterwards : List Event) (answers : List medium.Answer) (T : State)
+    (run : HoldsOnJournal udf (need spelled) capacity volume S before afterwards deliveries answers) → RecoversTo udf capacity volume (held afterwards) T → T ≡ after S run.holds.committed
+held_ended volume capacity deliveries S before afterwards answers T run stands =
+    stands_one udf exact capacity volume capacity volume (held afterwards) T (after S run.holds.committed) stands (held_stands volume capacity deliveries S before afterwards answers run)
 
 -- ---- along a run
 
 -- what a delivery's writes leave
-pub delivers_withstand : (volume : ℕ) (d : Delivery) (S : State) (before : Situation) (told : Option Answer) (behind : Situation) → Delivers d before told behind → IsTrue behind.honest → HoldsState volume S before
-    → MessageSurvivesPowerLoss volume S (Brings d) (faults_told told) before behind
-delivers_withstand volume Restart S before None behind is honest at = unwritten volume S (Brings Restart) 0 before behind at.once at.stands (ap (λ (s : Situation). s.journal) is) (ap (λ (s : Situation). s.writes) is)
-delivers_withstand volume Restart S before (Some a) behind is honest at = absurd is
-delivers_withstand volume (Frame payload) S before None behind is honest at = absurd is
-delivers_withstand volume (Frame payload) S before (Some a) behind (m, tells, one) honest at =
-    withstands_more volume S (AsksFor m) (Brings (Frame payload)) (faults a) before behind (λ r asks. (m, tells, asks)) (one.withstands volume S honest at)
+pub delivers_withstand : (volume : ℕ) (d : Delivery) (S : State) (before : Situation) (told : Option Answer) (afterwards : Situation) → Delivers d before told afterwards → IsTrue afterwards.honest → HoldsState volume S before
+    → MessageSurvivesPowerLoss volume S (Brings d) (faults_told told) before afterwards
+delivers_withstand volume Restart S before None afterwards is honest at = unwritten volume S (Brings Restart) 0 before afterwards at.once at.stands (ap (λ (s : Situation). s.journal) is) (ap (λ (s : Situation). s.writes) is)
+delivers_withstand volume Restart S before (Some a) afterwards is honest at = absurd is
+delivers_withstand volume (Frame payload) S before None afterwards is honest at = absurd is
+delivers_withstand volume (Frame payload) S before (Some a) afterwards (m, tells, one) honest at =
+    withstands_more volume S (AsksFor m) (Brings (Frame payload)) (faults a) before afterwards (λ r asks. (m, tells, asks)) (one.withstands volume S honest at)
 
 -- each delivery in turn is a step, and withstands
-pub all_withstand : (volume : ℕ) (deliveries : List Delivery) (S : State) (before : Situation) (answers : List Answer) (behind : Situation) (all : AllDelivered deliveries before answers behind) → IsTrue behind.honest → HoldsState volume S before
-    → (S' : State) × AllWithstand volume deliveries S before answers behind all S'
-all_withstand volume [] S before answers behind all honest at = (S, refl)
-all_withstand volume (d ∷ deliveries) S before answers behind (told, during, rest, delivers, order, more) honest at =
-    let so : IsTrue during.honest = delivered_honest deliveries during rest behind more honest in
+pub all_withstand : (volume : ℕ) (deliveries : List Delivery) (S : State) (before : Situation) (answers : List Answer) (afterwards : Situation) (all : AllDelivered deliveries before answers afterwards) → IsTrue afterwards.honest → HoldsState volume S before
+    → (S' : State) × AllWithstand volume deliveries S before answers afterwards all S'
+all_withstand volume [] S before answers afterwards all honest at = (S, refl)
+all_withstand volume (d ∷ deliveries) S before answers afterwards (told, during, rest, delivers, order, more) honest at =
+    let so : IsTrue during.honest = delivered_honest deliveries during rest afterwards more honest in
     let step = delivers_step volume d S before told during at (delivers_by volume d S before told during delivers so at) in
-    let later = all_withstand volume deliveries step.2 during rest behind more honest step.3.at in
+    let later = all_withstand volume deliveries step.2 during rest afterwards more honest step.3.at in
     (later.0, (step.0, step.1, step.2, step.3, delivers_withstand volume d S before told during delivers so at, later.1))
 
 -- so they are a run
-pub run_of : (volume : ℕ) (deliveries : List Delivery) (S : State) (before : Situation) (answers : List Answer) (behind : Situation) (all : AllDelivered deliveries before answers behind) (S' : State)
-    → AllWithstand volume deliveries S before answers behind all S' → IsRun volume deliveries S before answers behind
-run_of volume [] S before answers behind all S' same = record { said = []; are_said = tt; state = S'; steps = (ap model_answers all.0, same, all.1) }
-run_of volume (d ∷ deliveries) S before answers behind (told, during, rest, delivers, order, more) S' (said, is, T, step, withstands, later) =
-    let run = run_of volume deliveries T during rest behind more S' later in
+pub run_of : (volume : ℕ) (deliveries : List Delivery) (S : State) (before : Situation) (answers : List Answer) (afterwards : Situation) (all : AllDelivered deliveries before answers afterwards) (S' : State)
+    → AllWithstand volume deliveries S before answers afterwards all S' → IsRun volume deliveries S before answers afterwards
+run_of volume [] S before answers afterwards all S' same = record { said = []; are_said = tt; state = S'; steps = (ap model_answers all.0, same, all.1) }
+run_of volume (d ∷ deliveries) S before answers afterwards (told, during, rest, delivers, order, more) S' (said, is, T, step, withstands, later) =
+    let run = run_of volume deliveries T during rest afterwards more S' later in
     record { said = said ∷ run.said; are_said = (is, run.are_said); state = run.state; steps = (said_told told, T, during, model_answers rest, step, ap model_answers order ∙ said_rest told rest, run.steps) }
 
 -- a list's deliveries, until all are made, from where no store is kept
-pub ended_run : (volume : ℕ) (deliveries : List Delivery) (i : ℕ) (S : State) (journal : List Event) (failures capacity : ℕ) (honest : Bool) (writes : List (List Block)) (answers : List Answer) (kept : Option Store) (behind : Situation)
-    → length deliveries ≤ i → Once journal → RecoversTo udf capacity volume (held journal) S → IsTrue behind.honest
-    → AllDelivered (take i deliveries) (situation None journal failures capacity honest writes) answers (with_store kept behind) → RunWithstands volume deliveries S (situation None journal failures capacity honest writes) answers behind
-ended_run volume deliveries i S journal failures capacity honest writes answers kept behind all once stands so delivered =
+pub ended_run : (volume : ℕ) (deliveries : List Delivery) (i : ℕ) (S : State) (journal : List Event) (failures capacity : ℕ) (honest : Bool) (writes : List (List Block)) (answers : List Answer) (kept : Option Store) (afterwards : Situation)
+    → length deliveries ≤ i → Once journal → RecoversTo udf capacity volume (held journal) S → IsTrue afterwards.honest
+    → AllDelivered (take i deliveries) (situation None journal failures capacity honest writes) answers (with_store kept afterwards) → RunWithstands volume deliveries S (situation None journal failures capacity honest writes) answers afterwards
+ended_run volume deliveries i S journal failures capacity honest writes answers kept afterwards all once stands so delivered =
     let start : Situation = situation None journal failures capacity honest writes in
     let at : HoldsState volume S start = (runs_begin volume S journal failures capacity honest writes once stands).0 in
-    let every : AllDelivered deliveries start answers (with_store kept behind) = subst (λ (ds : List Delivery). AllDelivered ds start answers (with_store kept behind)) (take_all i deliveries all) delivered in
-    let each = all_withstand volume deliveries S start answers (with_store kept behind) every so at in
+    let every : AllDelivered deliveries start answers (with_store kept afterwards) = subst (λ (ds : List Delivery). AllDelivered ds start answers (with_store kept afterwards)) (take_all i deliveries all) delivered in
+    let each = all_withstand volume deliveries S start answers (with_store kept afterwards) every so at in
     record { kept = kept; delivered = every; state = each.0; each = each.1 }
 
-pub ended_holds : (volume : ℕ) (deliveries : List Delivery) (S : State) (journal : List Event) (failures capacity : ℕ) (honest : Bool) (writes : List (List Block)) (answers : List Answer) (behind : Situation) → Once journal → RecoversTo udf capacity volume (held journal) S
-    → RunWithstands volume deliveries S (situation None journal failures capacity honest writes) answers behind → RunHolds volume capacity deliveries S journal answers behind.journal
-ended_holds volume deliveries S journal failures capacity honest writes answers behind once stands run =
+pub ended_holds : (volume : ℕ) (deliveries : List Delivery) (S : State) (journal : List Event) (failures capacity : ℕ) (honest : Bool) (writes : List (List Block)) (answers : List Answer) (afterwards : Situation) → Once journal → RecoversTo udf capacity volume (held journal) S
+    → RunWithstands volume deliveries S (situation None journal failures capacity honest writes) answers afterwards → RunHolds volume capacity deliveries S journal answers afterwards.journal
+ended_holds volume deliveries S journal failures capacity honest writes answers afterwards once stands run =
     let start : Situation = situation None journal failures capacity honest writes in
-    runs_are_held volume deliveries S start answers (with_store run.kept behind) (runs_begin volume S journal failures capacity honest writes once stands).0
-    (run_of volume deliveries S start answers (with_store run.kept behind) run.delivered run.state run.each)
+    runs_are_held volume deliveries S start answers (with_store run.kept afterwards) (runs_begin volume S journal failures capacity honest writes once stands).0
+    (run_of volume deliveries S start answers (with_store run.kept afterwards) run.delivered run.state run.each)

@@ -18,7 +18,7 @@ use Rattle.model.specs.Session.Due.{Repeat, Stale, Gap, ClientsFull, New}
 use Rattle.durability.specs.Runs.{Delivery}
 use Rattle.durability.specs.Runs as medium
 use Rattle.store.specs.declared.store.Store.{Store}
-use Rattle.store.specs.Asked.{model_request}
+use Rattle.lookup.specs.Asked.{model_request}
 use Rattle.store.specs.Calls.{IsOpenOn, IsStillOpenOn, Applies, Gets, Lists, Stats}
 use Rattle.store.specs.Sessions.{reply_said}
 use Rattle.engine.specs.Situation.{Situation, IsOpen, with_store}
@@ -70,13 +70,13 @@ stat_answer (Err refusal) = stat_refused refusal
 -- ---- what a message gets at the recovered state
 
 -- No store was open, none could be opened, and nothing was written.
-pub record IsShort (before : Situation) (a : Answer) (behind : Situation) : Type 0 where
+pub record IsShort (before : Situation) (a : Answer) (afterwards : Situation) : Type 0 where
   pub refusal : StoreFault
   pub shortage : IsShortage refusal
   pub told : a ≡ failed refusal
-  pub journal : behind.journal ≡ before.journal
-  pub capacity : behind.capacity ≡ before.capacity
-  pub store : behind.store ≡ None
+  pub journal : afterwards.journal ≡ before.journal
+  pub capacity : afterwards.capacity ≡ before.capacity
+  pub store : afterwards.store ≡ None
   pub closed : (store : Store) → IsOpen before store → ⊥
 
 -- A store is open that keeps the state: the one that was, or one that was opened. Nothing was written.
@@ -86,21 +86,21 @@ pub record Uses (volume : ℕ) (S : State) (before during : Situation) (store : 
   pub knows : IsOpenOn during.capacity volume during.journal S store
 
 -- A new request was given to the store.
-pub record IsApplied (volume : ℕ) (S : State) (request : asking.Request) (during : Situation) (a : Answer) (behind : Situation) : Type 0 where
+pub record IsApplied (volume : ℕ) (S : State) (request : asking.Request) (during : Situation) (a : Answer) (afterwards : Situation) : Type 0 where
   pub result : Result Reply StoreFault
   pub told : a ≡ applied result
   pub kept : Store
-  pub store : behind.store ≡ Some kept
-  pub applies : Applies during.capacity volume during.journal S (model_request request) result behind.journal kept
-  pub capacity : behind.capacity ≡ during.capacity
+  pub store : afterwards.store ≡ Some kept
+  pub applies : Applies during.capacity volume during.journal S (model_request request) result afterwards.journal kept
+  pub capacity : afterwards.capacity ≡ during.capacity
 
 -- a request, by what is due for its number
 abbrev pub IsDealt : Due → ℕ → State → asking.Request → Situation → Store → Answer → Situation → Type 0
-IsDealt (Repeat kept) volume S request during store a behind = (reply : Reply) × (a ≡ answer.Reply reply) × (reply_said reply ≡ kept) × (behind ≡ with_store (Some store) during)
-IsDealt (Stale latest) volume S request during store a behind = (a ≡ answer.Stale latest) × (behind ≡ with_store (Some store) during)
-IsDealt (Gap latest) volume S request during store a behind = (a ≡ answer.Gap latest) × (behind ≡ with_store (Some store) during)
-IsDealt ClientsFull volume S request during store a behind = (a ≡ answer.ClientsFull) × (behind ≡ with_store (Some store) during)
-IsDealt New volume S request during store a behind = IsApplied volume S request during a behind
+IsDealt (Repeat kept) volume S request during store a afterwards = (reply : Reply) × (a ≡ answer.Reply reply) × (reply_said reply ≡ kept) × (afterwards ≡ with_store (Some store) during)
+IsDealt (Stale latest) volume S request during store a afterwards = (a ≡ answer.Stale latest) × (afterwards ≡ with_store (Some store) during)
+IsDealt (Gap latest) volume S request during store a afterwards = (a ≡ answer.Gap latest) × (afterwards ≡ with_store (Some store) during)
+IsDealt ClientsFull volume S request during store a afterwards = (a ≡ answer.ClientsFull) × (afterwards ≡ with_store (Some store) during)
+IsDealt New volume S request during store a afterwards = IsApplied volume S request during a afterwards
 
 -- a query's result
 abbrev pub IsQueried : State → asked.Query → Answer → Type 0
@@ -109,27 +109,27 @@ IsQueried S (query.List path) a = (result : Result (List Listed) StoreFault) × 
 IsQueried S (query.Stat path) a = (result : Result NodeStatus StoreFault) × Stats S path result × (a ≡ stat_answer result)
 
 -- A query was given to the store, and nothing was written.
-pub record IsRead (volume : ℕ) (S : State) (asked : asked.Query) (during : Situation) (a : Answer) (behind : Situation) : Type 0 where
+pub record IsRead (volume : ℕ) (S : State) (asked : asked.Query) (during : Situation) (a : Answer) (afterwards : Situation) : Type 0 where
   pub result : IsQueried S asked a
   pub kept : Store
-  pub store : behind.store ≡ Some kept
-  pub journal : behind.journal ≡ during.journal
-  pub capacity : behind.capacity ≡ during.capacity
-  pub knows : IsStillOpenOn behind.capacity volume behind.journal S kept
+  pub store : afterwards.store ≡ Some kept
+  pub journal : afterwards.journal ≡ during.journal
+  pub capacity : afterwards.capacity ≡ during.capacity
+  pub knows : IsStillOpenOn afterwards.capacity volume afterwards.journal S kept
 
 -- each message, by the calls that it makes
 abbrev pub Calls : ℕ → Message → State → Situation → Answer → Situation → Type 0
-Calls volume (message.Malformed cause) S before a behind = (a ≡ answer.Malformed cause) × (behind ≡ before)
-Calls volume message.NoMemory S before a behind = (a ≡ answer.Memory) × (behind ≡ before)
-Calls volume (message.Query asked) S before a behind = IsShort before a behind ⊎ ((during : Situation) × (store : Store) × Uses volume S before during store × IsRead volume S asked during a behind)
-Calls volume (message.Request request) S before a behind =
-    IsShort before a behind ⊎ ((during : Situation) × (store : Store) × Uses volume S before during store × IsDealt (due_of store request.client request.number) volume S request during store a behind)
+Calls volume (message.Malformed cause) S before a afterwards = (a ≡ answer.Malformed cause) × (afterwards ≡ before)
+Calls volume message.NoMemory S before a afterwards = (a ≡ answer.Memory) × (afterwards ≡ before)
+Calls volume (message.Query asked) S before a afterwards = IsShort before a afterwards ⊎ ((during : Situation) × (store : Store) × Uses volume S before during store × IsRead volume S asked during a afterwards)
+Calls volume (message.Request request) S before a afterwards =
+    IsShort before a afterwards ⊎ ((during : Situation) × (store : Store) × Uses volume S before during store × IsDealt (due_of store request.client request.number) volume S request during store a afterwards)
 
 -- they make a step that is a row of the medium's
 abbrev pub CallsAreSteps : Type 0
 CallsAreSteps =
-    (volume : ℕ) (m : Message) (S : State) (before : Situation) (a : Answer) (behind : Situation) → HoldsState volume S before → Calls volume m S before a behind
-    → (S' : State) × IsStep volume (medium.Delivery.Delivered (model_message m)) S before (Some (model_answer a)) S' behind
+    (volume : ℕ) (m : Message) (S : State) (before : Situation) (a : Answer) (afterwards : Situation) → HoldsState volume S before → Calls volume m S before a afterwards
+    → (S' : State) × IsStep volume (medium.Delivery.Delivered (model_message m)) S before (Some (model_answer a)) S' afterwards
 
 -- and so does a restart
 abbrev pub RestartsAreSteps : Type 0

@@ -23,17 +23,17 @@ use Rattle.engine.specs.Withstanding.{Brings, MessageSurvivesPowerLoss}
 
 -- a delivery, by the calls that it makes
 abbrev pub DeliversBy : ℕ → delivered.Delivery → State → Situation → Option Answer → Situation → Type 0
-DeliversBy volume Restart S before None behind = behind ≡ with_store None before
-DeliversBy volume Restart S before (Some a) behind = ⊥
-DeliversBy volume (Frame payload) S before None behind = ⊥
-DeliversBy volume (Frame payload) S before (Some a) behind = (m : Message) × DecodesPayload m payload.items × Calls volume m S before a behind
+DeliversBy volume Restart S before None afterwards = afterwards ≡ with_store None before
+DeliversBy volume Restart S before (Some a) afterwards = ⊥
+DeliversBy volume (Frame payload) S before None afterwards = ⊥
+DeliversBy volume (Frame payload) S before (Some a) afterwards = (m : Message) × DecodesPayload m payload.items × Calls volume m S before a afterwards
 
 -- These deliveries got these answers, in steps that the medium's runs allow, up to a recovered state.
-pub record IsRun (volume : ℕ) (deliveries : List delivered.Delivery) (S : State) (before : Situation) (answers : List Answer) (behind : Situation) : Type 0 where
+pub record IsRun (volume : ℕ) (deliveries : List delivered.Delivery) (S : State) (before : Situation) (answers : List Answer) (afterwards : Situation) : Type 0 where
   pub said : List Delivery
   pub are_said : AllSaid deliveries said
   pub state : State
-  pub steps : AllSteps volume said S before (model_answers answers) state behind
+  pub steps : AllSteps volume said S before (model_answers answers) state afterwards
 
 -- a run begins where a state is recovered and no store is kept
 abbrev pub RunsBegin : Type 0
@@ -46,34 +46,34 @@ RunsBegin =
 abbrev pub RunsGoOn : Type 0
 RunsGoOn =
     (volume : ℕ) (deliveries : List delivered.Delivery) (S : State) (before : Situation) (answers : List Answer) (during : Situation) → HoldsState volume S before
-    → (run : IsRun volume deliveries S before answers during) (d : delivered.Delivery) (told : Option Answer) (behind : Situation) → DeliversBy volume d run.state during told behind
-    → IsRun volume (deliveries ++ d ∷ []) S before (answers ++ option_to_list told) behind
+    → (run : IsRun volume deliveries S before answers during) (d : delivered.Delivery) (told : Option Answer) (afterwards : Situation) → DeliversBy volume d run.state during told afterwards
+    → IsRun volume (deliveries ++ d ∷ []) S before (answers ++ option_to_list told) afterwards
 
 -- At each prefix of what was written the state after the first of the requests that were committed is recovered.
-pub record RunHolds (volume capacity : ℕ) (deliveries : List delivered.Delivery) (S : State) (before : List Event) (answers : List Answer) (behind : List Event) : Type 0 where
+pub record RunHolds (volume capacity : ℕ) (deliveries : List delivered.Delivery) (S : State) (before : List Event) (answers : List Answer) (afterwards : List Event) : Type 0 where
   pub said : List Delivery
   pub are_said : AllSaid deliveries said
-  pub holds : HoldsOnJournal udf (need spelled) capacity volume S before behind said (model_answers answers)
+  pub holds : HoldsOnJournal udf (need spelled) capacity volume S before afterwards said (model_answers answers)
 
 abbrev pub RunsAreHeld : Type 0
 RunsAreHeld =
-    (volume : ℕ) (deliveries : List delivered.Delivery) (S : State) (before : Situation) (answers : List Answer) (behind : Situation) → HoldsState volume S before
-    → IsRun volume deliveries S before answers behind → RunHolds volume before.capacity deliveries S before.journal answers behind.journal
+    (volume : ℕ) (deliveries : List delivered.Delivery) (S : State) (before : Situation) (answers : List Answer) (afterwards : Situation) → HoldsState volume S before
+    → IsRun volume deliveries S before answers afterwards → RunHolds volume before.capacity deliveries S before.journal answers afterwards.journal
 
 -- Of the deliveries of a run, from the recovered state where the first of them begins. Each is a step that the medium's runs
 -- allow, from the state that the one before it left and the journal as it was when the delivery began: that journal's length
 -- is the mark of its row. And whatever a power loss leaves of the writes for it, that state is recovered, or the one after the
 -- new request that it brought.
-abbrev pub AllWithstand : ℕ → (deliveries : List delivered.Delivery) → State → (before : Situation) → (answers : List Answer) → (behind : Situation) → AllDelivered deliveries before answers behind → State → Type 0
-AllWithstand volume [] S before answers behind all S' = S' ≡ S
-AllWithstand volume (d ∷ deliveries) S before answers behind all S' =
+abbrev pub AllWithstand : ℕ → (deliveries : List delivered.Delivery) → State → (before : Situation) → (answers : List Answer) → (afterwards : Situation) → AllDelivered deliveries before answers afterwards → State → Type 0
+AllWithstand volume [] S before answers afterwards all S' = S' ≡ S
+AllWithstand volume (d ∷ deliveries) S before answers afterwards all S' =
     (said : Delivery) × IsDeliverySaid d said × (T : State) × IsStep volume said S before (said_told all.0) T all.1
     × MessageSurvivesPowerLoss volume S (Brings d) (faults_told all.0) before all.1
-    × AllWithstand volume deliveries T all.1 all.2 behind all.5 S'
+    × AllWithstand volume deliveries T all.1 all.2 afterwards all.5 S'
 
 -- So it is of a whole run: the deliveries one after another, each from where the one before it left engine and drive.
-pub record RunWithstands (volume : ℕ) (deliveries : List delivered.Delivery) (S : State) (before : Situation) (answers : List Answer) (behind : Situation) : Type 0 where
+pub record RunWithstands (volume : ℕ) (deliveries : List delivered.Delivery) (S : State) (before : Situation) (answers : List Answer) (afterwards : Situation) : Type 0 where
   pub kept : Option Store
-  pub delivered : AllDelivered deliveries before answers (with_store kept behind)
+  pub delivered : AllDelivered deliveries before answers (with_store kept afterwards)
   pub state : State
-  pub each : AllWithstand volume deliveries S before answers (with_store kept behind) delivered state
+  pub each : AllWithstand volume deliveries S before answers (with_store kept afterwards) delivered state

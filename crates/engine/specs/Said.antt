@@ -9,7 +9,7 @@ use Rattle.request.specs.Payload.{DecodesPayload}
 use Rattle.durability.specs.Runs.{Message, Delivery, Answer}
 use Rattle.durability.specs.Runs.Message.{Asks, Queries, Malformed, NoMemory}
 use Rattle.durability.specs.Runs as medium
-use Rattle.store.specs.Asked.{model_request, said_query, said_names, is_directory}
+use Rattle.lookup.specs.Asked.{model_request, said_query, said_names, is_directory}
 use Rattle.store.specs.Sessions.{reply_said}
 use Rattle.engine.specs.declared.runs.Delivery as delivered
 use Rattle.engine.specs.declared.runs.Delivery.TheVariants.{Frame, Restart}

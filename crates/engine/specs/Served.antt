@@ -35,26 +35,26 @@ brought messages = map (λ m. Delivered (model_message m)) messages
 -- On an honest drive, where a state is recovered that an open store knows: what is recovered at each prefix of what was written is the
 -- state after the first of the requests that were committed.
 abbrev pub ServedHolds : List Message → Situation → List Answer → Situation → Type 0
-ServedHolds messages before answers behind =
-    (volume : ℕ) (S : State) → IsTrue behind.honest → HoldsState volume S before
-    → HoldsOnJournal udf (need spelled) before.capacity volume S before.journal behind.journal (brought messages) (model_answers answers)
+ServedHolds messages before answers afterwards =
+    (volume : ℕ) (S : State) → IsTrue afterwards.honest → HoldsState volume S before
+    → HoldsOnJournal udf (need spelled) before.capacity volume S before.journal afterwards.journal (brought messages) (model_answers answers)
 
 -- Of messages, one after another, from the recovered state where the first of them comes. Each is a step that the medium's
 -- runs allow, from the state that the one before it left and the journal as it was when the message came. And whatever a loss
 -- of power leaves of the writes for it, that state is recovered, or the one after the new request that it asks for.
-abbrev pub EachWithstands : ℕ → (messages : List Message) → State → (before : Situation) → (answers : List Answer) → (behind : Situation) → AllAnswered messages before answers behind → State → Type 0
-EachWithstands volume [] S before [] behind all S' = S' ≡ S
-EachWithstands volume [] S before (a ∷ answers) behind all S' = ⊥
-EachWithstands volume (m ∷ messages) S before [] behind all S' = ⊥
-EachWithstands volume (m ∷ messages) S before (a ∷ answers) behind all S' =
+abbrev pub EachWithstands : ℕ → (messages : List Message) → State → (before : Situation) → (answers : List Answer) → (afterwards : Situation) → AllAnswered messages before answers afterwards → State → Type 0
+EachWithstands volume [] S before [] afterwards all S' = S' ≡ S
+EachWithstands volume [] S before (a ∷ answers) afterwards all S' = ⊥
+EachWithstands volume (m ∷ messages) S before [] afterwards all S' = ⊥
+EachWithstands volume (m ∷ messages) S before (a ∷ answers) afterwards all S' =
     (T : State) × IsStep volume (Delivered (model_message m)) S before (Some (model_answer a)) T all.0
     × MessageSurvivesPowerLoss volume S (AsksFor m) (faults a) before all.0
-    × EachWithstands volume messages T all.0 answers behind all.2 S'
+    × EachWithstands volume messages T all.0 answers afterwards all.2 S'
 
 -- so it is of these, as they were answered, on an honest drive where a state is recovered that an open store knows
-abbrev pub ServedWithstands : (messages : List Message) → (before : Situation) → (answers : List Answer) → (behind : Situation) → AllAnswered messages before answers behind → Type 0
-ServedWithstands messages before answers behind all =
-    (volume : ℕ) (S : State) → IsTrue behind.honest → HoldsState volume S before → (S' : State) × EachWithstands volume messages S before answers behind all S'
+abbrev pub ServedWithstands : (messages : List Message) → (before : Situation) → (answers : List Answer) → (afterwards : Situation) → AllAnswered messages before answers afterwards → Type 0
+ServedWithstands messages before answers afterwards all =
+    (volume : ℕ) (S : State) → IsTrue afterwards.honest → HoldsState volume S before → (S' : State) × EachWithstands volume messages S before answers afterwards all S'
 
 -- a reader of frames gave these messages, in order
 abbrev pub AllTaken : Option (List ℕ) → List Message → Option (List ℕ) → Type 0
@@ -66,11 +66,11 @@ abbrev pub frames_of : List Answer → List ℕ
 frames_of answers = flat_map answer_frame answers
 
 -- Messages that a reader of frames held were answered, and each answer's frame was written.
-pub record Answering (reader after : Option (List ℕ)) (before behind : Situation) (output written : Option (List ℕ)) : Type 0 where
+pub record Answering (reader after : Option (List ℕ)) (before afterwards : Situation) (output written : Option (List ℕ)) : Type 0 where
   pub messages : List Message
   pub answers : List Answer
   pub taken : AllTaken reader messages after
-  pub answered : AllAnswered messages before answers behind
+  pub answered : AllAnswered messages before answers afterwards
   pub told : Appends output written (frames_of answers)
 
 -- no whole message waits, and each answer's frame was written
@@ -102,22 +102,22 @@ LeftBy faults.Memory bytes answers reader output written =
     LeftAt faults.Memory answers reader output written ⊎ (Unlooked answers reader output written ⊎ AllTold answers reader output written)
 
 -- The same, but it ended with a fault, and of the answers' frames a prefix was written.
-pub record AnswersSome (fault : ServeFault) (reader after : Option (List ℕ)) (before behind : Situation) (output written : Option (List ℕ)) : Type 0 where
+pub record AnswersSome (fault : ServeFault) (reader after : Option (List ℕ)) (before afterwards : Situation) (output written : Option (List ℕ)) : Type 0 where
   pub messages : List Message
   pub answers : List Answer
   pub taken : AllTaken reader messages after
-  pub answered : AllAnswered messages before answers behind
+  pub answered : AllAnswered messages before answers afterwards
   pub front : PutsPrefix output written (frames_of answers)
   pub left : LeftAt fault answers after output written
 
 -- Bytes were read. The messages that a reader of frames gave of them, and that is left so, were answered, and each answer's frame was written.
-pub record Serving (reader : Option (List ℕ)) (before behind : Situation) (input left output written : Option (List ℕ)) : Type 0 where
+pub record Serving (reader : Option (List ℕ)) (before afterwards : Situation) (input left output written : Option (List ℕ)) : Type 0 where
   pub bytes : List ℕ
   pub messages : List Message
   pub answers : List Answer
   pub consumed : Consumes input left bytes
   pub messages_are : MessagesAre bytes messages reader
-  pub answered : AllAnswered messages before answers behind
+  pub answered : AllAnswered messages before answers afterwards
   pub told : Appends output written (frames_of answers)
 
 -- A frame was too long: in the last piece that was read, and in none before it.
@@ -133,28 +133,28 @@ pub record IsCutOff (bytes : List ℕ) (reader : Option (List ℕ)) : Type 0 whe
   pub partial : IsPartial waiting
 
 -- All messages of the bytes that were read were answered in turn, and each answer's frame was written. The stream is at its end, or a frame was too long.
-pub record ServesAll (before behind : Situation) (input left output written : Option (List ℕ)) : Type 0 where
+pub record ServesAll (before afterwards : Situation) (input left output written : Option (List ℕ)) : Type 0 where
   pub reader : Option (List ℕ)
-  pub serving : Serving reader before behind input left output written
-  pub holds : ServedHolds serving.messages before serving.answers behind
-  pub withstands : ServedWithstands serving.messages before serving.answers behind serving.answered
+  pub serving : Serving reader before afterwards input left output written
+  pub holds : ServedHolds serving.messages before serving.answers afterwards
+  pub withstands : ServedWithstands serving.messages before serving.answers afterwards serving.answered
   pub idle : IsIdle reader
   pub ends : IsAtEnd left ⊎ IsCutOff serving.bytes reader
 
 -- The first messages of the bytes that were read were answered in turn, and of the answers' frames a prefix was written.
-pub record ServesSome (before behind : Situation) (input left output written : Option (List ℕ)) : Type 0 where
+pub record ServesSome (before afterwards : Situation) (input left output written : Option (List ℕ)) : Type 0 where
   pub bytes : List ℕ
   pub messages : List Message
   pub answers : List Answer
   pub reader : Option (List ℕ)
   pub consumed : Consumes input left bytes
   pub messages_are : MessagesAre bytes messages reader
-  pub answered : AllAnswered messages before answers behind
-  pub holds : ServedHolds messages before answers behind
-  pub withstands : ServedWithstands messages before answers behind answered
+  pub answered : AllAnswered messages before answers afterwards
+  pub holds : ServedHolds messages before answers afterwards
+  pub withstands : ServedWithstands messages before answers afterwards answered
   pub front : PutsPrefix output written (frames_of answers)
 
 -- The same, up to where this fault came.
-pub record ServesUntil (fault : ServeFault) (before behind : Situation) (input left output written : Option (List ℕ)) : Type 0 where
-  pub some : ServesSome before behind input left output written
+pub record ServesUntil (fault : ServeFault) (before afterwards : Situation) (input left output written : Option (List ℕ)) : Type 0 where
+  pub some : ServesSome before afterwards input left output written
   pub left_by : LeftBy fault some.bytes some.answers some.reader output written

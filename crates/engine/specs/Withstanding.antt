@@ -10,7 +10,7 @@ use Rattle.model.specs.Session.Due.{New}
 use Rattle.durability.specs.Formats.{Block}
 use Rattle.durability.specs.Journal.{Advances}
 use Rattle.udf.specs.Udf.{udf}
-use Rattle.store.specs.Asked.{model_request}
+use Rattle.lookup.specs.Asked.{model_request}
 use Rattle.engine.specs.declared.runs.Delivery.{Delivery}
 use Rattle.engine.specs.declared.runs.Delivery.TheVariants.{Frame, Restart}
 use Rattle.engine.specs.Situation.{Situation}
@@ -19,12 +19,12 @@ use Rattle.engine.specs.Situation.{Situation}
 -- journal goes on by a prefix of their blocks, and by all blocks of the writes that were made where none failed. Whatever a
 -- power loss leaves of the writes that were made, from the end of the first journal on, the state is recovered as before, or
 -- the one after a request that was asked for and is new.
-pub record MessageSurvivesPowerLoss (volume : ℕ) (S : State) (asked : Request → Type 0) (failed : ℕ) (before behind : Situation) : Type 0 where
+pub record MessageSurvivesPowerLoss (volume : ℕ) (S : State) (asked : Request → Type 0) (failed : ℕ) (before afterwards : Situation) : Type 0 where
   pub added : List (List Block)
   pub others : List (List Block)
-  pub writes_are : behind.writes ≡ before.writes ++ added
-  pub front : AddsPrefix before.journal (length before.journal) (joined (added ++ others)) behind.journal
-  pub whole : failed ≡ 0 → behind.journal ≡ before.journal ++ written (length before.journal) (joined added)
+  pub writes_are : afterwards.writes ≡ before.writes ++ added
+  pub front : AddsPrefix before.journal (length before.journal) (joined (added ++ others)) afterwards.journal
+  pub whole : failed ≡ 0 → afterwards.journal ≡ before.journal ++ written (length before.journal) (joined added)
   pub torn : (left : List Block) (journal : List Event) → IsLeft added left → journal ≡ before.journal ++ written (length before.journal) left
       → Advances udf before.capacity volume before.journal S journal S ⊎ ((request : Request) × asked request × (due S request.client request.number ≡ New) × Advances udf before.capacity volume before.journal S journal (after_one S request))
 

@@ -123,7 +123,7 @@ impl Engine {
 }
 
 /// The answer to a request, by what is due.
-#[tactic(auto, using(crate::proofs::Fronts::behind_written))]
+#[tactic(auto, using(crate::proofs::Fronts::after_written))]
 fn answer_request<D: Drive>(
     store: &mut Store,
     alloc: Global,

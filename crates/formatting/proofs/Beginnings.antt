@@ -1,5 +1,5 @@
 -- Whether bytes begin a block of a format that was made in memory.
-use Rattle.std.proofs.Common.{◌≡◌, ℕ, zero, suc, ◌<◌, ◌≤◌, List, [], ◌∷◌, ◌++◌, length, drop, Bool, true, false, Result, Ok, Err, inr, sym, ap, subst, ◌∙◌, arith, ◌==◌}
+use Rattle.std.proofs.Common.{◌≡◌, ℕ, zero, suc, ◌<◌, ◌≤◌, List, [], ◌∷◌, ◌++◌, length, drop, Bool, true, false, Result, Ok, Err, Option, Some, inl, inr, sym, ap, subst, ◌∙◌, arith, ◌==◌}
 use Rattle.std.specs.Prelude.{slice_index_or, IfErr, OnOk}
 use Rattle.std.specs.List.{starts_with}
 use Rattle.std.proofs.lemmas.Bool.Decides.{Decides-eqb}
@@ -9,7 +9,7 @@ use Rattle.drive.specs.Journal.{Event, written, next_of}
 use Rattle.drive.proofs.Journals.{length-written}
 use Rattle.formatting.specs.NewVolume.{words_on, IsFormatOf, IsFormatted}
 use Rattle.recover.specs.declared.fault.StoreFault.{StoreFault}
-use Rattle.formatting.specs.Beginning.{Begins, BeginsNot, IsPartBegun, IsNoPart, IsPartUnbegun}
+use Rattle.formatting.specs.Beginning.{Begins, BeginsNot, IsBegun, IsNoPart, IsPartBegun, IsPartUnbegun, IsUnbegun}
 
 -- what is at a place of a journal that was written in order
 event_at : (from at : ℕ) (blocks : List (List ℕ)) (event : Event) → at < length (written from blocks) → event ≡ slice_index_or (written from blocks) at event
@@ -45,15 +45,27 @@ module _ (size capacity moment : ℕ) (label : List ℕ) (before J journal : Lis
 
 -- ---- what is left after the last whole block of an image
 
-pub unbegun_part : {T : Type 0} (outcome : Result T StoreFault) (room capacity moment at : ℕ) (label part : List ℕ) (journal : List Event) → room ≡ capacity → at ≡ next_of journal → 0 < length part → length part < 2048
-    → IfErr outcome (IsNoPart room label moment at part) → IfErr outcome (IsPartUnbegun capacity label moment journal)
-unbegun_part (Ok x) room capacity moment at label part journal size next some short h = tt
-unbegun_part (Err fault) room capacity moment at label part journal size next some short h =
-    inr (part, some, short, subst (λ (n : ℕ). IsNoPart capacity label moment n part fault) next (subst (λ (n : ℕ). IsNoPart n label moment at part fault) size h))
+pub unbegun_part : {T : Type 0} (outcome : Result T StoreFault) (room capacity moment at : ℕ) (label part : List ℕ) (journal : List Event) → room ≡ capacity → at ≡ next_of journal → 0 < length part
+    → IfErr outcome (IsNoPart room label moment at part) → IfErr outcome (IsPartUnbegun capacity label moment journal part)
+unbegun_part (Ok x) room capacity moment at label part journal size next some h = tt
+unbegun_part (Err fault) room capacity moment at label part journal size next some h =
+    inr (some, subst (λ (n : ℕ). IsNoPart capacity label moment n part fault) next (subst (λ (n : ℕ). IsNoPart n label moment at part fault) size h))
 
 -- or it is accepted
-pub begun_part : {T : Type 0} (outcome : Result T StoreFault) (room capacity moment at : ℕ) (label part : List ℕ) (journal : List Event) → room ≡ capacity → at ≡ next_of journal → length part < 2048
-    → OnOk outcome (Begins (words_on room label moment) at part) → OnOk outcome (IsPartBegun capacity label moment journal)
-begun_part (Ok x) room capacity moment at label part journal size next short h =
-    (part, short, inr (subst (λ (n : ℕ). Begins (words_on capacity label moment) n part) next (subst (λ (n : ℕ). Begins (words_on n label moment) at part) size h)))
-begun_part (Err fault) room capacity moment at label part journal size next short h = tt
+pub begun_part : {T : Type 0} (outcome : Result T StoreFault) (room capacity moment at : ℕ) (label part : List ℕ) (journal : List Event) → room ≡ capacity → at ≡ next_of journal
+    → OnOk outcome (Begins (words_on room label moment) at part) → OnOk outcome (IsPartBegun capacity label moment journal part)
+begun_part (Ok x) room capacity moment at label part journal size next h =
+    inr (subst (λ (n : ℕ). Begins (words_on capacity label moment) n part) next (subst (λ (n : ℕ). Begins (words_on n label moment) at part) size h))
+begun_part (Err fault) room capacity moment at label part journal size next h = tt
+
+-- the same of what a look found, and of its count of bytes
+pub unbegun_look : {T : Type 0} (outcome : Result T StoreFault) (capacity moment : ℕ) (label part : List ℕ) (journal : List Event) (look : Option (List ℕ)) → look ≡ Some part → length part < 2048
+    → IfErr outcome (IsPartUnbegun capacity label moment journal part) → IfErr outcome (IsUnbegun capacity label moment journal look)
+unbegun_look (Ok x) capacity moment label part journal look seen short h = tt
+unbegun_look (Err fault) capacity moment label part journal look seen short (inl device) = inl device
+unbegun_look (Err fault) capacity moment label part journal look seen short (inr other) = inr (part, seen, other.0, short, other.1)
+
+pub begun_look : {T : Type 0} (outcome : Result T StoreFault) (capacity moment : ℕ) (label part : List ℕ) (journal : List Event) (look : Option (List ℕ)) → look ≡ Some part → length part < 2048
+    → OnOk outcome (IsPartBegun capacity label moment journal part) → OnOk outcome (IsBegun capacity label moment journal look)
+begun_look (Ok x) capacity moment label part journal look seen short h = (part, seen, short, h)
+begun_look (Err fault) capacity moment label part journal look seen short h = tt

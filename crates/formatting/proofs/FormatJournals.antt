@@ -7,6 +7,7 @@ use Rattle.std.proofs.Math.Seq.{take-add, take-length}
 use Rattle.std.proofs.lemmas.Bool.{cases_lt}
 use Rattle.std.proofs.lemmas.List.{same_lists, take-append-drop, get_or_default, get_or-append-add, get_or-take, length-take, length-take-le, take-append-le, drop_at, take_at, take_all}
 use Rattle.std.proofs.lemmas.List.Elements.{All-append, All-push}
+use Rattle.limits.specs.declared.TheConstants.{GREATEST_CAPACITY, LEAST_CAPACITY}
 use Rattle.drive.specs.Journal.{Event, written, next_of, last_at, later_or, table, held, AddsPrefix}
 use Rattle.drive.proofs.Journals.{last-append, next_after_write}
 use Rattle.drive.proofs.Fronts.{front_whole, front_within}
@@ -100,9 +101,9 @@ blocks_same a b told e same = same_text a b (flipped (pointwise nat_eq a b) (sym
     flipped false h = h
 
 -- one block more was read
-pub seen_more : (words : Words) (J : List Event) (before behind : Bool) (n : ℕ) (block made : Block) → (IsTrue behind → IsTrue before) → IsFormatRead words J before n
-    → IsBlock made → IsBlockAt words n made → block ≡ made → (IsTrue behind → last_at J n ≡ Some block) → IsFormatRead words J behind (n + 1)
-seen_more words J before behind n block made honest seen bytes is same read = record {
+pub seen_more : (words : Words) (J : List Event) (before afterwards : Bool) (n : ℕ) (block made : Block) → (IsTrue afterwards → IsTrue before) → IsFormatRead words J before n
+    → IsBlock made → IsBlockAt words n made → block ≡ made → (IsTrue afterwards → last_at J n ≡ Some block) → IsFormatRead words J afterwards (n + 1)
+seen_more words J before afterwards n block made honest seen bytes is same read = record {
   blocks = seen.blocks ++ block ∷ [];
   long = length-append seen.blocks (block ∷ []) ∙ omega (arith, seen.long);
   bytes = All-push IsBlock seen.blocks block seen.bytes (subst IsBlock (sym same) bytes);
@@ -136,8 +137,8 @@ blocks_more words from to blocks made are bytes is = record {
 
 -- ---- what a write leaves
 
-module _ (capacity : ℕ) (words : Words) (blocks : List Block) (before behind : List Event) (is : IsFormatOf words blocks) (fits : words.volume ≤ capacity)
-    (short : next_of before ≤ 262) (adds : AddsPrefix before (next_of before) (drop (next_of before) blocks) behind) (began : held before ≡ take (next_of before) blocks) where
+module _ (capacity : ℕ) (words : Words) (blocks : List Block) (before afterwards : List Event) (is : IsFormatOf words blocks) (fits : words.volume ≤ capacity)
+    (short : next_of before ≤ 262) (adds : AddsPrefix before (next_of before) (drop (next_of before) blocks) afterwards) (began : held before ≡ take (next_of before) blocks) where
   abbrev first : List Block
   first = is.front ++ is.set ∷ is.names ∷ is.root ∷ is.table ∷ []
 
@@ -147,36 +148,36 @@ module _ (capacity : ℕ) (words : Words) (blocks : List Block) (before behind :
   order : first ++ is.mark ∷ [] ≡ blocks
   order = append_assoc is.front (is.set ∷ is.names ∷ is.root ∷ is.table ∷ []) (is.mark ∷ []) ∙ sym is.order
 
-  each_front : (k : ℕ) → length before ≤ k → (j : ℕ) × (j ≤ 262) × (held (take k behind) ≡ take j blocks) × (next_of (take k behind) ≡ j)
+  each_front : (k : ℕ) → length before ≤ k → (j : ℕ) × (j ≤ 262) × (held (take k afterwards) ≡ take j blocks) × (next_of (take k afterwards) ≡ j)
   each_front k le =
-      let front = front_within before behind (next_of before) k (drop (next_of before) blocks) adds le in
+      let front = front_within before afterwards (next_of before) k (drop (next_of before) blocks) adds le in
       let m = front.0 in
       let j = next_of before + m in
       let few : j ≤ 262 = omega (arith, short, front.1, length-drop (next_of before) blocks, format_long words blocks is) in
-      let there : held (take k behind) ≡ take j blocks =
+      let there : held (take k afterwards) ≡ take j blocks =
       ap held front.2 ∙ held_more before (take m (drop (next_of before) blocks)) ∙ ap (λ (bs : List Block). bs ++ take m (drop (next_of before) blocks)) began ∙ sym (take-add (next_of before) m blocks) in
-      (j, few, there, sym (length-held (take k behind)) ∙ ap length there ∙ length-take-le j blocks (omega (arith, few, format_long words blocks is)))
+      (j, few, there, sym (length-held (take k afterwards)) ∙ ap length there ∙ length-take-le j blocks (omega (arith, few, format_long words blocks is)))
 
-  pub holds_fronts : HoldsPrefixes capacity words blocks before behind
+  pub holds_fronts : HoldsPrefixes capacity words blocks before afterwards
   holds_fronts = record {
     began = began;
     each = λ k le. let front = each_front k le in front.2 ∙ ap (λ n. take n blocks) (sym front.3);
     nothing = λ k other_capacity other_volume state le few stands.
         let front = each_front k le in
-        let there : held (take k behind) ≡ take front.0 first =
+        let there : held (take k afterwards) ≡ take front.0 first =
         front.2 ∙ ap (λ (bs : List Block). take front.0 bs) (sym order) ∙ take-append-le front.0 first (is.mark ∷ []) (omega (arith, few, front.3, format_is.long)) in
         let at : stands.at ≡ 0 + stands.at = omega arith in
         none_take_at udf 0 front.0 first format_is.none stands.at stands.block (ap (λ (M : List Block). slice_get M stands.at) (sym there) ∙ stands.last.there)
         (subst (λ n. IsVatIcbAt udf stands.block n) at stands.last.is);
     new = λ k le all.
         let front = each_front k le in
-        let there : held (take k behind) ≡ first ++ is.mark ∷ [] = front.2 ∙ take_all front.0 blocks (omega (arith, all, front.3, format_long words blocks is)) ∙ sym order in
+        let there : held (take k afterwards) ≡ first ++ is.mark ∷ [] = front.2 ∙ take_all front.0 blocks (omega (arith, all, front.3, format_long words blocks is)) ∙ sym order in
         subst (λ (bs : List Block). RecoversTo udf capacity words.volume bs (formatted words.moment)) (sym there) (format_stands udf capacity words.volume words.label words.moment first is.mark format_is exact);
   }
 
 -- nothing was written
-pub nothing_written : (capacity : ℕ) (words : Words) (before : List Event) (writes behind : List (List Block)) (honest : Bool) → behind ≡ writes → FormatSurvivesPowerLoss capacity words before writes behind honest
-nothing_written capacity words before writes behind honest same = record { added = []; writes_are = same ∙ sym (append-nil writes); torn = inl refl }
+pub nothing_written : (capacity : ℕ) (words : Words) (before : List Event) (writes afterwards : List (List Block)) (honest : Bool) → afterwards ≡ writes → FormatSurvivesPowerLoss capacity words before writes afterwards honest
+nothing_written capacity words before writes afterwards honest same = record { added = []; writes_are = same ∙ sym (append-nil writes); torn = inl refl }
 
 -- blocks are none, or end in one
 pub none_or_last : (bs : List Block) → (bs ≡ []) ⊎ ((front : List Block) × (last : Block) × (bs ≡ front ++ last ∷ []))
@@ -188,8 +189,8 @@ none_or_last (b ∷ bs) = inr (go b bs)
     go b (c ∷ bs) = let rest = go c bs in (b ∷ rest.0, rest.1, ap (λ (cs : List Block). b ∷ cs) rest.2)
 
 -- a journal that was read, and goes on with the blocks that were not there
-module _ (capacity : ℕ) (words : Words) (low : 512 ≤ words.volume) (high : words.volume ≤ 450_000) (fits : words.volume ≤ capacity)
-    (before between behind : List Event) (then now : Bool) (next : ℕ) (blocks : List Block) (between-is : between ≡ before) (next-is : next ≡ next_of before) (short : next ≤ 262)
+module _ (capacity : ℕ) (words : Words) (low : LEAST_CAPACITY ≤ words.volume) (high : words.volume ≤ GREATEST_CAPACITY) (fits : words.volume ≤ capacity)
+    (before between afterwards : List Event) (then now : Bool) (next : ℕ) (blocks : List Block) (between-is : between ≡ before) (next-is : next ≡ next_of before) (short : next ≤ 262)
     (seen : IsFormatRead words before then next) (are : AreBlocks words next 262 blocks) (honest : IsTrue now → IsTrue then) where
   abbrev all : List Block
   all = seen.blocks ++ blocks
@@ -218,27 +219,27 @@ module _ (capacity : ℕ) (words : Words) (low : 512 ≤ words.volume) (high : w
       held_is before seen.blocks (seen.long ∙ next-is) (λ n lt. seen.there (honest h) n (omega (arith, lt, seen.long)))
       ∙ sym (take_at seen.blocks blocks (next_of before) (seen.long ∙ next-is))
 
-  front_of : AddsPrefix between next blocks behind → AddsPrefix before (next_of before) (drop (next_of before) all) behind
+  front_of : AddsPrefix between next blocks afterwards → AddsPrefix before (next_of before) (drop (next_of before) all) afterwards
   front_of (m, le, e) = (m, subst (λ (bs : List Block). m ≤ length bs) (sym left) le, e ∙ rw (between-is, next-is, left) refl)
 
-  pub cut_is : AddsPrefix between next blocks behind → IsFormatCutShort capacity words before behind now
+  pub cut_is : AddsPrefix between next blocks afterwards → IsFormatCutShort capacity words before afterwards now
   cut_is adds = record {
     blocks = all;
     is = all_are;
     short = omega (arith, short, next-is);
     journal = front_of adds;
-    fronts = λ h. holds_fronts capacity words all before behind all_are fits (omega (arith, short, next-is)) (front_of adds) (there_before h);
+    fronts = λ h. holds_fronts capacity words all before afterwards all_are fits (omega (arith, short, next-is)) (front_of adds) (there_before h);
   }
 
-  pub formatted_is : behind ≡ between ++ written next blocks → IsFormatted capacity words before behind now
+  pub formatted_is : afterwards ≡ between ++ written next blocks → IsFormatted capacity words before afterwards now
   formatted_is e =
-      let adds : AddsPrefix between next blocks behind = subst (AddsPrefix between next blocks) (sym e) (front_whole between next blocks) in
-      let journal : behind ≡ before ++ written (next_of before) (drop (next_of before) all) = e ∙ rw (between-is, next-is, left) refl in
-      let holds : IsTrue now → held behind ≡ all = λ h.
+      let adds : AddsPrefix between next blocks afterwards = subst (AddsPrefix between next blocks) (sym e) (front_whole between next blocks) in
+      let journal : afterwards ≡ before ++ written (next_of before) (drop (next_of before) all) = e ∙ rw (between-is, next-is, left) refl in
+      let holds : IsTrue now → held afterwards ≡ all = λ h.
       ap held journal ∙ held_more before (drop (next_of before) all) ∙ ap (λ (bs : List Block). bs ++ drop (next_of before) all) (there_before h) ∙ take-append-drop (next_of before) all in
-      let fronts : IsTrue now → HoldsPrefixes capacity words all before behind = λ h.
-      holds_fronts capacity words all before behind all_are fits (omega (arith, short, next-is)) (front_of adds) (there_before h) in
-      let whole : take (length behind) behind ≡ behind = take-length behind in
+      let fronts : IsTrue now → HoldsPrefixes capacity words all before afterwards = λ h.
+      holds_fronts capacity words all before afterwards all_are fits (omega (arith, short, next-is)) (front_of adds) (there_before h) in
+      let whole : take (length afterwards) afterwards ≡ afterwards = take-length afterwards in
       record {
         blocks = all;
         is = all_are;
@@ -247,8 +248,8 @@ module _ (capacity : ℕ) (words : Words) (low : 512 ≤ words.volume) (high : w
         fronts = fronts;
         holds = holds;
         stands = λ h. subst (λ (K : List Event). RecoversTo udf capacity words.volume (held K) (formatted words.moment)) whole
-            ((fronts h).new (length behind) (omega (arith, ap length journal, length-append before (written (next_of before) (drop (next_of before) all))))
-            (ap next_of whole ∙ sym (length-held behind) ∙ ap length (holds h) ∙ all_long));
+            ((fronts h).new (length afterwards) (omega (arith, ap length journal, length-append before (written (next_of before) (drop (next_of before) all))))
+            (ap next_of whole ∙ sym (length-held afterwards) ∙ ap length (holds h) ∙ all_long));
       }
 
   -- whatever a power loss leaves of the blocks that were not there, the last of them in a write of its own

@@ -7,6 +7,7 @@ use Rattle.std.proofs.Math.ListN.{get_or-append}
 use Rattle.std.proofs.lemmas.Bool.{cases_lt}
 use Rattle.std.proofs.lemmas.List.{same_lists, get_or_default, take-append-drop, length-take-le, get_or-take, get_or-drop, get_or-append-add}
 use Rattle.std.proofs.lemmas.List.Elements.{All-nil}
+use Rattle.limits.specs.declared.TheConstants.{GREATEST_CAPACITY, LEAST_CAPACITY}
 use Rattle.ecma.specs.Descriptor.{padded}
 use Rattle.osta.specs.Label.{IsLabel}
 use Rattle.icb.specs.Entry.{IsEntry}
@@ -185,7 +186,7 @@ five (a ∷ b ∷ c ∷ d ∷ []) e = absurd (omega (arith, e))
 five (a ∷ b ∷ c ∷ d ∷ x ∷ []) e = refl
 five (a ∷ b ∷ c ∷ d ∷ x ∷ y ∷ bs) e = absurd (omega (arith, e))
 
-module _ (words : Words) (blocks : List Block) (low : 512 ≤ words.volume) (high : words.volume ≤ 450_000) (long : length blocks ≡ 262) (bytes : All IsBlock blocks) (each : (n : ℕ) → n < 262 → IsBlockAt words n (get_or blocks n [])) where
+module _ (words : Words) (blocks : List Block) (low : LEAST_CAPACITY ≤ words.volume) (high : words.volume ≤ GREATEST_CAPACITY) (long : length blocks ≡ 262) (bytes : All IsBlock blocks) (each : (n : ℕ) → n < 262 → IsBlockAt words n (get_or blocks n [])) where
   whole_front : IsFront words.label words.moment words.volume (take 257 blocks)
   whole_front = record {
     low = low;
@@ -228,18 +229,18 @@ module _ (words : Words) (blocks : List Block) (low : 512 ≤ words.volume) (hig
 
 -- and each block of a format is the one at its address
 module _ (words : Words) (blocks : List Block) (is : IsFormatOf words blocks) where
-  abbrev behind : List Block
-  behind = is.set ∷ is.names ∷ is.root ∷ is.table ∷ is.mark ∷ []
+  abbrev afterwards : List Block
+  afterwards = is.set ∷ is.names ∷ is.root ∷ is.table ∷ is.mark ∷ []
 
   pub format_long : length blocks ≡ 262
-  format_long = ap length is.order ∙ length-append is.front behind ∙ omega (arith, is.is.front_is.count)
+  format_long = ap length is.order ∙ length-append is.front afterwards ∙ omega (arith, is.is.front_is.count)
 
-  past : (i : ℕ) → get_or blocks (257 + i) [] ≡ get_or behind i []
+  past : (i : ℕ) → get_or blocks (257 + i) [] ≡ get_or afterwards i []
   past i =
       ap (λ (bs : List Block). get_or bs (257 + i) []) is.order
-      ∙ ap (λ n. get_or (is.front ++ behind) (n + i) []) (sym is.is.front_is.count) ∙ get_or-append-add is.front behind i []
+      ∙ ap (λ n. get_or (is.front ++ afterwards) (n + i) []) (sym is.is.front_is.count) ∙ get_or-append-add is.front afterwards i []
 
-  at_past : (i : ℕ) (b : Block) → get_or behind i [] ≡ b → IsBlockAt words (257 + i) b → IsBlockAt words (257 + i) (get_or blocks (257 + i) [])
+  at_past : (i : ℕ) (b : Block) → get_or afterwards i [] ≡ b → IsBlockAt words (257 + i) b → IsBlockAt words (257 + i) (get_or blocks (257 + i) [])
   at_past i b e is-at = subst (IsBlockAt words (257 + i)) (sym (past i ∙ e)) is-at
 
   moved : (n m : ℕ) → m ≡ n → IsBlockAt words m (get_or blocks m []) → IsBlockAt words n (get_or blocks n [])
@@ -248,7 +249,7 @@ module _ (words : Words) (blocks : List Block) (is : IsFormatOf words blocks) wh
   pub block_at : (n : ℕ) → n < 262 → IsBlockAt words n (get_or blocks n [])
   block_at n within = elim (cases_lt n 257) [
     | inl low ↦
-        let there : get_or is.front n [] ≡ get_or blocks n [] = sym (ap (λ (bs : List Block). get_or bs n []) is.order ∙ get_or-append is.front behind [] n (omega (arith, is.is.front_is.count))) in
+        let there : get_or is.front n [] ≡ get_or blocks n [] = sym (ap (λ (bs : List Block). get_or bs n []) is.order ∙ get_or-append is.front afterwards [] n (omega (arith, is.is.front_is.count))) in
         front_at words n (get_or blocks n []) low (subst (IsFrontBlock words.label words.moment words.volume n) there (is.is.front_is.each n low))
     | inr high ↦ elim (cases_lt n 258) [
       | inl low ↦ moved n 257 (omega arith) (at_past 0 is.set refl (set_at words 257 is.set refl is.is.set_is))

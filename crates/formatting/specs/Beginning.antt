@@ -1,5 +1,5 @@
 -- Bytes after the last whole block of an image: whether they begin the next block of a format.
-use Rattle.std.specs.Prelude.{◌≡◌, ◌⊎◌, ℕ, ◌<◌, ◌++◌, IsSome, List, [], length, slice_index_or}
+use Rattle.std.specs.Prelude.{◌≡◌, ◌⊎◌, ℕ, ◌<◌, ◌++◌, IsSome, List, [], length, slice_index_or, Option, Some}
 use Rattle.limits.specs.declared.TheConstants.{BLOCK_BYTES, LEAST_CAPACITY}
 use Rattle.drive.specs.Journal.{Event, next_of}
 use Rattle.osta.specs.FirstFault.{first_text_fault}
@@ -28,12 +28,22 @@ IsNoPart capacity label moment at part fault =
     ⊎ (((fault ≡ stores.Small) × (capacity < LEAST_CAPACITY))
     ⊎ (fault ≡ stores.Memory)))
 
--- why what is left after the last whole block of an image is refused: it could not be read, or it begins no next block of the format
-abbrev pub IsPartUnbegun : ℕ → List ℕ → ℕ → List Event → StoreFault → Type 0
-IsPartUnbegun capacity label moment journal fault =
+-- why these bytes, which are left after the last whole block of an image, are refused: the drive failed, or they begin no next block of the format
+abbrev pub IsPartUnbegun : ℕ → List ℕ → ℕ → List Event → List ℕ → StoreFault → Type 0
+IsPartUnbegun capacity label moment journal part fault =
     (fault ≡ stores.Device)
-    ⊎ ((part : List ℕ) × (0 < length part) × (length part < BLOCK_BYTES) × IsNoPart capacity label moment (next_of journal) part fault)
+    ⊎ ((0 < length part) × IsNoPart capacity label moment (next_of journal) part fault)
 
--- what is left after the last whole block of an image: nothing, or bytes that begin the next block of a format with these words
-abbrev pub IsPartBegun : ℕ → List ℕ → ℕ → List Event → Type 0
-IsPartBegun capacity label moment journal = (part : List ℕ) × (length part < BLOCK_BYTES) × ((part ≡ []) ⊎ Begins (words_on capacity label moment) (next_of journal) part)
+-- these bytes, which are left after the last whole block of an image, are none, or begin the next block of a format with these words
+abbrev pub IsPartBegun : ℕ → List ℕ → ℕ → List Event → List ℕ → Type 0
+IsPartBegun capacity label moment journal part = (part ≡ []) ⊎ Begins (words_on capacity label moment) (next_of journal) part
+
+-- What a look found after the last whole block of an image was refused, or it could not be had.
+abbrev pub IsUnbegun : ℕ → List ℕ → ℕ → List Event → Option (List ℕ) → StoreFault → Type 0
+IsUnbegun capacity label moment journal look fault =
+    (fault ≡ stores.Device)
+    ⊎ ((part : List ℕ) × (look ≡ Some part) × (0 < length part) × (length part < BLOCK_BYTES) × IsNoPart capacity label moment (next_of journal) part fault)
+
+-- A look found nothing after the last whole block of an image, or bytes that begin the next block of a format with these words.
+abbrev pub IsBegun : ℕ → List ℕ → ℕ → List Event → Option (List ℕ) → Type 0
+IsBegun capacity label moment journal look = (part : List ℕ) × (look ≡ Some part) × (length part < BLOCK_BYTES) × IsPartBegun capacity label moment journal part

@@ -87,50 +87,50 @@ pub record AreBlocks (words : Words) (from to : ℕ) (blocks : List Block) : Typ
 
 -- On the prefixes of a journal from the one before on there is what was there, and after it the blocks that were missing.
 -- Before the last of them nothing is recovered, whatever drive and volume it is read in, and with it the new volume is.
-pub record HoldsPrefixes (capacity : ℕ) (words : Words) (blocks : List Block) (before behind : List Event) : Type 0 where
+pub record HoldsPrefixes (capacity : ℕ) (words : Words) (blocks : List Block) (before afterwards : List Event) : Type 0 where
   pub began : held before ≡ take (next_of before) blocks
-  pub each : (k : ℕ) → length before ≤ k → held (take k behind) ≡ take (next_of (take k behind)) blocks
-  pub nothing : (k other_capacity other_volume : ℕ) (state : State) → length before ≤ k → next_of (take k behind) < FORMAT_BLOCKS → RecoversTo udf other_capacity other_volume (held (take k behind)) state → ⊥
-  pub new : (k : ℕ) → length before ≤ k → next_of (take k behind) ≡ FORMAT_BLOCKS → RecoversTo udf capacity words.volume (held (take k behind)) (formatted words.moment)
+  pub each : (k : ℕ) → length before ≤ k → held (take k afterwards) ≡ take (next_of (take k afterwards)) blocks
+  pub nothing : (k other_capacity other_volume : ℕ) (state : State) → length before ≤ k → next_of (take k afterwards) < FORMAT_BLOCKS → RecoversTo udf other_capacity other_volume (held (take k afterwards)) state → ⊥
+  pub new : (k : ℕ) → length before ≤ k → next_of (take k afterwards) ≡ FORMAT_BLOCKS → RecoversTo udf capacity words.volume (held (take k afterwards)) (formatted words.moment)
 
 -- The format was finished: the blocks that were missing are written, and on an honest drive the new volume is recovered.
-pub record IsFormatted (capacity : ℕ) (words : Words) (before behind : List Event) (honest : Bool) : Type 0 where
+pub record IsFormatted (capacity : ℕ) (words : Words) (before afterwards : List Event) (honest : Bool) : Type 0 where
   pub blocks : List Block
   pub is : IsFormatOf words blocks
   pub short : next_of before ≤ FORMAT_BLOCKS
-  pub journal : behind ≡ before ++ written (next_of before) (drop (next_of before) blocks)
-  pub fronts : IsTrue honest → HoldsPrefixes capacity words blocks before behind
-  pub holds : IsTrue honest → held behind ≡ blocks
-  pub stands : IsTrue honest → RecoversTo udf capacity words.volume (held behind) (formatted words.moment)
+  pub journal : afterwards ≡ before ++ written (next_of before) (drop (next_of before) blocks)
+  pub fronts : IsTrue honest → HoldsPrefixes capacity words blocks before afterwards
+  pub holds : IsTrue honest → held afterwards ≡ blocks
+  pub stands : IsTrue honest → RecoversTo udf capacity words.volume (held afterwards) (formatted words.moment)
 
 -- The drive failed in a write: a prefix of the blocks that were missing is written, from none to all.
-pub record IsFormatCutShort (capacity : ℕ) (words : Words) (before behind : List Event) (honest : Bool) : Type 0 where
+pub record IsFormatCutShort (capacity : ℕ) (words : Words) (before afterwards : List Event) (honest : Bool) : Type 0 where
   pub blocks : List Block
   pub is : IsFormatOf words blocks
   pub short : next_of before ≤ FORMAT_BLOCKS
-  pub journal : AddsPrefix before (next_of before) (drop (next_of before) blocks) behind
-  pub fronts : IsTrue honest → HoldsPrefixes capacity words blocks before behind
+  pub journal : AddsPrefix before (next_of before) (drop (next_of before) blocks) afterwards
+  pub fronts : IsTrue honest → HoldsPrefixes capacity words blocks before afterwards
 
 -- The writes that a call added. It added none, or nothing stood before, and whatever a power loss leaves of them after what
 -- was there, nothing stands, whatever drive and volume it is read in, or the new volume does.
-pub record FormatSurvivesPowerLoss (capacity : ℕ) (words : Words) (before : List Event) (writes behind : List (List Block)) (honest : Bool) : Type 0 where
+pub record FormatSurvivesPowerLoss (capacity : ℕ) (words : Words) (before : List Event) (writes afterwards : List (List Block)) (honest : Bool) : Type 0 where
   pub added : List (List Block)
-  pub writes_are : behind ≡ writes ++ added
+  pub writes_are : afterwards ≡ writes ++ added
   pub torn : (added ≡ []) ⊎ (IsTrue honest → RecoversToNothing udf (held before) × ((left : List Block) → IsLeft added left
       → RecoversToNothing udf (held (before ++ written (next_of before) left)) ⊎ RecoversTo udf capacity words.volume (held (before ++ written (next_of before) left)) (formatted words.moment)))
 
 -- What each refusal leaves. Where the drive is honest, `NotBlank` says that it has other blocks than these words give.
 abbrev pub IsFormatRefused : ℕ → Words → List Event → List Event → Bool → StoreFault → Type 0
-IsFormatRefused capacity words before behind honest NotBlank = (behind ≡ before) × (IsTrue honest → IsFormatPrefix words (held before) → ⊥)
-IsFormatRefused capacity words before behind honest Label = behind ≡ before
-IsFormatRefused capacity words before behind honest Small = behind ≡ before
-IsFormatRefused capacity words before behind honest Memory = behind ≡ before
-IsFormatRefused capacity words before behind honest Device = (behind ≡ before) ⊎ IsFormatCutShort capacity words before behind honest
-IsFormatRefused capacity words before behind honest NotFormatted = ⊥
-IsFormatRefused capacity words before behind honest (Damaged block cause) = ⊥
-IsFormatRefused capacity words before behind honest Full = ⊥
-IsFormatRefused capacity words before behind honest Stopped = ⊥
-IsFormatRefused capacity words before behind honest NoCommit = ⊥
-IsFormatRefused capacity words before behind honest NotFound = ⊥
-IsFormatRefused capacity words before behind honest IsDirectoryFault = ⊥
-IsFormatRefused capacity words before behind honest NotDirectory = ⊥
+IsFormatRefused capacity words before afterwards honest NotBlank = (afterwards ≡ before) × (IsTrue honest → IsFormatPrefix words (held before) → ⊥)
+IsFormatRefused capacity words before afterwards honest Label = afterwards ≡ before
+IsFormatRefused capacity words before afterwards honest Small = afterwards ≡ before
+IsFormatRefused capacity words before afterwards honest Memory = afterwards ≡ before
+IsFormatRefused capacity words before afterwards honest Device = (afterwards ≡ before) ⊎ IsFormatCutShort capacity words before afterwards honest
+IsFormatRefused capacity words before afterwards honest NotFormatted = ⊥
+IsFormatRefused capacity words before afterwards honest (Damaged block cause) = ⊥
+IsFormatRefused capacity words before afterwards honest Full = ⊥
+IsFormatRefused capacity words before afterwards honest Stopped = ⊥
+IsFormatRefused capacity words before afterwards honest NoCommit = ⊥
+IsFormatRefused capacity words before afterwards honest NotFound = ⊥
+IsFormatRefused capacity words before afterwards honest IsDirectoryFault = ⊥
+IsFormatRefused capacity words before afterwards honest NotDirectory = ⊥

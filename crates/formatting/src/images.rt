@@ -2,42 +2,38 @@
 
 ghost use Rattle.limits.specs.declared.TheConstants.{MOMENT_LIMIT};
 ghost use Rattle.std.specs.Prelude.{◌≡◌, ◌<◌, IfErr, OnOk};
-ghost use Rattle.drive.specs.FileDrive.{journal_of, capacity_of, honest_of};
 ghost use Rattle.formatting.specs.NewVolume.{words_on};
 ghost use Rattle.formatting.specs.Beginning.{Begins, IsNoPart, IsPartBegun, IsPartUnbegun};
 
 use crate::formatting::format;
-use drive::{Drive, FileDrive, MemDrive};
-use limits::BLOCK_SIZE;
+use drive::{Drive, MemDrive};
 use recover::StoreFault;
 use std::alloc::Global;
 
-/// Refuses a file whose bytes after its last whole block do not begin the next block of a format with these words. A drive
-/// counts whole blocks alone, so that the format does not see them.
-pub fn require_beginning(
+/// Refuses bytes that do not begin the next block of a format with these words: those that an image has after its last
+/// whole block. A drive counts whole blocks alone, so that the format does not see them.
+pub fn require_beginning<D: Drive>(
     alloc: Global,
-    drive: &mut FileDrive,
+    drive: &mut D,
+    part: &[u8],
     label: &str,
     moment: u64,
 ) -> Result<(), StoreFault>
     requires { moment < MOMENT_LIMIT }
-    ensures journal { journal_of drive.new ≡ journal_of drive.old }
-    ensures capacity { capacity_of drive.new ≡ capacity_of drive.old }
-    ensures honest { honest_of drive.new ≡ honest_of drive.old }
-    ensures begun { OnOk result (IsPartBegun (capacity_of drive.old) label.now moment (journal_of drive.old)) }
-    ensures refused { IfErr result (IsPartUnbegun (capacity_of drive.old) label.now moment (journal_of drive.old)) }
+    ensures journal { D.journal drive.new ≡ D.journal drive.old }
+    ensures writes { D.writes drive.new ≡ D.writes drive.old }
+    ensures capacity { D.capacity drive.new ≡ D.capacity drive.old }
+    ensures honest { D.honest drive.new ≡ D.honest drive.old }
+    ensures begun { OnOk result (IsPartBegun (D.capacity drive.old) label.now moment (D.journal drive.old) part.now) }
+    ensures refused { IfErr result (IsPartUnbegun (D.capacity drive.old) label.now moment (D.journal drive.old) part.now) }
 {
-    let mut part = [0; BLOCK_SIZE];
-    let Ok(count) = drive.part(&mut part) else {
-        return Err(StoreFault::Device);
-    };
-    if count == 0 {
+    if part.is_empty() {
         return Ok(());
     }
     let Ok(next) = drive.next() else {
         return Err(StoreFault::Device);
     };
-    require_part(alloc, drive.capacity(), label, moment, next, &part[..count])
+    require_part(alloc, drive.capacity(), label, moment, next, part)
 }
 
 /// Refuses bytes that do not begin the block at this address of a format with these words.

@@ -39,27 +39,27 @@ small_type Vat = omega arith
 name_bytes : IsBytes (0 ∷ codes "*udfburn")
 name_bytes = bytes_of (0 ∷ codes "*udfburn") (omega arith, (omega arith, (omega arith, (omega arith, (omega arith, (omega arith, (omega arith, (omega arith, (omega arith, tt)))))))))
 
-parts_bytes : (kind flags rights links size blocks : ℕ) (stamp : List ℕ) (unique len : ℕ) (behind : List ℕ) → kind < 256 → IsBytes stamp → IsBytes behind
-    → IsBytes (concat (entry_parts kind flags rights links size blocks stamp unique len behind))
-parts_bytes kind flags rights links size blocks stamp unique len behind low stamp-fits behind-fits =
-    let whole = entry_parts kind flags rights links size blocks stamp unique len behind in
-    bytes_concat whole (bytes_u32 0, (bytes_u16 4, (bytes_u16 0, (bytes_u16 1, (bytes_of (0 ∷ kind ∷ []) (omega arith, (low, tt)), (bytes_zeros 6, (bytes_u16 flags, (bytes_u32 0xFFFF_FFFF, (bytes_u32 0xFFFF_FFFF, (bytes_u32 rights, (bytes_u16 links, (bytes_zeros 2, (bytes_u32 0, (bytes_u64 size, (bytes_u64 blocks, (stamp-fits, (stamp-fits, (stamp-fits, (bytes_u32 1, (bytes_zeros 16, (name_bytes, (bytes_zeros 23, (bytes_u64 unique, (bytes_u32 0, (bytes_u32 len, (behind-fits, tt))))))))))))))))))))))))))
+parts_bytes : (kind flags rights links size blocks : ℕ) (stamp : List ℕ) (unique len : ℕ) (after : List ℕ) → kind < 256 → IsBytes stamp → IsBytes after
+    → IsBytes (concat (entry_parts kind flags rights links size blocks stamp unique len after))
+parts_bytes kind flags rights links size blocks stamp unique len after low stamp-fits after-fits =
+    let whole = entry_parts kind flags rights links size blocks stamp unique len after in
+    bytes_concat whole (bytes_u32 0, (bytes_u16 4, (bytes_u16 0, (bytes_u16 1, (bytes_of (0 ∷ kind ∷ []) (omega arith, (low, tt)), (bytes_zeros 6, (bytes_u16 flags, (bytes_u32 0xFFFF_FFFF, (bytes_u32 0xFFFF_FFFF, (bytes_u32 rights, (bytes_u16 links, (bytes_zeros 2, (bytes_u32 0, (bytes_u64 size, (bytes_u64 blocks, (stamp-fits, (stamp-fits, (stamp-fits, (bytes_u32 1, (bytes_zeros 16, (name_bytes, (bytes_zeros 23, (bytes_u64 unique, (bytes_u32 0, (bytes_u32 len, (after-fits, tt))))))))))))))))))))))))))
 
-parts_long : (kind flags rights links size blocks : ℕ) (stamp : List ℕ) (unique len : ℕ) (behind : List ℕ) → length stamp ≡ 12
-    → length (concat (entry_parts kind flags rights links size blocks stamp unique len behind)) ≡ 160 + length behind
-parts_long kind flags rights links size blocks stamp unique len behind twelve =
+parts_long : (kind flags rights links size blocks : ℕ) (stamp : List ℕ) (unique len : ℕ) (after : List ℕ) → length stamp ≡ 12
+    → length (concat (entry_parts kind flags rights links size blocks stamp unique len after)) ≡ 160 + length after
+parts_long kind flags rights links size blocks stamp unique len after twelve =
     grind (arith, length-append {A = ℕ}, twelve)
 
 -- an entry that may say so has its block
 pub is_planned : (e : Fields) (loc : ℕ) (stamp : List ℕ) → FitsEntry e → IsMoment e.moment stamp → loc < 2 ^ 32 → IsBytes (inside e.place)
     → IsEntry e loc (descriptor_block 261 loc (entry_body e stamp))
 is_planned e loc stamp fits moment loc-fits inside-fits =
-    let behind = allocation e.size e.place in
+    let after = allocation e.size e.place in
     let few = short_allocation e.kind e.size e.place fits.place in
-    let long : length (entry_body e stamp) ≡ 160 + length behind =
-    parts_long (file_type e.kind) (flags_of e.place) (permissions e.kind) e.links e.size (blocks_recorded e.size e.place) stamp e.unique (length behind) behind (moment_long e.moment stamp moment) in
+    let long : length (entry_body e stamp) ≡ 160 + length after =
+    parts_long (file_type e.kind) (flags_of e.place) (permissions e.kind) e.links e.size (blocks_recorded e.size e.place) stamp e.unique (length after) after (moment_long e.moment stamp moment) in
     let body : IsBytes (entry_body e stamp) =
-    parts_bytes (file_type e.kind) (flags_of e.place) (permissions e.kind) e.links e.size (blocks_recorded e.size e.place) stamp e.unique (length behind) behind (small_type e.kind) (moment_bytes e.moment stamp moment) (allocation_bytes e.size e.place inside-fits) in
+    parts_bytes (file_type e.kind) (flags_of e.place) (permissions e.kind) e.links e.size (blocks_recorded e.size e.place) stamp e.unique (length after) after (small_type e.kind) (moment_bytes e.moment stamp moment) (allocation_bytes e.size e.place inside-fits) in
     record {
       fits = fits;
       laid = record {
@@ -76,10 +76,10 @@ block_there p place is =
     ap (λ (q : source.Place). descriptor_block 261 p.location (entry_body (record { kind = p.entry.kind; moment = p.entry.moment; links = p.entry.links; unique = p.entry.unique; size = p.entry.size; place = place_of q }) p.stamp)) is
 
 -- the block of an entry with its bytes in an extent, as it is written
-pub block_extended : (p : planned.Inside) (first blocks : ℕ) (behind : List ℕ) → p.entry.place ≡ places.Extent first → blocks ≡ block_count p.entry.size → behind ≡ extent p.entry.size first
-    → descriptor_block 261 p.location (concat (entry_parts (file_type p.entry.kind) 1 (permissions p.entry.kind) p.entry.links p.entry.size blocks p.stamp p.entry.unique (length behind) behind)) ≡ planned_block p
-block_extended p first blocks behind is blocks-are behind-is =
+pub block_extended : (p : planned.Inside) (first blocks : ℕ) (after : List ℕ) → p.entry.place ≡ places.Extent first → blocks ≡ block_count p.entry.size → after ≡ extent p.entry.size first
+    → descriptor_block 261 p.location (concat (entry_parts (file_type p.entry.kind) 1 (permissions p.entry.kind) p.entry.links p.entry.size blocks p.stamp p.entry.unique (length after) after)) ≡ planned_block p
+block_extended p first blocks after is blocks-are after-is =
     let parts : ℕ → List ℕ → List ℕ = λ (n : ℕ) (x : List ℕ). concat (entry_parts (file_type p.entry.kind) 1 (permissions p.entry.kind) p.entry.links p.entry.size n p.stamp p.entry.unique (length x) x) in
-    ap (λ (n : ℕ). descriptor_block 261 p.location (parts n behind)) blocks-are
-    ∙ ap (λ (x : List ℕ). descriptor_block 261 p.location (parts (block_count p.entry.size) x)) behind-is
+    ap (λ (n : ℕ). descriptor_block 261 p.location (parts n after)) blocks-are
+    ∙ ap (λ (x : List ℕ). descriptor_block 261 p.location (parts (block_count p.entry.size) x)) after-is
     ∙ sym (block_there p (places.Extent first) is)

@@ -29,27 +29,27 @@ last_parts =
 abbrev pub later_parts : List ℕ → List (List ℕ)
 later_parts narrow = cs0 ∷ narrow ∷ last_parts
 
-abbrev pub parts_behind : List ℕ → List ℕ → List (List ℕ)
-parts_behind wide narrow =
+abbrev pub parts_after : List ℕ → List ℕ → List (List ℕ)
+parts_after wide narrow =
     to_le_bytes w16 3 ∷ to_le_bytes w16 3 ∷ to_le_bytes w32 1 ∷ to_le_bytes w32 1 ∷ to_le_bytes w32 0 ∷ to_le_bytes w32 0
     ∷ cs0 ∷ wide ∷ later_parts narrow
 
 -- the fields have 496 bytes
-set_length : (stamp wide narrow : List ℕ) → length stamp ≡ 12 → length wide ≡ 128 → length narrow ≡ 32 → length (concat (stamp ∷ parts_behind wide narrow)) ≡ 496
+set_length : (stamp wide narrow : List ℕ) → length stamp ≡ 12 → length wide ≡ 128 → length narrow ≡ 32 → length (concat (stamp ∷ parts_after wide narrow)) ≡ 496
 set_length stamp wide narrow a b c =
-    omega (arith, a, b, c, length-append stamp (concat (parts_behind wide narrow)), length-append wide (concat (later_parts narrow)), length-append narrow (concat last_parts))
+    omega (arith, a, b, c, length-append stamp (concat (parts_after wide narrow)), length-append wide (concat (later_parts narrow)), length-append narrow (concat last_parts))
 
 -- the timestamp and the short field of the label
 set_places : (stamp wide narrow rest all : List ℕ) → length stamp ≡ 12 → length wide ≡ 128 → length narrow ≡ 32
-    → all ≡ onto (stamp ∷ parts_behind wide narrow) rest → (take 12 all ≡ stamp) × (take 32 (drop 288 all) ≡ narrow)
+    → all ≡ onto (stamp ∷ parts_after wide narrow) rest → (take 12 all ≡ stamp) × (take 32 (drop 288 all) ≡ narrow)
 set_places stamp wide narrow rest all a b c e =
-    let behind = onto (parts_behind wide narrow) rest in
+    let after = onto (parts_after wide narrow) rest in
     let later = onto (later_parts narrow) rest in
-    let first : drop 12 all ≡ behind = ap (drop 12) e ∙ drop_at stamp behind 12 a in
+    let first : drop 12 all ≡ after = ap (drop 12) e ∙ drop_at stamp after 12 a in
     let second : drop 96 all ≡ wide ++ later = sym (drop-drop 84 12 all) ∙ ap (drop 84) first in
     let third : drop 224 all ≡ later = sym (drop-drop 128 96 all) ∙ ap (drop 128) second ∙ drop_at wide later 128 b in
     let fourth : drop 288 all ≡ narrow ++ onto last_parts rest = sym (drop-drop 64 224 all) ∙ ap (drop 64) third in
-    (ap (take 12) e ∙ take_at stamp behind 12 a, ap (take 32) fourth ∙ take_at narrow (onto last_parts rest) 32 c)
+    (ap (take 12) e ∙ take_at stamp after 12 a, ap (take 32) fourth ∙ take_at narrow (onto last_parts rest) 32 c)
 
 stamp_length : (m : ℕ) (stamp : List ℕ) → IsMoment m stamp → length stamp ≡ 12
 stamp_length m stamp moment = ap length moment.spelled
@@ -60,7 +60,7 @@ pub fields_tell : (set : FileSet) (block : List ℕ) (has : HasFileSetFields set
 fields_tell set block has =
     let wide = dstring 128 set.label in
     let narrow = dstring 32 set.label in
-    let parts = has.stamp ∷ parts_behind wide narrow in
+    let parts = has.stamp ∷ parts_after wide narrow in
     let rest = drop 496 (drop 16 block) in
     let all : drop 16 block ≡ onto parts rest =
     sym (take-append-drop 496 (drop 16 block)) ∙ ap (λ (x : List ℕ). x ++ rest) has.spelled ∙ concat_onto parts rest in
@@ -117,10 +117,10 @@ same_set d e label moment =
 
 -- fields of two long texts that are those of one label
 pub written_set : (label stamp wide narrow block : List ℕ) → wide ≡ dstring 128 label → narrow ≡ dstring 32 label
-    → IsDescriptor 256 0 (concat (stamp ∷ parts_behind wide narrow)) block → IsDescriptor 256 0 (concat (set_parts label stamp)) block
+    → IsDescriptor 256 0 (concat (stamp ∷ parts_after wide narrow)) block → IsDescriptor 256 0 (concat (set_parts label stamp)) block
 written_set label stamp wide narrow block w n d =
-    subst (λ (x : List ℕ). IsDescriptor 256 0 (concat (stamp ∷ parts_behind (dstring 128 label) x)) block) n
-    (subst (λ (x : List ℕ). IsDescriptor 256 0 (concat (stamp ∷ parts_behind x narrow)) block) w d)
+    subst (λ (x : List ℕ). IsDescriptor 256 0 (concat (stamp ∷ parts_after (dstring 128 label) x)) block) n
+    (subst (λ (x : List ℕ). IsDescriptor 256 0 (concat (stamp ∷ parts_after x narrow)) block) w d)
 
 -- what reading the label's field and the timestamp's says of a file set that the fields say
 pub label_stands : (set : FileSet) (block : List ℕ) → HasFileSetFields set (take 496 (drop 16 block)) → IsLabelDstring set.label (take 32 (drop 304 block))

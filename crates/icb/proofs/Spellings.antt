@@ -11,9 +11,9 @@ use Rattle.icb.specs.Laws.{OneBlock, OneSet}
 pub one_block : OneBlock
 one_block e loc a b a-fits b-fits x y =
     let stamp : x.laid.stamp ≡ y.laid.stamp = timestamps.one_spelling e.moment x.laid.stamp y.laid.stamp x.laid.moment y.laid.moment in
-    let behind : List ℕ = allocation e.size e.place in
+    let after : List ℕ = allocation e.size e.place in
     let parts : List ℕ → List ℕ =
-    λ (s : List ℕ). concat (entry_parts (file_type e.kind) (flags_of e.place) (permissions e.kind) e.links e.size (blocks_recorded e.size e.place) s e.unique (length behind) behind) in
+    λ (s : List ℕ). concat (entry_parts (file_type e.kind) (flags_of e.place) (permissions e.kind) e.links e.size (blocks_recorded e.size e.place) s e.unique (length after) after) in
     one_descriptor 261 loc (parts y.laid.stamp) a b a-fits b-fits (subst (λ (s : List ℕ). IsDescriptor 261 loc (parts s) a) stamp x.laid.whole) y.laid.whole
 
 pub one_set : OneSet

@@ -9,8 +9,8 @@ use Rattle.icb.specs.declared.planned.PlannedEntry.TheInside.{Inside}
 -- what is after the tag of an entry that says so, with this timestamp
 abbrev pub entry_body : Fields → List ℕ → List ℕ
 entry_body e stamp =
-    let behind = allocation e.size e.place in
-    concat (entry_parts (file_type e.kind) (flags_of e.place) (permissions e.kind) e.links e.size (blocks_recorded e.size e.place) stamp e.unique (length behind) behind)
+    let after = allocation e.size e.place in
+    concat (entry_parts (file_type e.kind) (flags_of e.place) (permissions e.kind) e.links e.size (blocks_recorded e.size e.place) stamp e.unique (length after) after)
 
 abbrev pub planned_block : Inside → List ℕ
 planned_block p = descriptor_block 261 p.location (entry_body (fields_of p.entry) p.stamp)

@@ -1,5 +1,5 @@
 -- What a path's node says in answer to a query.
-use Rattle.std.proofs.Common.{◌≡◌, ℕ, true, List, take, Option, Some, None, refl, sym, ap, subst, ◌∙◌}
+use Rattle.std.proofs.Common.{◌≡◌, ℕ, true, List, take, Option, Some, None, refl, sym, ap, ◌∙◌}
 use Rattle.std.proofs.lemmas.Bool.{false≢true}
 use Rattle.std.specs.FinMap.{get}
 use Rattle.drive.specs.Journal.{Event, held}
@@ -13,7 +13,7 @@ use Rattle.durability.proofs.Stored.{stored_one}
 use Rattle.udf.specs.Udf.{udf}
 use Rattle.udf.specs.Said.{names_directory}
 use Rattle.udf.proofs.Formats.{exact}
-use Rattle.table_update.specs.declared.node.Node.{Node}
+use Rattle.recover.specs.declared.node.Node.{Node}
 use Rattle.lookup.specs.Shows.{graph_below, IsNodeAt}
 use Rattle.lookup.proofs.Walks.{node_at}
 
@@ -34,12 +34,3 @@ module _ (at : ℕ) (entries : List (Option ℕ)) (J : List Event) (tree : Tree)
   told_directory path node here dir =
       ap got (node_at (graph_below at entries J) tree (stored_one udf exact (take at (held J)) entries) is makes path node here)
       ∙ got_directory here.found.stored.identity here.found.stored.moment here.found.stored.body (sym here.kind ∙ dir)
-
-  -- what is stored at the node's address, seen in a table and a journal that are the same
-  pub there_too : (at1 : ℕ) (entries1 : List (Option ℕ)) (J1 : List Event) → at1 ≡ at → entries1 ≡ entries → J1 ≡ J → (path : Path) (node : Node) (here : IsNodeAt (graph_below at entries J) path node)
-      → graph_below at1 entries1 J1 node.address here.found.stored
-  there_too at1 entries1 J1 a e j path node here =
-      let there = subst (λ (x : ℕ). graph_below at entries J x here.found.stored) (sym here.address) here.found.is in
-      let there1 = subst (λ (K : List Event). graph_below at entries K node.address here.found.stored) (sym j) there in
-      let there2 = subst (λ (x : ℕ). graph_below x entries J1 node.address here.found.stored) (sym a) there1 in
-      subst (λ (t : List (Option ℕ)). graph_below at1 t J1 node.address here.found.stored) (sym e) there2

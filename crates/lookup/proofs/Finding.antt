@@ -1,19 +1,19 @@
 -- What look-ups one after another found, seen from before the first of them.
-use Rattle.std.proofs.Common.{◌≡◌, ◌∙◌, ℕ, true, [], ◌∷◌, ◌++◌, Option, Some, take, refl, sym, subst}
+use Rattle.std.proofs.Common.{◌≡◌, ◌∙◌, ℕ, true, [], ◌∷◌, ◌++◌, Option, take, refl, sym}
 use Rattle.std.specs.Prelude.{⊤}
 use Rattle.drive.specs.Journal.{held}
 use Rattle.drive.specs.declared.Drive.{Ghosts}
 use Rattle.durability.proofs.Stored.{stored_one}
 use Rattle.model.specs.Tree.{Name, Path, Tree}
 use Rattle.model.specs.Graph.{IsFunctional, Stored}
-use Rattle.table_update.specs.declared.node.Node.{Node}
+use Rattle.recover.specs.declared.node.Node.{Node}
 use Rattle.udf.specs.Said.{names_directory}
 use Rattle.udf.specs.Udf.{udf}
 use Rattle.udf.proofs.Formats.{exact}
 use Rattle.lookup.specs.Lookups.{IsSound, Looks, OfDirectory, OfStoredNode, Sees, SeesDirectory, graph_seen}
 use Rattle.lookup.specs.Shows.{IsFound, IsFoundDirectory, IsNodeAt}
 use Rattle.lookup.specs.declared.lookup.Lookup.{Lookup}
-use Rattle.lookup.proofs.Looking.{directory_later, directory_seen, found_seen, sees_before, sees_next, sound_before, sound_next, stored_seen}
+use Rattle.lookup.proofs.Looking.{directory_later, directory_seen, found_seen, sees_before, sees_next, sound_next, stored_seen}
 
 module _ {D : Type 0} {drive : Ghosts D} where
   -- at most one thing is stored under a virtual address
@@ -23,14 +23,6 @@ module _ {D : Type 0} {drive : Ghosts D} where
   -- what a call sees between others
   pub seen_between : {n : ℕ} {a b c z : Lookup D drive} (tree : Tree) → Looks drive 0 a b → Looks drive 0 b c → Looks drive n c z → Sees drive a z tree → Sees drive b c tree
   seen_between {n} {a} tree p q r s = sees_next tree p q (sees_before a tree r s)
-
-  pub sound_between : {n : ℕ} {a b c z : Lookup D drive} → Looks drive 0 a b → Looks drive 0 b c → Looks drive n c z → IsSound drive a z → IsSound drive b c
-  sound_between p q r k = sound_next p q (sound_before r k)
-
-  -- what a walk found
-  pub found_between : {n : ℕ} {a b c z : Lookup D drive} (tree : Tree) (path : Path) (o : Option Node) → Looks drive 0 a b → Looks drive 0 b c → Looks drive n c z → Sees drive a z tree
-      → ((t : Tree) → Sees drive b c t → IsFound (graph_seen drive b) t path o × ⊤) → IsFound (graph_seen drive a) tree path o
-  found_between tree path o p q r s found = found_seen tree path o p (found tree (seen_between tree p q r s)).0
 
   pub directory_between : {n : ℕ} {a b c z : Lookup D drive} (tree : Tree) (path : Path) (o : Option Node) → Looks drive 0 a b → Looks drive 0 b c → Looks drive n c z → Sees drive a z tree
       → ((t : Tree) → Sees drive b c t → IsFoundDirectory (graph_seen drive b) t path o × ⊤) → IsFoundDirectory (graph_seen drive a) tree path o

@@ -25,7 +25,7 @@ use Rattle.model.proofs.Maps.{not_none, has_front}
 use Rattle.udf.specs.Said.{names_directory}
 use Rattle.lookup.specs.declared.content.Content.{Content}
 use Rattle.lookup.specs.declared.nodes.Placed.{Placed}
-use Rattle.table_update.specs.declared.node.Node.{Node}
+use Rattle.recover.specs.declared.node.Node.{Node}
 use Rattle.lookup.specs.Heights.{IsHeight, IsHeightSoFar}
 use Rattle.lookup.specs.Shows.{IsNodeAt, IsOpened, graph_below}
 use Rattle.lookup.proofs.Walks.{node_at, names_stored, said_names, step_some, step_file}

@@ -19,7 +19,7 @@ use Rattle.durability.proofs.Stored.{stored_one}
 use Rattle.udf.specs.Udf.{udf}
 use Rattle.udf.specs.Said.{said_entry, said_entries, names_directory}
 use Rattle.udf.proofs.Formats.{exact}
-use Rattle.table_update.specs.declared.node.Node.{Node}
+use Rattle.recover.specs.declared.node.Node.{Node}
 use Rattle.lookup.specs.Asked.{is_directory, said_listed, said_names}
 use Rattle.lookup.specs.Queries.{name_told}
 use Rattle.lookup.specs.Shows.{graph_below, IsNodeAt}

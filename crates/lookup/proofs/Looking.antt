@@ -14,7 +14,7 @@ use Rattle.model.specs.Addresses.{free_address}
 use Rattle.model.specs.Graph.{Graph, MakesTree, is_directory}
 use Rattle.recover.specs.Faults.{devices, failures_of}
 use Rattle.recover.specs.declared.fault.StoreFault.{StoreFault}
-use Rattle.table_update.specs.declared.node.Node.{Node}
+use Rattle.recover.specs.declared.node.Node.{Node}
 use Rattle.lookup.specs.Cache.{AreKept, LiesThere}
 use Rattle.lookup.specs.Shows.{IsFound, IsFoundDirectory, IsNodeAt, graph_below}
 use Rattle.lookup.specs.Lookups.{IsDirectoryAt, IsSound, KeepsToo, Looks, Opens, Sees, free_seen, graph_seen}
@@ -136,9 +136,6 @@ module _ {D : Type 0} {drive : Ghosts D} where
 
   pub node_later : {n : ℕ} {a b : Lookup D drive} {path : Path} {node : Node} → Looks drive n a b → IsNodeAt (graph_seen drive a) path node → IsNodeAt (graph_seen drive b) path node
   node_later {n} {a} {b} {path} {node} p = subst (λ (G : Graph). IsNodeAt G path node) (sym (graph_same p))
-
-  pub node_seen : {n : ℕ} {a b : Lookup D drive} {path : Path} {node : Node} → Looks drive n a b → IsNodeAt (graph_seen drive b) path node → IsNodeAt (graph_seen drive a) path node
-  node_seen {n} {a} {b} {path} {node} p = subst (λ (G : Graph). IsNodeAt G path node) (graph_same p)
 
   -- what was found, seen from before other calls
   pub found_seen : {n : ℕ} {a b : Lookup D drive} (tree : Tree) (path : Path) (found : Option Node) → Looks drive n a b → IsFound (graph_seen drive b) tree path found → IsFound (graph_seen drive a) tree path found

@@ -13,6 +13,6 @@ removed_none t [] none = refl
 removed_none t (e ∷ es) none = go (t e.0) refl (removed_none t es)
   where
     go : (passes : Bool) → t e.0 ≡ passes → (lookup t es ≡ None → remove_entry t es ≡ es) → remove_entry t (e ∷ es) ≡ e ∷ es
-    go true p behind = absurd (none-some e.1 (sym none ∙ ap (λ b. cond b (Some e.1) (lookup t es)) p))
-    go false p behind =
-        ap (λ b. cond b es (e ∷ remove_entry t es)) p ∙ ap (λ l. e ∷ l) (behind (sym (ap (λ b. cond b (Some e.1) (lookup t es)) p) ∙ none))
+    go true p after = absurd (none-some e.1 (sym none ∙ ap (λ b. cond b (Some e.1) (lookup t es)) p))
+    go false p after =
+        ap (λ b. cond b es (e ∷ remove_entry t es)) p ∙ ap (λ l. e ∷ l) (after (sym (ap (λ b. cond b (Some e.1) (lookup t es)) p) ∙ none))

@@ -5,6 +5,7 @@ use Rattle.std.specs.Prelude.{Result, IsOkAnd}
 use Rattle.std.proofs.lemmas.Bool.{false≢true}
 use Rattle.std.proofs.lemmas.List.{take-append-drop}
 use Rattle.std.proofs.lemmas.Option.{same_Some, slice_get_within}
+use Rattle.limits.specs.declared.TheConstants.{BLOCK_BYTES, PARTITION_BLOCKS, PARTITION_START}
 use Rattle.drive.specs.Journal.{Event, held}
 use Rattle.recover.specs.Nodes.{data_of}
 use Rattle.recover.specs.declared.directory.Extent.{Extent}
@@ -16,7 +17,7 @@ use Rattle.icb.specs.declared.entry.Place as source
 use Rattle.icb.specs.declared.entry.Place.TheVariants as places
 use Rattle.icb.specs.Entry as icb
 use Rattle.model.specs.Tree.{has_names}
-use Rattle.model.specs.Addresses.{used_first, free_address}
+use Rattle.model.specs.Addresses.{used_first}
 use Rattle.model.specs.Graph.{Stored, Body, Entry, is_directory, content_in}
 use Rattle.model.specs.Graph.Body.{Bytes, Entries}
 use Rattle.durability.specs.Formats.{Block, NodePlace, NodeFields}
@@ -35,26 +36,19 @@ shorter n xs = omega (arith, length-take n xs)
 
 -- the block that the journal holds there is the one that is stored
 pub entry_there : (at : ℕ) (entries : List (Option ℕ)) (J : List Event) (address number : ℕ) (block : Block) (s : Stored) → slice_get entries address ≡ Some (Some number)
-    → slice_get (held J) (number + 257) ≡ Some block → (there : graph_below at entries J address s) → (there.block ≡ block) × (number + 257 ≡ there.number + 257)
+    → slice_get (held J) (number + PARTITION_START) ≡ Some block → (there : graph_below at entries J address s) → (there.block ≡ block) × (number + PARTITION_START ≡ there.number + PARTITION_START)
 entry_there at entries J address number block s used held_is there =
     let same : there.number ≡ number = same_Some there.number number (same_Some (Some there.number) (Some number) (sym there.used ∙ used)) in
-    let below : there.number + 257 < length (take at (held J)) = slice_get_within (take at (held J)) (there.number + 257) there.block there.there in
-    let low : there.number + 257 < at = omega (arith, below, shorter at (held J)) in
-    let is : slice_get (held J) (there.number + 257) ≡ Some there.block = sym (get-take at (held J) (there.number + 257) low) ∙ there.there in
-    (same_Some there.block block (sym is ∙ (ap (λ n. slice_get (held J) (n + 257)) same ∙ held_is)), ap (λ n. n + 257) (sym same))
-
--- where something is stored the entry is used
-pub none_unused : (at : ℕ) (entries : List (Option ℕ)) (J : List Event) (address : ℕ) (s : Stored) → slice_get entries address ≡ None → graph_below at entries J address s → ⊥
-none_unused at entries J address s e there = let f = sym e ∙ there.used in cc
-
-pub some_unused : (at : ℕ) (entries : List (Option ℕ)) (J : List Event) (address : ℕ) (s : Stored) → slice_get entries address ≡ Some None → graph_below at entries J address s → ⊥
-some_unused at entries J address s e there = let f = sym e ∙ there.used in cc
+    let below : there.number + PARTITION_START < length (take at (held J)) = slice_get_within (take at (held J)) (there.number + PARTITION_START) there.block there.there in
+    let low : there.number + PARTITION_START < at = omega (arith, below, shorter at (held J)) in
+    let is : slice_get (held J) (there.number + PARTITION_START) ≡ Some there.block = sym (get-take at (held J) (there.number + PARTITION_START) low) ∙ there.there in
+    (same_Some there.block block (sym is ∙ (ap (λ n. slice_get (held J) (n + PARTITION_START)) same ∙ held_is)), ap (λ n. n + PARTITION_START) (sym same))
 
 -- the fields of a directory's entry
 pub record HasData (at : ℕ) (J : List Event) (s : Stored) (e : icb.Fields) : Type 0 where
   pub first : ℕ
   pub place : e.place ≡ icb.Place.Extent first
-  pub below : first + 257 + div_ceil e.size 2048 ≤ at
+  pub below : first + PARTITION_START + div_ceil e.size BLOCK_BYTES ≤ at
   pub parent : ℕ
   pub entries : List Entry
   pub body : s.body ≡ Entries parent entries
@@ -78,7 +72,7 @@ data_in at J s fields (Extent_ first) (Entries parent entries) e b d m h =
       parent = parent;
       entries = entries;
       body = b;
-      is = subst (λ (bs : List Block). udf.IsDirectory parent entries first fields.size bs) (part_below (held J) at (first + 257) (div_ceil fields.size 2048) holds.0) holds.1;
+      is = subst (λ (bs : List Block). udf.IsDirectory parent entries first fields.size bs) (part_below (held J) at (first + PARTITION_START) (div_ceil fields.size BLOCK_BYTES) holds.0) holds.1;
       moment = m;
     }
 
@@ -119,12 +113,12 @@ lies_at at entries J place address placed s same used is entry there directory =
     let address_too : placed.at.address ≡ address = ap (λ (p : EntryAt). p.address) is ∙ same in
     lies_said at entries J placed s used_too entry (subst (λ (a : ℕ). graph_below at entries J a s) (sym address_too) there) directory
 
-pub lies_below : (at : ℕ) (J : List Event) (s : Stored) (e : icb.Fields) (read : FileEntry) (first : ℕ) → HasData at J s e → icb.fields_of read ≡ e → read.place ≡ places.Extent first → first + 257 + div_ceil read.size 2048 ≤ at
+pub lies_below : (at : ℕ) (J : List Event) (s : Stored) (e : icb.Fields) (read : FileEntry) (first : ℕ) → HasData at J s e → icb.fields_of read ≡ e → read.place ≡ places.Extent first → first + PARTITION_START + div_ceil read.size BLOCK_BYTES ≤ at
 unfolding extent_first
 lies_below at J s e read first h same place =
     let d = subst (λ (f : icb.Fields). HasData at J s f) (sym same) h in
     let one : d.first ≡ first = ap extent_first (sym d.place ∙ ap icb.place_of place) in
-    subst (λ (n : ℕ). n + 257 + div_ceil read.size 2048 ≤ at) one d.below
+    subst (λ (n : ℕ). n + PARTITION_START + div_ceil read.size BLOCK_BYTES ≤ at) one d.below
 
 -- an extent
 place_extent : (p : source.Place) (first : ℕ) → icb.place_of p ≡ icb.Place.Extent first → p ≡ places.Extent first
@@ -144,38 +138,15 @@ decoded block there address fields read same is only = only (icb_fields fields) 
 
 -- ---- unused addresses
 
-pub first_end : (t : List (Option ℕ)) (n : ℕ) → length t ≤ n → used_first (drop n t) ≡ 0
-first_end [] zero h = refl
-first_end [] (suc n) h = refl
-first_end (e ∷ t) zero h = absurd (omega arith)
-first_end (e ∷ t) (suc n) h = first_end t n (omega arith)
-
 pub first_unused : (t : List (Option ℕ)) (n : ℕ) → slice_get t n ≡ Some None → used_first (drop n t) ≡ 0
 first_unused [] n h = cc
 first_unused (None ∷ t) zero h = refl
 first_unused (Some e ∷ t) zero h = cc
 first_unused (e ∷ t) (suc n) h = first_unused t n h
 
-pub first_used : (t : List (Option ℕ)) (n : ℕ) (e : ℕ) → slice_get t n ≡ Some (Some e) → used_first (drop n t) ≡ suc (used_first (drop (suc n) t))
-first_used [] n e h = cc
-first_used (None ∷ t) zero e h = cc
-first_used (Some x ∷ t) zero e h = refl
-first_used (x ∷ t) (suc n) e h = first_used t n e h
-
--- the search for an unused address has come to an index
-pub free_end : (t : List (Option ℕ)) (n : ℕ) → free_address t ≡ n + used_first (drop n t) → length t ≤ n → n ≡ free_address t
-free_end t n h le = omega (arith, h, first_end t n le)
-
-pub free_here : (t : List (Option ℕ)) (n : ℕ) (e : Option ℕ) → free_address t ≡ n + used_first (drop n t) → slice_get t n ≡ Some e → e ≡ None → n ≡ free_address t
-free_here t n e h there none = omega (arith, h, first_unused t n (there ∙ ap Some none))
-
-pub free_on : (t : List (Option ℕ)) (n : ℕ) (e : Option ℕ) → free_address t ≡ n + used_first (drop n t) → slice_get t n ≡ Some e → (e ≡ None → ⊥) → free_address t ≡ n + 1 + used_first (drop (n + 1) t)
-free_on t n None h there some = absurd (some refl)
-free_on t n (Some e) h there some = h ∙ (ap (λ k. n + k) (first_used t n e there) ∙ (let one : n + suc (used_first (drop (suc n) t)) ≡ n + 1 + used_first (drop (suc n) t) = omega arith in let m : suc n ≡ n + 1 = omega arith in one ∙ ap (λ (k : ℕ). n + 1 + used_first (drop k t)) m))
-
 -- the data of a directory whose entry fits lie in a partition
 pub extent_bounds : (kind : Kind) (size first at : ℕ) (place : source.Place) → icb.FitsPlace kind size (icb.place_of place) → place ≡ places.Extent first
-    → first + 257 + div_ceil size 2048 ≤ at → (0 < size) × (first ≤ 449_743) × (first + 257 + div_ceil size 2048 ≤ at)
+    → first + PARTITION_START + div_ceil size BLOCK_BYTES ≤ at → (0 < size) × (first ≤ PARTITION_BLOCKS) × (first + PARTITION_START + div_ceil size BLOCK_BYTES ≤ at)
 extent_bounds kind size first at place fits e below =
     let f = subst (λ (p : source.Place). icb.FitsPlace kind size (icb.place_of p)) e fits in
     (f.0, omega arith, below)

@@ -30,7 +30,7 @@ use Rattle.udf.proofs.Formats.{exact}
 use Rattle.udf.proofs.Said.{directories_agree}
 use Rattle.lookup.specs.declared.content.Content.{Content}
 use Rattle.lookup.specs.declared.nodes.Placed.{Placed}
-use Rattle.table_update.specs.declared.node.Node.{Node}
+use Rattle.recover.specs.declared.node.Node.{Node}
 use Rattle.lookup.specs.Cache.{LiesThere}
 use Rattle.lookup.specs.Shows.{graph_below, LiesIn, IsOpened, IsNodeAt, IsFound, IsFoundDirectory}
 

@@ -6,7 +6,7 @@ use Rattle.drive.specs.Journal.{AreWhole, Event, Once, held}
 use Rattle.drive.specs.declared.Drive.{Ghosts}
 use Rattle.model.specs.Graph.{Stored}
 use Rattle.model.specs.Graph.Body.{Bytes}
-use Rattle.table_update.specs.Below.{IsUsed}
+use Rattle.recover.specs.Below.{IsUsed}
 use Rattle.lookup.specs.Cache.{IsEntryThere}
 use Rattle.lookup.specs.Lookups.{graph_seen}
 use Rattle.lookup.specs.declared.lookup.Lookup.{Lookup}

@@ -10,7 +10,7 @@ use Rattle.model.specs.Graph.{Graph, Stored, is_directory}
 use Rattle.recover.specs.Faults.{IsShortage}
 use Rattle.recover.specs.declared.fault.StoreFault.{StoreFault}
 use Rattle.udf.specs.Said.{names_directory}
-use Rattle.table_update.specs.declared.node.Node.{Node}
+use Rattle.recover.specs.declared.node.Node.{Node}
 use Rattle.lookup.specs.Cache.{AreKept, LiesThere}
 use Rattle.lookup.specs.Shows.{HasNodesOf, IsNodeAt, graph_below}
 use Rattle.lookup.specs.declared.content.Content.{Content}

@@ -16,7 +16,7 @@ use Rattle.udf.specs.Said.{said_entries, names_directory}
 use Rattle.lookup.specs.declared.content.Content.{Content}
 use Rattle.lookup.specs.declared.cache.DirectoryCache.{DirectoryCache}
 use Rattle.lookup.specs.declared.nodes.Placed.{Placed}
-use Rattle.table_update.specs.declared.node.Node.{Node}
+use Rattle.recover.specs.declared.node.Node.{Node}
 use Rattle.lookup.specs.Cache.{AreKept}
 
 -- what is stored under virtual addresses, on what a journal holds below the address of a VAT ICB

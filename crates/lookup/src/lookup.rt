@@ -3,14 +3,15 @@
 ghost use Rattle.std.specs.Prelude.{◌≤◌};
 ghost use Rattle.std.proofs.Props.{props};
 ghost use Rattle.drive.specs.Journal.{next_of};
-ghost use Rattle.table_update.specs.Below.{AreBelow};
+ghost use Rattle.recover.specs.Below.{AreBelow};
 
 use crate::cache::DirectoryCache;
 use crate::nodes::{EntryAt, Nodes, Placed};
 use drive::Drive;
 use ecma::Block;
 use icb::{Place, decode_fe};
-use recover::{Extent, PARTITION_START, StoreFault, cause, damaged, lies_below, read_block};
+use limits::PARTITION_START;
+use recover::{Extent, StoreFault, cause, damaged, lies_below, read_block};
 use std::alloc::Global;
 
 /// Looks in the nodes of a state. It is lent the drive that they stand on, and the directories that were used last.
@@ -31,7 +32,7 @@ impl<'s, 'n, D: Drive> Lookup<'s, 'n, D> {
     ghost use Rattle.recover.specs.Faults.{devices, failures_of};
     ghost use Rattle.recover.specs.declared.cause.TheConstants.{IDENTITY};
     ghost use Rattle.recover.specs.declared.fault.StoreFault.TheVariants.{Damaged, Device};
-    ghost use Rattle.table_update.specs.Below.{AreBelow};
+    ghost use Rattle.recover.specs.Below.{AreBelow};
     ghost use Rattle.lookup.specs.Entries.{IsBlockThere, IsEntryBlock, IsPlacedThere};
     ghost use Rattle.lookup.specs.Lookups.{Looks, OfNode, free_seen, graph_seen};
 

@@ -20,10 +20,10 @@ use crate::lookup::Lookup;
 use dir::Kind;
 use drive::Drive;
 use icb::{Place, decode_fe};
-use recover::{PARTITION_START, StoreFault, cause, damaged, lies_below, read_bytes};
+use limits::PARTITION_START;
+use recover::{Node, StoreFault, cause, damaged, lies_below, read_bytes};
 use request::{FileData, Listed, Listing, NodeKind, NodeStatus, Path};
 use std::alloc::Global;
-use table_update::Node;
 
 impl<D: Drive> Lookup<'_, '_, D> {
     /// The bytes of a file.

@@ -13,8 +13,7 @@ use crate::nodes::Placed;
 use dir::Kind;
 use drive::Drive;
 use osta::Name;
-use recover::{StoreFault, read_directory};
-use table_update::{Node, ROOT};
+use recover::{Node, ROOT, StoreFault, read_directory};
 
 impl<D: Drive> Lookup<'_, '_, D> {
     /// The directory at a virtual address, which is not kept any longer, and where it lies.

@@ -10,6 +10,15 @@ abbrev pub lookup : Images → List ℕ → Option (List Event)
 lookup [] path = None
 lookup (image ∷ images) path = if bytes_eq path image.0 then Some image.1 else lookup images path
 
+-- what was found after the last whole block of images, by their paths, the last look first
+abbrev pub Looks : Type 0
+Looks = List (List ℕ × Option (List ℕ))
+
+-- what the last look at the image at this path found
+abbrev pub found_by : Looks → List ℕ → Option (List ℕ)
+found_by [] path = None
+found_by (look ∷ looks) path = if bytes_eq path look.0 then look.1 else found_by looks path
+
 -- the blocks that an image is taken to hold
 abbrev pub held_blocks : Option (List Event) → List (List ℕ)
 held_blocks None = []

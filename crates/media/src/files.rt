@@ -7,7 +7,7 @@ ghost use Rattle.media.specs.Seen.{Images, lookup};
 
 use crate::Media;
 use crate::seen::Seen;
-use drive::{Block, DriveFault, FileDrive, create_image, sync_folder};
+use drive::{Block, DriveFault, FileDrive, Look, create_image, sync_folder};
 use std::fs::{File, Files};
 
 /// Image files, by their paths.
@@ -21,6 +21,7 @@ impl<'a, R: Files<File = File>> FileMedia<'a, R> {
     /// The files of this runtime, of which nothing is known yet.
     pub fn new(rt: &'a R) -> FileMedia<'a, R>
         ensures held { result.seen.images ≡ [] }
+        ensures looked { result.seen.looks ≡ [] }
         ensures honest { result.seen.misses ≡ 0 }
     {
         FileMedia::over(rt)
@@ -31,6 +32,7 @@ impl<'a, R: Files<File = File>> FileMedia<'a, R> {
     pub fn over(rt: &'a R) -> FileMedia<'a, R>
         ghost first: { Images }
         ensures held { result.seen.images ≡ first }
+        ensures looked { result.seen.looks ≡ [] }
         ensures honest { result.seen.misses ≡ 0 }
     {
         FileMedia {
@@ -43,11 +45,13 @@ impl<'a, R: Files<File = File>> FileMedia<'a, R> {
 impl<'a, R: Files<File = File>> Media for FileMedia<'a, R> {
     type Drive = FileDrive;
 
-    ghost use Rattle.media.specs.Seen.{lookup};
+    ghost use Rattle.media.specs.Seen.{found_by, lookup};
 
     ghost held = { λ m. lookup m.seen.images };
 
     ghost honest = { λ m. m.seen.misses == 0 };
+
+    ghost looked = { λ m. found_by m.seen.looks };
 
     ghost takes_back = { λ _ _. true };
 
@@ -73,8 +77,16 @@ impl<'a, R: Files<File = File>> Media for FileMedia<'a, R> {
         self.seen = Seen::after_back(&self.seen, path.as_bytes(), &drive);
     }
 
-    fn part(&self, drive: &FileDrive, into: &mut Block) -> Result<usize, DriveFault> {
-        drive.part(into)
+    fn part(
+        &mut self,
+        path: &str,
+        drive: &FileDrive,
+        into: &mut Block,
+    ) -> Result<usize, DriveFault> {
+        let mut look = Look::new(&[]);
+        let count = drive.part(into, &mut look)?;
+        self.seen = Seen::after_look(&self.seen, path.as_bytes(), &look);
+        Ok(count)
     }
 }
 
@@ -84,6 +96,7 @@ fn found(seen: &mut Seen, path: &[u8], mut drive: FileDrive) -> FileDrive
     ensures image { (image : List (List ℕ)) × BeginsWith image result }
     ensures capacity { capacity_of result ≡ capacity_of drive }
     ensures images { seen.new.images ≡ seen.old.images }
+    ensures looks { seen.new.looks ≡ seen.old.looks }
     ensures opened { IsTrue (seen.new.misses == 0) → lookup seen.old.images path.now ≡ Some (journal_of result) }
     ensures alike { (J : List Event) → lookup seen.old.images path.now ≡ Some J → FoundAsHeld J (journal_of result) }
     ensures agreed { lookup seen.old.images path.now ≡ Some (journal_of result) → (seen.new.misses == 0) ≡ (seen.old.misses == 0) }

@@ -10,7 +10,7 @@
 #![tactic(auto)]
 
 ghost use Rattle.limits.specs.declared.TheConstants.{BLOCK_BYTES};
-ghost use Rattle.std.specs.Prelude.{◌≡◌, ◌<◌, ℕ, Bool, List, Option, Some, IsTrue, IfOk, OnOk, OnErr};
+ghost use Rattle.std.specs.Prelude.{◌≡◌, ◌<◌, ℕ, Bool, List, Option, Some, take, IsTrue, IfOk, OnOk, OnErr};
 ghost use Rattle.drive.specs.Journal.{Event};
 ghost use Rattle.media.specs.Held.{FoundAsHeld, IsFresh, Same, SameBut, SameOrMade, begun};
 
@@ -32,6 +32,10 @@ pub trait Media {
     /// What was found so far was what is held, and no read of a drive that was put back gave other bytes.
     ghost honest: { Self → Bool };
 
+    /// What the last call of `part` found after the last whole block of the image at a path, and nothing before the
+    /// first call.
+    ghost looked: { Self → List ℕ → Option (List ℕ) };
+
     /// A drive may be put back at this path.
     ghost takes_back: { Self → List ℕ → Bool };
 
@@ -48,6 +52,7 @@ pub trait Media {
         ensures err { OnErr result (Same (held self.old) (held self.new)) }
         ensures kept { OnErr result (Same (takes_back self.old) (takes_back self.new)) }
         ensures failed { OnErr result (honest self.new ≡ honest self.old) }
+        ensures looked { looked self.new ≡ looked self.old }
         ensures honest { IsTrue (honest self.new) → IsTrue (honest self.old) };
 
     /// Takes out the image at this path, to write it. Else as `open_to_read`.
@@ -62,6 +67,7 @@ pub trait Media {
         ensures err { OnErr result (Same (held self.old) (held self.new)) }
         ensures kept { OnErr result (Same (takes_back self.old) (takes_back self.new)) }
         ensures failed { OnErr result (honest self.new ≡ honest self.old) }
+        ensures looked { looked self.new ≡ looked self.old }
         ensures honest { IsTrue (honest self.new) → IsTrue (honest self.old) };
 
     /// Takes out the image at this path, to write it, which is made, of no blocks, where it is missing. Where it
@@ -77,6 +83,7 @@ pub trait Media {
         ensures err { OnErr result (SameOrMade path.now (held self.old) (held self.new)) }
         ensures kept { OnErr result (Same (takes_back self.old) (takes_back self.new)) }
         ensures failed { OnErr result (honest self.new ≡ honest self.old) }
+        ensures looked { looked self.new ≡ looked self.old }
         ensures honest { IsTrue (honest self.new) → IsTrue (honest self.old) };
 
     /// Puts a drive back, which is what the path holds from then on.
@@ -87,10 +94,22 @@ pub trait Media {
         ensures places { SameBut path.now (takes_back self.old) (takes_back self.new) }
         ensures misreads { IsTrue (honest self.new) → Self.Drive.misreads drive ≡ 0 }
         ensures agreed { Self.Drive.misreads drive ≡ 0 → honest self.new ≡ honest self.old }
+        ensures looked { looked self.new ≡ looked self.old }
         ensures honest { IsTrue (honest self.new) → IsTrue (honest self.old) };
 
-    /// The bytes of an image after its last whole block, which no address counts, at the beginning of `into`: how many
-    /// they are, at most 2,047.
-    fn part(&self, drive: &Self::Drive, into: &mut Block) -> Result<usize, DriveFault>
-        ensures { IfOk result (λ n. n < BLOCK_BYTES) };
+    /// The bytes of the image at this path after its last whole block, which no address counts, at the beginning of
+    /// `into`: how many they are, at most 2,047. Its drive is out.
+    fn part(
+        &mut self,
+        path: &str,
+        drive: &Self::Drive,
+        into: &mut Block,
+    ) -> Result<usize, DriveFault>
+        ensures short { IfOk result (λ n. n < BLOCK_BYTES) }
+        ensures found { IfOk result (λ n. looked self.new path.now ≡ Some (take n into.new)) }
+        ensures others { SameBut path.now (looked self.old) (looked self.new) }
+        ensures err { OnErr result (looked self.new ≡ looked self.old) }
+        ensures held { held self.new ≡ held self.old }
+        ensures places { takes_back self.new ≡ takes_back self.old }
+        ensures honest { honest self.new ≡ honest self.old };
 }

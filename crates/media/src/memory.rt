@@ -90,6 +90,9 @@ impl Media for MemMedia {
 
     ghost honest = { λ _. true };
 
+    // A drive in memory has whole blocks alone.
+    ghost looked = { λ _ _. Some [] };
+
     ghost takes_back = { is_out };
 
     fn open_to_read(&mut self, path: &str, capacity: u32) -> Result<MemDrive, DriveFault>
@@ -143,9 +146,14 @@ impl Media for MemMedia {
         }
     }
 
-    // A drive in memory has whole blocks alone.
-    fn part(&self, _drive: &MemDrive, _into: &mut Block) -> Result<usize, DriveFault>
-        ensures { result ≡ Ok 0 }
+    fn part(
+        &mut self,
+        _path: &str,
+        _drive: &MemDrive,
+        _into: &mut Block,
+    ) -> Result<usize, DriveFault>
+        ensures none { result ≡ Ok 0 }
+        ensures same { self.new ≡ self.old }
     {
         Ok(0)
     }

@@ -1,10 +1,10 @@
 //! What image files are taken to hold, which only clauses read.
-ghost use Rattle.std.specs.Prelude.{◌≡◌, ◌+◌, ◌∷◌, ℕ};
+ghost use Rattle.std.specs.Prelude.{◌≡◌, ◌+◌, ◌∷◌, [], ℕ};
 ghost use Rattle.std.specs.Borrow.{ftrue};
 ghost use Rattle.drive.specs.FileDrive.{journal_of, misreads_of};
-ghost use Rattle.media.specs.Seen.{Images, held_blocks, lookup, missed, with_made};
+ghost use Rattle.media.specs.Seen.{Images, Looks, held_blocks, lookup, missed, with_made};
 
-use drive::{FileDrive, HeldBlocks};
+use drive::{FileDrive, HeldBlocks, Look};
 use std::marker::Model;
 
 /// It takes no memory, and its functions do nothing when they run.
@@ -12,6 +12,7 @@ use std::marker::Model;
 pub(crate) struct Seen {
     pub ghost images: { Images },
     pub ghost misses: { ℕ },
+    pub ghost looks: { Looks },
 }
 
 impl Model for Seen {
@@ -22,7 +23,7 @@ impl Seen {
     /// Nothing was found yet.
     pub(crate) fn new(_none: &[u8]) -> Seen
         ghost first: { Images }
-        ensures { (result.images ≡ first) × (result.misses ≡ 0) }
+        ensures { (result.images ≡ first) × (result.misses ≡ 0) × (result.looks ≡ []) }
     {
         Seen {}
     }
@@ -36,21 +37,28 @@ impl Seen {
 
     /// The image at this path was opened, with what this drive has.
     pub(crate) fn after_open(_seen: &Seen, _path: &[u8], _drive: &FileDrive) -> Seen
-        ensures { (result.images ≡ _seen.now.images) × (result.misses ≡ _seen.now.misses + missed (lookup _seen.now.images _path.now) (journal_of _drive.now)) }
+        ensures { (result.images ≡ _seen.now.images) × (result.misses ≡ _seen.now.misses + missed (lookup _seen.now.images _path.now) (journal_of _drive.now)) × (result.looks ≡ _seen.now.looks) }
     {
         Seen {}
     }
 
     /// There is a file at this path, which was made where there was none.
     pub(crate) fn after_made(_seen: &Seen, _path: &[u8]) -> Seen
-        ensures { (result.images ≡ with_made (lookup _seen.now.images _path.now) _path.now _seen.now.images) × (result.misses ≡ _seen.now.misses) }
+        ensures { (result.images ≡ with_made (lookup _seen.now.images _path.now) _path.now _seen.now.images) × (result.misses ≡ _seen.now.misses) × (result.looks ≡ _seen.now.looks) }
     {
         Seen {}
     }
 
     /// This drive was put back at this path.
     pub(crate) fn after_back(_seen: &Seen, _path: &[u8], _drive: &FileDrive) -> Seen
-        ensures { (result.images ≡ (_path.now, journal_of _drive.now) ∷ _seen.now.images) × (result.misses ≡ _seen.now.misses + misreads_of _drive.now) }
+        ensures { (result.images ≡ (_path.now, journal_of _drive.now) ∷ _seen.now.images) × (result.misses ≡ _seen.now.misses + misreads_of _drive.now) × (result.looks ≡ _seen.now.looks) }
+    {
+        Seen {}
+    }
+
+    /// The image at this path was looked at, and this was found.
+    pub(crate) fn after_look(_seen: &Seen, _path: &[u8], _look: &Look) -> Seen
+        ensures { (result.images ≡ _seen.now.images) × (result.misses ≡ _seen.now.misses) × (result.looks ≡ (_path.now, _look.now.part) ∷ _seen.now.looks) }
     {
         Seen {}
     }

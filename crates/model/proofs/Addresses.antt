@@ -1,21 +1,18 @@
 -- The table of virtual addresses: how many are used, and the least that is not.
-use Rattle.std.proofs.Common.{◌≡◌, ◌↔◌, ◌⊎◌, inl, inr, ℕ, zero, suc, ◌+◌, ◌<◌, ◌≤◌, max, Bool, true, false, cond, if◌then◌else◌, nat_lt, List, [], ◌∷◌, ◌++◌, length, map, drop, slice_get, Contains, Option, Some, None, is_some, count_by, refl, sym, ◌∙◌, ap, subst, arith, lt-ltb, le-ltb}
+use Rattle.std.proofs.Common.{◌≡◌, ◌↔◌, inl, inr, ℕ, zero, suc, ◌+◌, ◌<◌, ◌≤◌, max, Bool, true, false, cond, if◌then◌else◌, nat_lt, List, [], ◌∷◌, ◌++◌, length, map, Contains, Option, Some, None, is_some, refl, sym, ◌∙◌, ap, subst, arith}
 use Rattle.std.specs.Prelude.{slice_set}
-use Rattle.std.specs.List.{AllByRecursion}
 use Rattle.std.proofs.lemmas.Bool.{true≢false, false≢true, ltb-true, ltb-false}
 use Rattle.std.proofs.lemmas.List.{length-set, length_push}
 use Rattle.std.proofs.lemmas.List.Sums.{sum_by-cons}
 use Rattle.std.proofs.lemmas.Option.{none-some}
-use Rattle.std.specs.FinMap.{get, entries, find, len, len-entries, get-entries}
-use Rattle.std.specs.Ordering.{eq_by_cmp}
+use Rattle.std.specs.FinMap.{entries, find, len, len-entries, get-entries}
 use Rattle.model.specs.Tree.{Path, Node, Tree, IsTree, Has, path_cmp}
 use Rattle.model.specs.Graph.{Graph, Stored, MakesTree, IsFunctional}
 use Rattle.model.specs.Change.{IsReached, stored_in}
-use Rattle.model.specs.Addresses.{Table, HoldsNodes, used_entry, is_used, used_in, used_first, free_address, with_address, without_entry}
+use Rattle.model.specs.Addresses.{Table, HoldsNodes, is_used, used_in, used_first, free_address, with_address}
 use Rattle.model.specs.LawsAddresses.{IsLeastFree, IsWith, IsWithout}
 use Rattle.model.proofs.Lists.{contains_here, contains_there, contains_cons, not_in_nil, contains_map, map_contains, all_contains}
 use Rattle.model.proofs.Paths.{path_cases}
-use Rattle.model.proofs.Maps.{some_at}
 use Rattle.model.proofs.Moving.{keys_have}
 use Rattle.model.proofs.Place.{Placed, reached_path, reached_at}
 use Rattle.model.proofs.Made.{one_in, place_of, placed_from_makes}
@@ -206,10 +203,10 @@ first_least (None ∷ table) k l = absurd (omega arith)
 first_least (Some start ∷ table) zero l = refl
 first_least (Some start ∷ table) (suc k) l = first_least table k (omega arith)
 
-behind_two : (table : Table) → 2 ≤ length table → (x y : Option ℕ) × (rest : Table) × (table ≡ x ∷ y ∷ rest)
-behind_two [] l = absurd (omega arith)
-behind_two (x ∷ []) l = absurd (omega arith)
-behind_two (x ∷ y ∷ rest) l = (x, y, rest, refl)
+after_two : (table : Table) → 2 ≤ length table → (x y : Option ℕ) × (rest : Table) × (table ≡ x ∷ y ∷ rest)
+after_two [] l = absurd (omega arith)
+after_two (x ∷ []) l = absurd (omega arith)
+after_two (x ∷ y ∷ rest) l = (x, y, rest, refl)
 
 -- what is known of the least free address of a table
 record Least (table : Table) (address : ℕ) : Type 0 where
@@ -219,7 +216,7 @@ record Least (table : Table) (address : ℕ) : Type 0 where
   least : (other : ℕ) → 2 ≤ other → other < address → is_used table other ≡ true
 
 least_free : (table : Table) → 2 ≤ length table → Least table (free_address table)
-least_free table l = let t = behind_two table l in subst (λ (z : Table). Least z (free_address z)) (sym t.3) (record {
+least_free table l = let t = after_two table l in subst (λ (z : Table). Least z (free_address z)) (sym t.3) (record {
   unused = first_unused t.2;
   from_two = omega arith;
   within_it = let m = first_within t.2 in omega arith;

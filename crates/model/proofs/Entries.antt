@@ -1,13 +1,12 @@
 -- Which addresses of the table are used after an operation.
-use Rattle.std.proofs.Common.{◌≡◌, ◌↔◌, ◌⊎◌, inl, inr, ℕ, zero, suc, ◌+◌, ◌<◌, ◌==◌, Bool, true, false, if◌then◌else◌, nat_lt, List, [], ◌∷◌, ◌++◌, length, Option, Some, None, refl, sym, ◌∙◌, ap, subst, arith, eq-eqb, ne_eqb}
+use Rattle.std.proofs.Common.{◌≡◌, ◌↔◌, ◌⊎◌, inl, inr, ℕ, zero, suc, ◌<◌, ◌==◌, Bool, true, false, if◌then◌else◌, nat_lt, [], ◌∷◌, ◌++◌, length, Option, Some, None, refl, sym, ◌∙◌, ap, subst, arith, ne_eqb}
 use Rattle.std.specs.Prelude.{slice_set}
-use Rattle.std.proofs.lemmas.Bool.{true≢false, false≢true, eqb-true, eqb-false, ltb-true, ltb-false}
-use Rattle.model.specs.Tree.{Path, Content, Tree, IsTree}
-use Rattle.model.specs.Tree.Content.{File, Directory}
+use Rattle.std.proofs.lemmas.Bool.{false≢true, eqb-true, eqb-false, ltb-true, ltb-false}
+use Rattle.model.specs.Tree.{Tree, IsTree}
 use Rattle.model.specs.Operation.{Operation, code_of}
 use Rattle.model.specs.Operation.Operation.{Create, Replace, MakeDir, Rename, Remove}
 use Rattle.model.specs.Graph.{Graph, Stored, MakesTree}
-use Rattle.model.specs.Change.{Added, Removed, ChangesNodes, IsReached, ReachedAfter, stored_in}
+use Rattle.model.specs.Change.{ChangesNodes, IsReached, stored_in}
 use Rattle.model.specs.Addresses.{Table, HoldsNodes, UsedAfter, is_used, with_address, without_entry}
 use Rattle.model.proofs.Made.{one_in}
 use Rattle.model.proofs.Operations.{reached_after}

@@ -1,10 +1,10 @@
 -- The reply of each of a client's last four requests is kept.
-use Rattle.std.proofs.Common.{◌≡◌, ℕ, suc, ◌+◌, ◌-◌, ◌<◌, ◌==◌, if◌then◌else◌, nat_lt, nat_le, cond, Bool, true, false, List, [], ◌∷◌, ◌++◌, length, map, slice_get, Option, Some, None, refl, sym, ◌∙◌, ap, subst, arith, eq-eqb, le-ltb}
+use Rattle.std.proofs.Common.{◌≡◌, ℕ, suc, ◌+◌, ◌-◌, ◌<◌, ◌==◌, if◌then◌else◌, nat_lt, cond, Bool, true, false, List, [], ◌∷◌, ◌++◌, length, map, slice_get, Option, Some, None, refl, sym, ◌∙◌, ap, subst, arith, eq-eqb, le-ltb}
 use Rattle.std.specs.List.{list_any}
 use Rattle.std.proofs.lemmas.Bool.{true≢false, eqb-true, eqb-false}
 use Rattle.std.proofs.lemmas.Option.{none-some, same_Some}
-use Rattle.model.specs.Session.{State, Request, Reply, ClientRecord, Due, due, due_by, kept_or_stale, record_of, answered, reply_to, after_one, after}
-use Rattle.model.specs.Session.Due.{Repeat, Stale, Gap, ClientsFull, New}
+use Rattle.model.specs.Session.{State, Request, Reply, ClientRecord, due, due_by, kept_or_stale, record_of, answered, reply_to, after_one, after}
+use Rattle.model.specs.Session.Due.{Repeat, Gap, New}
 use Rattle.model.specs.Runs.{AllNew, commits_of_client}
 use Rattle.model.proofs.Lists.{get-take}
 use Rattle.model.proofs.Sessions.{turn, next_other}

@@ -1,5 +1,5 @@
 -- What the directories that an operation touches list afterwards.
-use Rattle.std.proofs.Common.{◌≡◌, ℕ, ◌≤◌, true, List, [], ◌∷◌, ◌++◌, length, filter, refl, sym, ◌∙◌, ap, subst, append-nil}
+use Rattle.std.proofs.Common.{◌≡◌, ℕ, ◌≤◌, true, [], ◌∷◌, ◌++◌, length, filter, refl, sym, ◌∙◌, ap, subst, append-nil}
 use Rattle.std.specs.FinMap.{get}
 use Rattle.model.specs.Tree.{Name, Path, Content, Tree, IsTree, Has, names_in, names_at, is_directory_at, parent_of, last_of}
 use Rattle.model.specs.Tree.Content.{File, Directory}

@@ -1,14 +1,14 @@
 -- The list of entries of the plain program, and the tree that it stands for.
-use Rattle.std.proofs.Common.{◌≡◌, ℕ, suc, ◌+◌, ◌<◌, ◌≤◌, Bool, true, false, cond, nat_lt, ◌&&◌, ◌||◌, ◌⊎◌, inl, inr, List, [], ◌∷◌, ◌++◌, map, take, drop, length, slice_get, get_or, Option, Some, None, is_some, refl, sym, ap, ◌∙◌, subst, arith, option_map}
+use Rattle.std.proofs.Common.{◌≡◌, ℕ, suc, ◌+◌, ◌<◌, Bool, true, false, cond, nat_lt, ◌&&◌, ◌||◌, inl, inr, List, [], ◌∷◌, map, length, slice_get, get_or, Some, None, is_some, refl, sym, ap, ◌∙◌, subst, arith, option_map}
 use Rattle.std.specs.List.{find, position, position_or_len, list_any, IsDistinct, AllByRecursion}
-use Rattle.std.specs.FinMap.{get, keys, len, from_entries, get-from_entries, len-empty, len-insert, contains_key-keys}
+use Rattle.std.specs.FinMap.{get, keys, len, get-from_entries, len-empty, len-insert, contains_key-keys}
 use Rattle.std.specs.FinMap.Entries.{is_some-find}
 use Rattle.std.specs.FinMap as finmap
 use Rattle.std.specs.Ordering.{eq_by_cmp}
 use Rattle.std.proofs.lemmas.Bool.{true≢false, false≢true, ltb-true, ltb-false}
 use Rattle.std.proofs.lemmas.List.Folds.{find_at}
-use Rattle.std.proofs.lemmas.Option.{none-some, same_Some, slice_get-get_or, get_or_from_slice_get, slice_get_past}
-use Rattle.model.specs.Tree.{Path, Node, Tree, path_cmp, paths_eq}
+use Rattle.std.proofs.lemmas.Option.{none-some, same_Some, slice_get-get_or, slice_get_past}
+use Rattle.model.specs.Tree.{Path, Node, path_cmp, paths_eq}
 use Rattle.model.specs.Plain.{path_in, node_in, entry_in, tree_in, AreApart}
 use Rattle.model.specs.declared.plain.nodes.Entry.{Entry}
 use Rattle.model.proofs.Lists.{bytes_eq-itself}

@@ -1,13 +1,12 @@
 -- The state of the plain program, at its start and after one request.
-use Rattle.std.proofs.Common.{◌≡◌, ℕ, ◌+◌, max, ◌==◌, ◌&&◌, if◌then◌else◌, Bool, true, false, List, [], ◌∷◌, ◌++◌, map, length, refl, sym, ap, ◌∙◌, subst, arith}
-use Rattle.std.specs.FinMap.{len, from_entries}
+use Rattle.std.proofs.Common.{◌≡◌, ℕ, ◌+◌, max, ◌==◌, ◌&&◌, if◌then◌else◌, Bool, true, false, [], ◌∷◌, map, length, sym, ap, ◌∙◌, subst}
+use Rattle.std.specs.FinMap.{len}
 use Rattle.std.specs.List.{IsDistinct}
-use Rattle.model.specs.Tree.{Path, Node, Tree, paths_eq}
-use Rattle.model.specs.Tree.Content.{Directory}
+use Rattle.model.specs.Tree.{Tree}
 use Rattle.model.specs.Operation.{Operation, code_of, done, tree_after}
-use Rattle.model.specs.Session.{State, Reply, ClientRecord, draws_identity, with_reply, reply_to, after_one, formatted}
+use Rattle.model.specs.Session.{Reply, draws_identity, with_reply, reply_to, after_one, formatted}
 use Rattle.model.specs.Laws.{IsSound}
-use Rattle.model.specs.Plain.{entry_in, path_in, node_in, record_in, tree_in, AreApart}
+use Rattle.model.specs.Plain.{record_in, tree_in, AreApart}
 use Rattle.model.specs.PlainState.{state_in, request_in, IsWholeState}
 use Rattle.model.specs.declared.plain.nodes.Entry.{Entry}
 use Rattle.model.specs.declared.plain.state.Request.{Request as PlainRequest}

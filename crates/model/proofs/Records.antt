@@ -1,13 +1,14 @@
 -- The clients' records stay as they must be, and what is due by them.
-use Rattle.std.proofs.Common.{◌≡◌, ◌⊎◌, inl, inr, ℕ, zero, suc, ◌+◌, ◌-◌, ◌<◌, ◌≤◌, ◌==◌, ◌&&◌, ◌||◌, not, if◌then◌else◌, nat_lt, nat_le, Bool, true, false, List, [], ◌∷◌, ◌++◌, length, map, take, slice_get, Option, Some, None, refl, sym, ◌∙◌, ap, subst, arith, eq-eqb, ne_eqb, lt-ltb, le-ltb, le-leb}
+use Rattle.std.proofs.Common.{◌≡◌, inl, inr, ℕ, zero, suc, ◌+◌, ◌-◌, ◌<◌, ◌≤◌, ◌==◌, ◌&&◌, ◌||◌, not, if◌then◌else◌, nat_lt, nat_le, Bool, true, false, List, [], ◌∷◌, ◌++◌, length, map, take, slice_get, Option, Some, None, refl, sym, ◌∙◌, ap, subst, arith, eq-eqb, ne_eqb, lt-ltb, le-ltb, le-leb}
 use Rattle.std.specs.List.{list_any, IsDistinct, AllByRecursion}
 use Rattle.std.proofs.lemmas.Bool.{true≢false, eqb-true, eqb-false, leb-false, leb-true, ltb-false}
 use Rattle.std.proofs.lemmas.List.{length_push}
 use Rattle.std.proofs.lemmas.Option.{none-some, same_Some, slice_get_past, slice_get_cases}
-use Rattle.model.specs.Session.{State, Request, Reply, ClientRecord, Due, due, due_by, kept_or_stale, record_of, answered, with_reply, reply_to, after_one, after, formatted, kept_replies, most_clients}
+use Rattle.model.specs.Session.{State, Request, Reply, ClientRecord, Due, due, due_by, record_of, answered, reply_to, after_one, after, formatted}
 use Rattle.model.specs.Session.Due.{Repeat, Stale, Gap, ClientsFull, New}
 use Rattle.model.specs.Operation.{Operation, code_of, moves_too_deep}
 use Rattle.std.specs.FinMap.{contains_key, len}
+use Rattle.limits.specs.declared.TheConstants.{DIRECTORY_NAMES, NODES}
 use Rattle.model.specs.Operation.Operation.{Create, Replace, MakeDir, Rename, Remove}
 use Rattle.model.specs.Tree.{Tree, is_directory_at, names_at, parent_of, begins_with, paths_eq}
 use Rattle.model.specs.Runs.{AllNew, AllFromClients}
@@ -22,10 +23,10 @@ few true n rest l m = l
 few false n rest l m = m
 
 pub code_at_most : (op : Operation) (tree : Tree) → code_of op tree ≤ 10
-code_at_most (Create path bytes) tree = few (length path == 0) 7 _ (omega arith) (few (nat_lt 16 (length path)) 8 _ (omega arith) (few (not (is_directory_at tree (parent_of path))) 1 _ (omega arith) (few (contains_key tree path) 3 _ (omega arith) (few (nat_le 512 (length (names_at tree (parent_of path)))) 9 _ (omega arith) (few (nat_le 4096 (len tree)) 10 _ (omega arith) (omega arith))))))
-code_at_most (MakeDir path) tree = few (length path == 0) 7 _ (omega arith) (few (nat_lt 16 (length path)) 8 _ (omega arith) (few (not (is_directory_at tree (parent_of path))) 1 _ (omega arith) (few (contains_key tree path) 3 _ (omega arith) (few (nat_le 512 (length (names_at tree (parent_of path)))) 9 _ (omega arith) (few (nat_le 4096 (len tree)) 10 _ (omega arith) (omega arith))))))
+code_at_most (Create path bytes) tree = few (length path == 0) 7 _ (omega arith) (few (nat_lt 16 (length path)) 8 _ (omega arith) (few (not (is_directory_at tree (parent_of path))) 1 _ (omega arith) (few (contains_key tree path) 3 _ (omega arith) (few (nat_le DIRECTORY_NAMES (length (names_at tree (parent_of path)))) 9 _ (omega arith) (few (nat_le NODES (len tree)) 10 _ (omega arith) (omega arith))))))
+code_at_most (MakeDir path) tree = few (length path == 0) 7 _ (omega arith) (few (nat_lt 16 (length path)) 8 _ (omega arith) (few (not (is_directory_at tree (parent_of path))) 1 _ (omega arith) (few (contains_key tree path) 3 _ (omega arith) (few (nat_le DIRECTORY_NAMES (length (names_at tree (parent_of path)))) 9 _ (omega arith) (few (nat_le NODES (len tree)) 10 _ (omega arith) (omega arith))))))
 code_at_most (Replace path bytes) tree = few (length path == 0) 7 _ (omega arith) (few (not (contains_key tree path)) 2 _ (omega arith) (few (is_directory_at tree path) 4 _ (omega arith) (omega arith)))
-code_at_most (Rename from to) tree = few (length from == 0 || length to == 0) 7 _ (omega arith) (few (not (contains_key tree from)) 2 _ (omega arith) (few (nat_lt (length from) (length to) && begins_with to from) 6 _ (omega arith) (few (not (is_directory_at tree (parent_of to))) 1 _ (omega arith) (few (contains_key tree to) 3 _ (omega arith) (few (moves_too_deep from to tree) 8 _ (omega arith) (few (nat_le 512 (length (names_at tree (parent_of to))) && not (paths_eq (parent_of to) (parent_of from))) 9 _ (omega arith) (omega arith)))))))
+code_at_most (Rename from to) tree = few (length from == 0 || length to == 0) 7 _ (omega arith) (few (not (contains_key tree from)) 2 _ (omega arith) (few (nat_lt (length from) (length to) && begins_with to from) 6 _ (omega arith) (few (not (is_directory_at tree (parent_of to))) 1 _ (omega arith) (few (contains_key tree to) 3 _ (omega arith) (few (moves_too_deep from to tree) 8 _ (omega arith) (few (nat_le DIRECTORY_NAMES (length (names_at tree (parent_of to))) && not (paths_eq (parent_of to) (parent_of from))) 9 _ (omega arith) (omega arith)))))))
 code_at_most (Remove path) tree = few (length path == 0) 7 _ (omega arith) (few (not (contains_key tree path)) 2 _ (omega arith) (few (nat_lt 0 (length (names_at tree path))) 5 _ (omega arith) (omega arith)))
 
 -- falling commit numbers

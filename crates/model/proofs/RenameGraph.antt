@@ -1,26 +1,22 @@
 -- Rename: the graph afterwards.
-use Rattle.std.proofs.Common.{◌≡◌, ◌↔◌, ℕ, ◌+◌, ◌<◌, ◌≤◌, Bool, true, ◌⊎◌, inl, inr, List, [], ◌∷◌, ◌++◌, map, length, filter, arith, Contains, Option, Some, None, is_some, refl, sym, ap, ◌∙◌, subst, append_assoc, append-nil}
+use Rattle.std.proofs.Common.{◌≡◌, ◌↔◌, ℕ, ◌≤◌, Bool, true, ◌⊎◌, inl, inr, List, [], ◌∷◌, ◌++◌, map, length, filter, Contains, Some, is_some, refl, sym, ap, ◌∙◌, subst, append_assoc, append-nil}
 use Rattle.std.proofs.lemmas.Bool.{false≢true}
-use Rattle.std.proofs.lemmas.List.Elements.{Contains-push, Contains-push_cases, Contains-append_left}
-use Rattle.std.proofs.lemmas.Option.{none-some, same_Some}
-use Rattle.std.proofs.lemmas.List.{map_push, length_push, append_cancel_left}
+use Rattle.std.proofs.lemmas.Option.{same_Some}
+use Rattle.std.proofs.lemmas.List.{map_push}
 use Rattle.std.specs.FinMap.{get}
-use Rattle.std.specs.List.{IsDistinct}
-use Rattle.std.specs.Str.{bytes_eq}
-use Rattle.model.specs.Tree.{bytes_at, found_bytes, Passes, Name, Path, Node, Content, Tree, has_names, names_in, IsTree, Has, names_at, is_directory_at, identity_at, found_directory, found_identity, found_names, names_of, parent_of, last_of}
+use Rattle.model.specs.Tree.{Name, Path, Node, Content, Tree, has_names, names_in, IsTree, Has, is_directory_at, identity_at, found_directory, found_identity, found_names, names_of, parent_of, last_of}
 use Rattle.model.specs.Tree.Content.{File, Directory}
-use Rattle.model.specs.Operation.{LastPasses, changed_at, with_names, name_added, name_taken_out, all_moved, moved, is_other, content_with}
+use Rattle.model.specs.Operation.{with_names, name_added, name_taken_out, all_moved, is_other, content_with}
 use Rattle.model.specs.Graph.{Graph, Entry, MakesTree, IsFunctional, Reach, as_stored, entries_of}
 use Rattle.model.specs.Graph.Body.{Entries}
 use Rattle.model.specs.Change.{Found, IsReached, Renamed, Moved, renamed, without, with_entries, with_parent}
-use Rattle.model.proofs.Lists.{filter_shorter, filter_less, keeps_not, map_agree, map-filter, same_head, distinct_push, distinct_filter, not_in_nil, contains_filter, filter_contains, other_apart, other_not}
-use Rattle.model.proofs.Paths.{path_cases, parent-push, last-push, push_longer, last_same, front_same, longer, push_front, snoc_cases, no_rest, IsOut, not_below_nil}
+use Rattle.model.proofs.Lists.{map_agree, map-filter, same_head, contains_filter, other_not}
+use Rattle.model.proofs.Paths.{path_cases, parent-push, last-push, push_longer, last_same, front_same, snoc_cases, no_rest, IsOut, not_below_nil}
 use Rattle.model.proofs.Place.{Placed, reached_at, reached_path, entry_at, body_at, stored_at, makes_from_placed, place_reach, reach_place, stored_is, entry_is}
-use Rattle.model.proofs.Maps.{has_some, some_at, has_above, not_none}
-use Rattle.model.proofs.Edits.{bytes-changed, changed, kind-changed, identity-changed, some-changed, names-changed_other, names-changed_same, has_directory, has_parent, IsAlike, entry-alike, stored-alike, get-changed_same, get-changed_other}
-use Rattle.model.specs.Identities.{HasIdentities}
-use Rattle.model.proofs.Identities.{identities_taken, TakesIdentity}
-use Rattle.model.proofs.Moving.{none_to, not_both, get-moved_to, get-moved_from, get-moved_other, begins, Begins, moved-append, moved-other}
+use Rattle.model.proofs.Maps.{has_some, some_at}
+use Rattle.model.proofs.Edits.{changed, has_parent, IsAlike, entry-alike, stored-alike, get-changed_same, get-changed_other}
+use Rattle.model.proofs.Identities.{TakesIdentity}
+use Rattle.model.proofs.Moving.{begins}
 use Rattle.model.proofs.Moving.Begins.{Yes, No}
 use Rattle.model.proofs.Rename
 use Rattle.model.proofs.Rename.{region}

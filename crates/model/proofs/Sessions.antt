@@ -1,9 +1,9 @@
 -- No request of a client is committed twice.
-use Rattle.std.proofs.Common.{◌≡◌, ℕ, ◌+◌, ◌-◌, ◌≤◌, ◌==◌, if◌then◌else◌, nat_lt, nat_le, cond, Bool, true, false, List, [], ◌∷◌, ◌++◌, length, map, slice_get, Option, Some, None, refl, sym, ◌∙◌, ap, subst, arith, eq-eqb}
+use Rattle.std.proofs.Common.{◌≡◌, ℕ, ◌+◌, ◌-◌, ◌≤◌, ◌==◌, if◌then◌else◌, nat_lt, cond, Bool, true, false, List, [], ◌∷◌, ◌++◌, length, map, slice_get, Option, Some, None, refl, sym, ◌∙◌, ap, subst, arith, eq-eqb}
 use Rattle.std.specs.List.{list_any}
 use Rattle.std.proofs.lemmas.Bool.{true≢false, eqb-true, eqb-false}
-use Rattle.model.specs.Session.{State, Request, Reply, ClientRecord, Due, due, due_by, kept_or_stale, record_of, answered, with_reply, reply_to, after_one, after}
-use Rattle.model.specs.Session.Due.{Repeat, Stale, Gap, ClientsFull, New}
+use Rattle.model.specs.Session.{State, Request, Reply, ClientRecord, due, due_by, kept_or_stale, record_of, answered, with_reply, reply_to, after_one, after}
+use Rattle.model.specs.Session.Due.{Gap, New}
 use Rattle.model.specs.Runs.{AllNew, IsNotAmong, EachOnce}
 
 -- the least number that a client has not used
@@ -107,7 +107,7 @@ module _ (S : State) (r : Request) where
       go : (b : Bool) → (s.client == r.client) ≡ b → next_in (record_of s.client S.records) ≤ s.number
       go true e =
           let same = eqb-true s.client r.client e in
-          let behind : r.number + 1 ≤ s.number = subst (λ n. n ≤ s.number) (ap (λ c. next_in (record_of c (after_one S r).records)) same ∙ next_client) a.0 in
+          let afterwards : r.number + 1 ≤ s.number = subst (λ n. n ≤ s.number) (ap (λ c. next_in (record_of c (after_one S r).records)) same ∙ next_client) a.0 in
           let before : next_in (record_of s.client S.records) ≤ r.number = subst (λ c. next_in (record_of c S.records) ≤ r.number) (sym same) first in
           omega arith
       go false e = subst (λ o. next_in o ≤ s.number) (next_other r.client r.number (reply_to S r) s.client (eqb-false s.client r.client e) S.records) a.0
@@ -115,7 +115,7 @@ module _ (S : State) (r : Request) where
   not_among : (C : List Request) → Above (after_one S r) C → IsNotAmong r C
   not_among [] a = tt
   not_among (s ∷ C) a = (
-    (λ client number. let behind : r.number + 1 ≤ s.number = subst (λ n. n ≤ s.number) (ap (λ c. next_in (record_of c (after_one S r).records)) client ∙ next_client) a.0 in absurd (omega arith)),
+    (λ client number. let afterwards : r.number + 1 ≤ s.number = subst (λ n. n ≤ s.number) (ap (λ c. next_in (record_of c (after_one S r).records)) client ∙ next_client) a.0 in absurd (omega arith)),
     not_among C a.1,
   )
 

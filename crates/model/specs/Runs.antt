@@ -1,5 +1,5 @@
 -- Lists of requests, each of which is committed.
-use Rattle.std.specs.Prelude.{◌≡◌, ◌<◌, ℕ, ◌+◌, cond, ◌==◌, Bool, List, [], ◌∷◌, true}
+use Rattle.std.specs.Prelude.{◌≡◌, ◌<◌, ℕ, ◌+◌, cond, ◌==◌, Bool, List, [], ◌∷◌}
 use Rattle.model.specs.Tree.{Name}
 use Rattle.model.specs.Operation.{OperationPasses}
 use Rattle.model.specs.Session.{State, Request, due, after_one}

@@ -64,7 +64,7 @@ joined (suc m) id front back room =
 
 pub joined_over : (n last id : ℕ) (front back fs bs zeros : List ℕ) → fs ≡ front → bs ≡ back → zeros ≡ replicate n 0 → n ≡ last + 1 → length front + length back + 1 < n
     → set (put_mid (1 + length front) (1 + length front + length back - (1 + length front)) (put_mid 1 (1 + length front - 1) (set zeros 0 id) fs) bs) last (1 + length front + length back) ≡ field_of n (id ∷ (front ++ back))
-joined_over n last id front back fs bs zeros in_front behind cleared size room =
+joined_over n last id front back fs bs zeros in_front after cleared size room =
     let s = id ∷ (front ++ back) in
     let a = 1 + length front in
     let j = 1 + length front + length back - (1 + length front) in
@@ -72,7 +72,7 @@ joined_over n last id front back fs bs zeros in_front behind cleared size room =
     let count : 1 + length front + length back ≡ length s = omega (arith, length-append front back) in
     ap (λ (xs : List ℕ). set (put_mid a j (put_mid 1 k (set xs 0 id) fs) bs) last (1 + length front + length back)) cleared
     ∙ (ap (λ (xs : List ℕ). set (put_mid a j (put_mid 1 k (set (replicate n 0) 0 id) xs) bs) last (1 + length front + length back)) in_front
-    ∙ (ap (λ (xs : List ℕ). set (put_mid a j (put_mid 1 k (set (replicate n 0) 0 id) front) xs) last (1 + length front + length back)) behind
+    ∙ (ap (λ (xs : List ℕ). set (put_mid a j (put_mid 1 k (set (replicate n 0) 0 id) front) xs) last (1 + length front + length back)) after
     ∙ (ap (λ (xs : List ℕ). set xs last (1 + length front + length back)) (joined n id front back room)
     ∙ (ap (λ (m : ℕ). set (s ++ drop (length s) (replicate n 0)) last m) count
     ∙ written n last s size (omega (arith, length-append front back, room))))))
@@ -136,9 +136,9 @@ faultless_from_field n s room none =
     let size = length-field_of n s room in
     let count = dstring_count-field_of n s room in
     let inside : dstring_count field ≤ length field - 1 = omega (arith, size, count) in
-    let behind : drop (dstring_count field) field ≡ zeros ++ (length s ∷ []) = ap (λ (m : ℕ). drop m field) count ∙ drop_at s _ (length s) refl in
+    let after : drop (dstring_count field) field ≡ zeros ++ (length s ∷ []) = ap (λ (m : ℕ). drop m field) count ∙ drop_at s _ (length s) refl in
     let between : take (length field - 1 - dstring_count field) (drop (dstring_count field) field) ≡ zeros =
-    ap (take (length field - 1 - dstring_count field)) behind ∙ take_at zeros (length s ∷ []) _ (omega (arith, size, count, length-replicate {A = ℕ} (n - 1 - length s) 0)) in
+    ap (take (length field - 1 - dstring_count field)) after ∙ take_at zeros (length s ∷ []) _ (omega (arith, size, count, length-replicate {A = ℕ} (n - 1 - length s) 0)) in
     faultless (dstring_faults field) (
       le-leb _ _ inside,
       (

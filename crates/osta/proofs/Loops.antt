@@ -64,12 +64,12 @@ pair_put : (into written : List ℕ) (m c : ℕ) → m ≤ length into → c < 6
 pair_put into written m c room small put =
     let high : c / 256 ^ 1 % 256 ≡ c / 256 = omega arith in
     let rest = drop 2 (take (length into - m) (drop m into)) in
-    let behind = drop (length into - m) (drop m into) in
+    let after = drop (length into - m) (drop m into) in
     let pair : written ≡ two_bytes c ++ rest = put ∙ ap (λ (h : ℕ). h ∷ c % 256 ∷ rest) high in
-    let whole : put_mid m (length into - m) into written ≡ (take m into ++ two_bytes c) ++ (rest ++ behind) =
-    ap (λ (xs : List ℕ). take m into ++ (xs ++ behind)) pair ∙ sym (append_assoc (take m into) (two_bytes c) (rest ++ behind)) in
+    let whole : put_mid m (length into - m) into written ≡ (take m into ++ two_bytes c) ++ (rest ++ after) =
+    ap (λ (xs : List ℕ). take m into ++ (xs ++ after)) pair ∙ sym (append_assoc (take m into) (two_bytes c) (rest ++ after)) in
     ap (take (m + 2)) whole
-    ∙ take_at (take m into ++ two_bytes c) (rest ++ behind) (m + 2) (omega (arith, length-append (take m into) (two_bytes c), length-take m into))
+    ∙ take_at (take m into ++ two_bytes c) (rest ++ after) (m + 2) (omega (arith, length-append (take m into) (two_bytes c), length-take m into))
 
 pub wide_step : (cs into written : List ℕ) (n at c : ℕ) → IsTurn cs n at c → c < 65536 → 2 * n + 1 ≤ length into → IsPair (2 * at + 1) c into written
     → take (2 * n + 1) into ≡ 16 ∷ flat_map two_bytes (take n cs)

@@ -176,29 +176,29 @@ wide_only (c ∷ cs) rest told =
     (λ wide. (wide, ap (drop 1) (sym (spelling_wide (c ∷ cs) (omega arith) wide) ∙ told)))
     (cases_Bool (list_all is_narrow (c ∷ cs)))
 
-chars_behind : (front text : List ℕ) → IsAscii front → chars (front ++ text) ≡ front ++ chars text
-chars_behind front text ascii =
+chars_after : (front text : List ℕ) → IsAscii front → chars (front ++ text) ≡ front ++ chars text
+chars_after front text ascii =
     chars-append front text (IsUtf8-from_ascii front ascii) ∙ ap (λ (xs : List ℕ). xs ++ chars text) (chars-IsAscii front ascii)
 
-some_behind : (front cs : List ℕ) → 0 < length front → 0 < length (front ++ cs)
-some_behind front cs some = omega (arith, length-append front cs)
+some_after : (front cs : List ℕ) → 0 < length front → 0 < length (front ++ cs)
+some_after front cs some = omega (arith, length-append front cs)
 
-narrow_behind : (front text rest : List ℕ) → 0 < length front → IsAscii front → compressed text ≡ 8 ∷ rest → compressed (front ++ text) ≡ 8 ∷ (front ++ rest)
-narrow_behind front text rest some ascii told =
+narrow_after : (front text rest : List ℕ) → 0 < length front → IsAscii front → compressed text ≡ 8 ∷ rest → compressed (front ++ text) ≡ 8 ∷ (front ++ rest)
+narrow_after front text rest some ascii told =
     let cs = chars text in
     let only = narrow_only cs rest told in
     let narrow = and_from _ _ (bytes_narrow front (λ i. omega (arith, ascii i))) only.0 in
-    ap spelling (chars_behind front text ascii)
-    ∙ (spelling_narrow (front ++ cs) (some_behind front cs some) (list_all-append is_narrow front cs ∙ narrow)
+    ap spelling (chars_after front text ascii)
+    ∙ (spelling_narrow (front ++ cs) (some_after front cs some) (list_all-append is_narrow front cs ∙ narrow)
     ∙ ap (λ (xs : List ℕ). 8 ∷ (front ++ xs)) only.1)
 
-wide_behind : (front text rest : List ℕ) → 0 < length front → IsAscii front → compressed text ≡ 16 ∷ rest → compressed (front ++ text) ≡ 16 ∷ (flat_map two_bytes front ++ rest)
-wide_behind front text rest some ascii told =
+wide_after : (front text rest : List ℕ) → 0 < length front → IsAscii front → compressed text ≡ 16 ∷ rest → compressed (front ++ text) ≡ 16 ∷ (flat_map two_bytes front ++ rest)
+wide_after front text rest some ascii told =
     let cs = chars text in
     let only = wide_only cs rest told in
     let wide = and_right (list_all is_narrow front) _ only.0 in
-    ap spelling (chars_behind front text ascii)
-    ∙ (spelling_wide (front ++ cs) (some_behind front cs some) (list_all-append is_narrow front cs ∙ wide)
+    ap spelling (chars_after front text ascii)
+    ∙ (spelling_wide (front ++ cs) (some_after front cs some) (list_all-append is_narrow front cs ∙ wide)
     ∙ ap (λ (xs : List ℕ). 16 ∷ xs) (flat_map-append two_bytes front cs ∙ ap (λ (xs : List ℕ). flat_map two_bytes front ++ xs) only.1))
 
 first_and_rest : (xs : List ℕ) → 0 < length xs → xs ≡ get_or (take 1 xs) 0 0 ∷ drop 1 xs
@@ -212,7 +212,7 @@ field_narrow field front kept some ascii id =
     let s = dstring_spelling field in
     let same = field_spelling field kept in
     let there : 0 < length s = omega (arith, ap length same, label_some (dstring_text field) kept.label) in
-    narrow_behind front (dstring_text field) (drop 1 s) some ascii (sym same ∙ (first_and_rest s there ∙ ap (λ (x : ℕ). x ∷ drop 1 s) id))
+    narrow_after front (dstring_text field) (drop 1 s) some ascii (sym same ∙ (first_and_rest s there ∙ ap (λ (x : ℕ). x ∷ drop 1 s) id))
 
 pub field_wide : (field front : List ℕ) → IsLabelField field → 0 < length front → IsAscii front → (get_or (take 1 (dstring_spelling field)) 0 0 ≡ 8 → ⊥)
     → compressed (front ++ dstring_text field) ≡ 16 ∷ (flat_map two_bytes front ++ drop 1 (dstring_spelling field))
@@ -223,7 +223,7 @@ field_wide field front kept some ascii apart =
     let split = first_and_rest s there in
     let none : first_text_fault (spelling_faults (get_or (take 1 s) 0 0 ∷ drop 1 s)) ≡ None = ap (λ (xs : List ℕ). first_text_fault (spelling_faults xs)) (sym split) ∙ field_faultless field kept in
     let id : get_or (take 1 s) 0 0 ≡ 16 = ⊎_elim (λ narrow. absurd (apart narrow)) (λ wide. wide) (id_of _ _ none) in
-    wide_behind front (dstring_text field) (drop 1 s) some ascii (sym same ∙ (split ∙ ap (λ (x : ℕ). x ∷ drop 1 s) id))
+    wide_after front (dstring_text field) (drop 1 s) some ascii (sym same ∙ (split ∙ ap (λ (x : ℕ). x ∷ drop 1 s) id))
 
 -- how much of the label is after the identifier
 pub field_rest : (field : List ℕ) → IsLabelField field → length (drop 1 (dstring_spelling field)) ≤ 30

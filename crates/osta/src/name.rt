@@ -73,7 +73,7 @@ impl Name {
         }
         let mut other = Vec::new(alloc);
         compress(text, &mut other)?;
-        let spelled = behind_identifier(alloc, text)?;
+        let spelled = after_identifier(alloc, text)?;
         Ok(Name { spelled, other })
     }
 
@@ -95,7 +95,7 @@ impl Name {
             return Ok(None);
         }
         let other = Vec::from_slice(alloc, bytes)?;
-        let spelled = behind_identifier(alloc, text.as_str())?;
+        let spelled = after_identifier(alloc, text.as_str())?;
         Ok(Some(Name { spelled, other }))
     }
 
@@ -105,7 +105,7 @@ impl Name {
         requires name { IsName text.now }
         ensures { IfOk result (λ name. name ≡ text.now) }
     {
-        let spelled = behind_identifier(alloc, text)?;
+        let spelled = after_identifier(alloc, text)?;
         Ok(Name {
             spelled,
             other: Vec::new(alloc),
@@ -182,7 +182,7 @@ fn ascii_of(bytes: &[u8]) -> Option<&str>
 }
 
 /// A text after the compression identifier of characters of one byte.
-fn behind_identifier(alloc: Global, text: &str) -> Result<String, AllocError>
+fn after_identifier(alloc: Global, text: &str) -> Result<String, AllocError>
     ensures { IfOk result (λ spelled. string_bytes spelled ≡ 8 ∷ text.now) }
 {
     let mut spelled = String::with_capacity(alloc, text.len() + 1)?;

@@ -22,7 +22,7 @@ use Rattle.planning.specs.declared.change.NewDirectory.{NewDirectory}
 use Rattle.planning.specs.declared.change.NewContent.{NewContent}
 use Rattle.planning.specs.declared.change.NewContent.TheVariants as thing
 use Rattle.lookup.specs.declared.content.Content.{Content}
-use Rattle.table_update.specs.declared.node.Node.{Node}
+use Rattle.recover.specs.declared.node.Node.{Node}
 use Rattle.lookup.specs.declared.nodes.Placed.{Placed}
 use Rattle.lookup.specs.Shows.{IsNodeAt, IsOpened}
 use Rattle.planning.specs.Writings.{directory_writing, new_file, change_writings}
@@ -43,10 +43,6 @@ unfolding rest_code
 addition_code path (thing.File bytes) tree = refl
 addition_code path thing.Directory tree = refl
 
-pub add_root : (path : Path) (what : NewContent) (tree : Tree) → length path ≡ 0 → code_of (addition path what) tree ≡ 7
-add_root path what tree none =
-    addition_code path what tree ∙ ap (λ (n : ℕ). add_code (n == 0) (nat_lt 16 (length path)) (is_directory_at tree (parent_of path)) (rest_code path tree)) none
-
 pub not_empty : (path above : Path) (name : Name) → path ≡ above ++ name ∷ [] → (length path == 0) ≡ false
 not_empty path above name e =
     let long : length path ≡ length (above ++ name ∷ []) = ap length e in
@@ -64,15 +60,6 @@ module _ (path above : Path) (name : Name) (split : path ≡ above ++ name ∷ [
       addition_code path what tree
       ∙ (ap (λ (b : Bool). add_code b (nat_lt 16 (length path)) (is_directory_at tree (parent_of path)) (rest_code path tree)) (not_empty path above name split)
       ∙ ap (λ (p : Path). add_code false (nat_lt 16 (length path)) (is_directory_at tree p) (rest_code path tree)) above_is)
-
-  pub add_long : nat_lt 16 (length path) ≡ true → code_of (addition path what) tree ≡ 8
-  add_long long = some_code ∙ ap (λ (b : Bool). add_code false b (is_directory_at tree above) (rest_code path tree)) long
-
-  pub add_nowhere : nat_lt 16 (length path) ≡ false → is_directory_at tree above ≡ false → code_of (addition path what) tree ≡ 1
-  add_nowhere short none =
-      some_code
-      ∙ (ap (λ (b : Bool). add_code false b (is_directory_at tree above) (rest_code path tree)) short
-      ∙ ap (λ (b : Bool). add_code false false b (rest_code path tree)) none)
 
   module _ (graph : Graph) (one : IsFunctional graph) (is : IsTree tree) (makes : MakesTree graph tree) (parent : Node) (here : IsNodeAt graph above parent) (directory : names_directory parent.kind ≡ true)
       (placed : Placed) (content : Content) (shown : IsOpened here.found.stored placed content) where

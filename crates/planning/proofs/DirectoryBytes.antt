@@ -157,10 +157,10 @@ laid_bytes (x ∷ rest) number at has =
   where
     by : (b : Bool) → stays rest (2048 - (at + plain_size (length x.name))) ≡ b → AreBytes (laid number (at + plain_size (length x.name)) rest) → AreBytes (laid (number + 1) 0 rest)
         → AreBytes (laid number at (x ∷ rest))
-    by true e behind next =
+    by true e after next =
         let end = at + plain_size (length x.name) in
-        subst AreBytes (sym (laid-stays number at x rest e)) (both (identifier number x 0) (laid number end rest) (one number x 0 has.0) behind)
-    by false e behind next =
+        subst AreBytes (sym (laid-stays number at x rest e)) (both (identifier number x 0) (laid number end rest) (one number x 0 has.0) after)
+    by false e after next =
         let left = 2048 - (at + plain_size (length x.name)) in
         subst AreBytes (sym (laid-leaves number at x rest e)) (both (identifier number x left) (laid (number + 1) 0 rest) (one number x left has.0) next)
 

@@ -1,5 +1,5 @@
 -- What another path for a node does.
-use Rattle.std.proofs.Common.{◌≡◌, ◌⊎◌, inl, inr, ℕ, ◌<◌, ◌≤◌, ◌==◌, ◌&&◌, ◌||◌, if◌then◌else◌, cond, not, Bool, true, false, List, [], ◌∷◌, ◌++◌, length, map, filter, Contains, Option, Some, None, is_some, refl, sym, ap, subst, ◌∙◌, append_assoc}
+use Rattle.std.proofs.Common.{◌≡◌, inl, inr, ℕ, ◌<◌, ◌≤◌, ◌==◌, ◌&&◌, ◌||◌, if◌then◌else◌, cond, not, Bool, true, false, List, [], ◌∷◌, ◌++◌, length, map, filter, Contains, Option, Some, None, is_some, refl, sym, ap, subst, ◌∙◌, append_assoc}
 use Rattle.std.specs.Prelude.{nat_eq, nat_lt, nat_le}
 use Rattle.std.specs.List.{IsDistinct}
 use Rattle.std.specs.Map.{lookup, keys_of, remove_entry}
@@ -10,6 +10,7 @@ use Rattle.std.proofs.lemmas.Cmp.{nat_list_eq_equiv}
 use Rattle.std.proofs.lemmas.List.{length-map, map-append}
 use Rattle.std.proofs.lemmas.Map.{lookup-remove_entry}
 use Rattle.std.proofs.lemmas.Map.Views.{Contains-from_lookup}
+use Rattle.limits.specs.declared.TheConstants.{DIRECTORY_NAMES}
 use Rattle.dir.specs.declared.entry.Entry.{Entry as DirEntry}
 use Rattle.model.specs.Tree.{Name, Path, Tree, IsTree, Has, is_directory_at, names_at, paths_eq, begins_with, parent_of, last_of}
 use Rattle.model.specs.Graph.{Graph, Stored, Body, Entry, MakesTree, IsFunctional, Reach, as_stored, entries_in, entries_of, is_directory}
@@ -29,7 +30,7 @@ use Rattle.udf.specs.Said.{said_entry, said_entries}
 use Rattle.planning.specs.declared.change.Change.{Change}
 use Rattle.planning.specs.declared.change.NewDirectory.{NewDirectory}
 use Rattle.lookup.specs.declared.content.Content.{Content}
-use Rattle.table_update.specs.declared.node.Node.{Node}
+use Rattle.recover.specs.declared.node.Node.{Node}
 use Rattle.lookup.specs.declared.nodes.Placed.{Placed}
 use Rattle.lookup.specs.Shows.{IsNodeAt, IsOpened}
 use Rattle.planning.specs.Moves.{IsMoveWithin, IsBetween, Turns}
@@ -50,7 +51,7 @@ abbrev pub goes_into : Path → Path → Bool
 goes_into from to = nat_lt (length from) (length to) && begins_with to from
 
 abbrev pub fills : Path → Path → Tree → Bool
-fills from to tree = nat_le 512 (length (names_at tree (parent_of to))) && not (paths_eq (parent_of to) (parent_of from))
+fills from to tree = nat_le DIRECTORY_NAMES (length (names_at tree (parent_of to))) && not (paths_eq (parent_of to) (parent_of from))
 
 -- the code by what was asked, in order
 pub move_by : (from to : Path) (tree : Tree) {root there into above exists deep full : Bool} → (length from == 0 || length to == 0) ≡ root → contains_key tree from ≡ there → (nat_lt (length from) (length to) && begins_with to from) ≡ into
@@ -70,17 +71,6 @@ and_true true = refl
 and_true false = refl
 
 -- ---- the codes, one after another
-
-pub rename_root : (from to : Path) (tree : Tree) → (length from ≡ 0) ⊎ (length to ≡ 0) → code_of (Rename from to) tree ≡ 7
-rename_root from to tree none = move_by from to tree (root none) refl refl refl refl refl refl
-  where
-    or_true : (b : Bool) → (b || true) ≡ true
-    or_true true = refl
-    or_true false = refl
-
-    root : (length from ≡ 0) ⊎ (length to ≡ 0) → (length from == 0 || length to == 0) ≡ true
-    root (inl e) = ap (λ (n : ℕ). n == 0 || length to == 0) e
-    root (inr e) = ap (λ (n : ℕ). length from == 0 || n == 0) e ∙ or_true (length from == 0)
 
 module _ (from to above beyond : Path) (old new : Name) (from_is : from ≡ above ++ old ∷ []) (to_is : to ≡ beyond ++ new ∷ []) (tree : Tree) where
   named : (length from == 0 || length to == 0) ≡ false
@@ -113,17 +103,17 @@ module _ (from to above beyond : Path) (old new : Name) (from_is : from ≡ abov
   -- the directory has the name already, so it needs no room
   pub rename_beside : Has tree from → goes_into from to ≡ false → is_directory_at tree beyond ≡ true → get tree to ≡ None → moves_too_deep from to tree ≡ false → above ≡ beyond → code_of (Rename from to) tree ≡ 0
   rename_beside has apart directory none shallow same = rename_by has apart directory none shallow false (
-      ap (λ (p : Path). nat_le 512 (length (names_at tree (parent_of to))) && not (paths_eq (parent_of to) p)) (above_is ∙ (same ∙ sym beyond_is))
-      ∙ (ap (λ (b : Bool). nat_le 512 (length (names_at tree (parent_of to))) && not b) (paths_eq-itself (parent_of to))
-      ∙ and_false (nat_le 512 (length (names_at tree (parent_of to)))))
+      ap (λ (p : Path). nat_le DIRECTORY_NAMES (length (names_at tree (parent_of to))) && not (paths_eq (parent_of to) p)) (above_is ∙ (same ∙ sym beyond_is))
+      ∙ (ap (λ (b : Bool). nat_le DIRECTORY_NAMES (length (names_at tree (parent_of to))) && not b) (paths_eq-itself (parent_of to))
+      ∙ and_false (nat_le DIRECTORY_NAMES (length (names_at tree (parent_of to)))))
       )
 
   pub rename_elsewhere : Has tree from → goes_into from to ≡ false → is_directory_at tree beyond ≡ true → get tree to ≡ None → moves_too_deep from to tree ≡ false → (above ≡ beyond → ⊥)
-      → code_of (Rename from to) tree ≡ (if nat_le 512 (length (names_at tree beyond)) then 9 else 0)
-  rename_elsewhere has apart directory none shallow other = rename_by has apart directory none shallow (nat_le 512 (length (names_at tree beyond))) (
-      ap (λ (b : Bool). nat_le 512 (length (names_at tree (parent_of to))) && not b) (unlike (paths_eq (parent_of to) (parent_of from)) refl)
-      ∙ (and_true (nat_le 512 (length (names_at tree (parent_of to))))
-      ∙ ap (λ (p : Path). nat_le 512 (length (names_at tree p))) beyond_is)
+      → code_of (Rename from to) tree ≡ (if nat_le DIRECTORY_NAMES (length (names_at tree beyond)) then 9 else 0)
+  rename_elsewhere has apart directory none shallow other = rename_by has apart directory none shallow (nat_le DIRECTORY_NAMES (length (names_at tree beyond))) (
+      ap (λ (b : Bool). nat_le DIRECTORY_NAMES (length (names_at tree (parent_of to))) && not b) (unlike (paths_eq (parent_of to) (parent_of from)) refl)
+      ∙ (and_true (nat_le DIRECTORY_NAMES (length (names_at tree (parent_of to))))
+      ∙ ap (λ (p : Path). nat_le DIRECTORY_NAMES (length (names_at tree p))) beyond_is)
       )
     where
       unlike : (b : Bool) → paths_eq (parent_of to) (parent_of from) ≡ b → b ≡ false
@@ -309,17 +299,17 @@ module _ (graph : Graph) (tree : Tree) (one : IsFunctional graph) (is : IsTree t
 
 module _ (graph : Graph) (tree : Tree) (one : IsFunctional graph) (is : IsTree tree) (makes : MakesTree graph tree) (from to : Path) where
   -- whether the directory that gains is full
-  gained_count : (node source_dir target_dir : Node) (old new : Name) (b : IsBetween graph tree from to node source_dir target_dir old new) (gained : Placed) (gaining : Content) → IsOpened b.gains_at.found.stored gained gaining → (full : Bool) → nat_le 512 (length gaining.dir.entries.entries) ≡ full
+  gained_count : (node source_dir target_dir : Node) (old new : Name) (b : IsBetween graph tree from to node source_dir target_dir old new) (gained : Placed) (gaining : Content) → IsOpened b.gains_at.found.stored gained gaining → (full : Bool) → nat_le DIRECTORY_NAMES (length gaining.dir.entries.entries) ≡ full
       → code_of (Rename from to) tree ≡ (if full then 9 else 0)
   gained_count node source_dir target_dir old new b gained gaining shown full e =
       let count : length (names_at tree b.beyond) ≡ length gaining.dir.entries.entries =
       ap length (names_opened graph tree one is makes b.beyond target_dir b.gains_at gained gaining shown) ∙ length-map gaining.dir.entries.entries (λ (x : Name × DirEntry). x.0) in
-      b.code_is ∙ (ap (λ (n : ℕ). if nat_le 512 n then 9 else 0) count ∙ ap (λ (t : Bool). if t then 9 else 0) e)
+      b.code_is ∙ (ap (λ (n : ℕ). if nat_le DIRECTORY_NAMES n then 9 else 0) count ∙ ap (λ (t : Bool). if t then 9 else 0) e)
 
-  pub gained_full : (node source_dir target_dir : Node) (old new : Name) (b : IsBetween graph tree from to node source_dir target_dir old new) (gained : Placed) (gaining : Content) → IsOpened b.gains_at.found.stored gained gaining → 512 ≤ length gaining.dir.entries.entries
+  pub gained_full : (node source_dir target_dir : Node) (old new : Name) (b : IsBetween graph tree from to node source_dir target_dir old new) (gained : Placed) (gaining : Content) → IsOpened b.gains_at.found.stored gained gaining → DIRECTORY_NAMES ≤ length gaining.dir.entries.entries
       → code_of (Rename from to) tree ≡ 9
-  gained_full node source_dir target_dir old new b gained gaining shown le = gained_count node source_dir target_dir old new b gained gaining shown true (le-leb 512 (length gaining.dir.entries.entries) le)
+  gained_full node source_dir target_dir old new b gained gaining shown le = gained_count node source_dir target_dir old new b gained gaining shown true (le-leb DIRECTORY_NAMES (length gaining.dir.entries.entries) le)
 
-  pub gained_room : (node source_dir target_dir : Node) (old new : Name) (b : IsBetween graph tree from to node source_dir target_dir old new) (gained : Placed) (gaining : Content) → IsOpened b.gains_at.found.stored gained gaining → length gaining.dir.entries.entries < 512
+  pub gained_room : (node source_dir target_dir : Node) (old new : Name) (b : IsBetween graph tree from to node source_dir target_dir old new) (gained : Placed) (gaining : Content) → IsOpened b.gains_at.found.stored gained gaining → length gaining.dir.entries.entries < DIRECTORY_NAMES
       → code_of (Rename from to) tree ≡ 0
-  gained_room node source_dir target_dir old new b gained gaining shown lt = gained_count node source_dir target_dir old new b gained gaining shown false (lt-leb 512 (length gaining.dir.entries.entries) lt)
+  gained_room node source_dir target_dir old new b gained gaining shown lt = gained_count node source_dir target_dir old new b gained gaining shown false (lt-leb DIRECTORY_NAMES (length gaining.dir.entries.entries) lt)

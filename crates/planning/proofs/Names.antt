@@ -8,11 +8,11 @@ all_more P (y ∷ xs) zero x found is all zero d lt = let same : y ≡ x = cc in
 all_more P (y ∷ xs) zero x found is all (suc k) d lt = absurd (omega (arith, lt))
 all_more P (y ∷ xs) (suc i) x found is all k d lt =
     let next : suc i + 1 ≡ suc (i + 1) = omega arith in
-    subst (λ n. All P (take n (y ∷ xs))) (sym next) (behind (all_more P xs i x found is (λ j e h. all (suc j) e (omega (arith, h))))) k d lt
+    subst (λ n. All P (take n (y ∷ xs))) (sym next) (after (all_more P xs i x found is (λ j e h. all (suc j) e (omega (arith, h))))) k d lt
   where
-    behind : All P (take (i + 1) xs) → All P (y ∷ take (i + 1) xs)
-    behind more zero d lt = all 0 d (omega arith)
-    behind more (suc k) d lt = more k d (omega (arith, lt))
+    after : All P (take (i + 1) xs) → All P (y ∷ take (i + 1) xs)
+    after more zero d lt = all 0 d (omega arith)
+    after more (suc k) d lt = more k d (omega (arith, lt))
 
 -- the next of some items, and the rest
 pub all_next : {X : Type 0} (P : X → Type 0) (xs rest : List X) (x : X) → xs ≡ x ∷ rest → All P xs → P x × All P rest

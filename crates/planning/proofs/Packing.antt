@@ -17,13 +17,13 @@ chunks_and_rest : (k n : ℕ) (bytes : List ℕ) → k * 2048 ≤ length bytes �
 chunks_and_rest zero n bytes long le = ap (λ (m : ℕ). blocks_from m bytes) (let e : n ≡ n - 0 = omega arith in e)
 chunks_and_rest (suc k) zero bytes long le = absurd (omega arith)
 chunks_and_rest (suc k) (suc n) bytes long le =
-    let behind = drop 2048 bytes in
-    let rest : drop (k * 2048) behind ≡ drop (suc k * 2048) bytes = drop-drop (k * 2048) 2048 bytes ∙ ap (λ (m : ℕ). drop m bytes) (omega arith) in
+    let after = drop 2048 bytes in
+    let rest : drop (k * 2048) after ≡ drop (suc k * 2048) bytes = drop-drop (k * 2048) 2048 bytes ∙ ap (λ (m : ℕ). drop m bytes) (omega arith) in
     let count : n - k ≡ suc n - suc k = omega arith in
-    ap (λ (b : List ℕ). b ∷ blocks_from n behind) (filled bytes (omega arith))
-    ∙ ap (λ (bs : List (List ℕ)). take 2048 bytes ∷ bs) (chunks_and_rest k n behind (omega (arith, length-drop 2048 bytes)) (omega arith)
-    ∙ ap (λ (r : List ℕ). first_chunks 2048 k behind ++ blocks_from (n - k) r) rest
-    ∙ ap (λ (m : ℕ). first_chunks 2048 k behind ++ blocks_from m (drop (suc k * 2048) bytes)) count)
+    ap (λ (b : List ℕ). b ∷ blocks_from n after) (filled bytes (omega arith))
+    ∙ ap (λ (bs : List (List ℕ)). take 2048 bytes ∷ bs) (chunks_and_rest k n after (omega (arith, length-drop 2048 bytes)) (omega arith)
+    ∙ ap (λ (r : List ℕ). first_chunks 2048 k after ++ blocks_from (n - k) r) rest
+    ∙ ap (λ (m : ℕ). first_chunks 2048 k after ++ blocks_from m (drop (suc k * 2048) bytes)) count)
 
 pub packed_split : (bytes : List ℕ) → first_chunks 2048 (length bytes / 2048) bytes ++ packed (drop (length bytes / 2048 * 2048) bytes) ≡ packed bytes
 packed_split bytes =
@@ -38,8 +38,3 @@ pub packed_short : (text : List ℕ) → 0 < length text → length text < 2048 
 packed_short text some short =
     let one : div_ceil (length text) 2048 ≡ 1 = omega arith in
     ap (λ (n : ℕ). blocks_from n text) one ∙ ap (λ (b : List ℕ). (b ++ replicate (2048 - length b) 0) ∷ []) (take_all 2048 text (omega arith))
-
-pub packed_none : (text : List ℕ) → length text ≡ 0 → packed text ≡ []
-packed_none text none =
-    let zero_blocks : div_ceil (length text) 2048 ≡ 0 = omega arith in
-    ap (λ (n : ℕ). blocks_from n text) zero_blocks

@@ -31,12 +31,6 @@ takes_same {drive = drive} J J' w w' bs cs same t = subst (λ (xs : List (List �
 pub stops_same : {D : Type 0} {drive : Ghosts D} (J J' : D) (w : Waiting) (bs cs : List (List ℕ)) → bs ≡ cs → Stops drive J w bs J' → Stops drive J w cs J'
 stops_same {drive = drive} J J' w bs cs same s = subst (λ (xs : List (List ℕ)). Stops drive J w xs J') same s
 
-pub takes_from : {D : Type 0} {drive : Ghosts D} (J J' : D) (w v w' : Waiting) (bs : List (List ℕ)) → w ≡ v → TakesBlocks drive J w bs J' w' → TakesBlocks drive J v bs J' w'
-takes_from {drive = drive} J J' w v w' bs same t = subst (λ (u : Waiting). TakesBlocks drive J u bs J' w') same t
-
-pub stops_from : {D : Type 0} {drive : Ghosts D} (J J' : D) (w v : Waiting) (bs : List (List ℕ)) → w ≡ v → Stops drive J w bs J' → Stops drive J v bs J'
-stops_from {drive = drive} J J' w v bs same s = subst (λ (u : Waiting). Stops drive J u bs J') same s
-
 -- some blocks, and then others after them
 pub takes_both : {D : Type 0} {drive : Ghosts D} (J J1 J2 : D) (w w1 w2 : Waiting) (bs cs all : List (List ℕ)) → bs ++ cs ≡ all → TakesBlocks drive J w bs J1 w1 → TakesBlocks drive J1 w1 cs J2 w2 → TakesBlocks drive J w all J2 w2
 takes_both J J1 J2 w w1 w2 bs cs all whole t u = takes_same J J2 w w2 (bs ++ cs) all whole (takes-append J J1 J2 w w1 w2 bs cs t u)
@@ -64,9 +58,9 @@ pub alone_before : {D : Type 0} {drive : Ghosts D} (J J' : D) (at : ℕ) (w : Wa
 alone_before J J' at w bs last new s = alone_stopped last (sends_as (ap (λ (v : Waiting). v.blocks ++ bs) new) s.sends)
 
 -- the last block waited alone, and was given to a write
-pub alone_behind : {D : Type 0} {drive : Ghosts D} {failed : Bool} (J J1 J2 : D) (at : ℕ) (w w1 : Waiting) (bs : List (List ℕ)) (last : List ℕ) → w ≡ record { at = at; blocks = [] } → TakesBlocks drive J w (bs ++ last ∷ []) J1 w1 → w1.blocks ≡ last ∷ []
+pub alone_after : {D : Type 0} {drive : Ghosts D} {failed : Bool} (J J1 J2 : D) (at : ℕ) (w w1 : Waiting) (bs : List (List ℕ)) (last : List ℕ) → w ≡ record { at = at; blocks = [] } → TakesBlocks drive J w (bs ++ last ∷ []) J1 w1 → w1.blocks ≡ last ∷ []
     → drive.writes J2 ≡ drive.writes J1 ++ w1.blocks ∷ [] → SendsAlone drive bs last failed J J2
-alone_behind {drive = drive} J J1 J2 at w w1 bs last new t waits sent =
+alone_after {drive = drive} J J1 J2 at w w1 bs last new t waits sent =
     let all : bs ++ last ∷ [] ≡ t.sent ++ w1.blocks = sym (ap (λ (v : Waiting). v.blocks ++ (bs ++ last ∷ [])) new) ∙ t.order in
     alone_sent last (sends_as (front_sent bs t.sent w1.blocks last all waits) t.sends) (sent ∙ ap (λ (cs : List (List ℕ)). drive.writes J1 ++ cs ∷ []) waits)
 

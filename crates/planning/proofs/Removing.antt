@@ -1,5 +1,5 @@
 -- What taking a file or an empty directory away does.
-use Rattle.std.proofs.Common.{◌≡◌, ◌↔◌, ℕ, ◌<◌, ◌==◌, if◌then◌else◌, cond, not, Bool, true, false, List, [], ◌∷◌, ◌++◌, length, map, filter, Contains, Option, Some, None, is_some, refl, sym, ap, subst, ◌∙◌, arith}
+use Rattle.std.proofs.Common.{◌≡◌, ◌↔◌, ℕ, ◌<◌, if◌then◌else◌, cond, not, Bool, true, false, List, [], ◌∷◌, ◌++◌, length, map, filter, Contains, Option, Some, None, is_some, refl, sym, ap, subst, ◌∙◌, arith}
 use Rattle.std.specs.Prelude.{IsTrue, nat_eq, nat_lt}
 use Rattle.std.specs.List.{IsDistinct, AllByRecursion}
 use Rattle.std.specs.Map.{keys_of, remove_entry}
@@ -27,7 +27,7 @@ use Rattle.udf.specs.Words.{name_kind}
 use Rattle.planning.specs.declared.change.Change.{Change}
 use Rattle.planning.specs.declared.change.NewDirectory.{NewDirectory}
 use Rattle.lookup.specs.declared.content.Content.{Content}
-use Rattle.table_update.specs.declared.node.Node.{Node}
+use Rattle.recover.specs.declared.node.Node.{Node}
 use Rattle.lookup.specs.declared.nodes.Placed.{Placed}
 use Rattle.lookup.specs.Shows.{IsNodeAt, IsOpened}
 use Rattle.planning.specs.Writings.{directory_writing, new_file, change_writings}
@@ -71,9 +71,6 @@ names_count (Entries parent entries) = length-map entries (λ e. e.name)
 
 abbrev remove_code : Bool → Bool → Bool → ℕ
 remove_code empty there names = if empty then 7 else (if not there then 2 else (if names then 5 else 0))
-
-pub remove_root : (path : Path) (tree : Tree) → length path ≡ 0 → code_of (Remove path) tree ≡ 7
-remove_root path tree none = ap (λ (n : ℕ). remove_code (n == 0) (contains_key tree path) (nat_lt 0 (length (names_at tree path)))) none
 
 module _ (path above : Path) (name : Name) (split : path ≡ above ++ name ∷ []) (tree : Tree) where
   pub remove_missing : get tree path ≡ None → code_of (Remove path) tree ≡ 2

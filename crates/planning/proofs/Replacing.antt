@@ -20,7 +20,7 @@ use Rattle.udf.specs.Said.{names_directory}
 use Rattle.udf.proofs.Formats.{exact}
 use Rattle.planning.specs.declared.change.Change.{Change}
 use Rattle.planning.specs.declared.change.NewFile.{NewFile}
-use Rattle.table_update.specs.declared.node.Node.{Node}
+use Rattle.recover.specs.declared.node.Node.{Node}
 use Rattle.lookup.specs.Lookups.{Answers, Looks, free_seen, graph_seen}
 use Rattle.lookup.specs.Shows.{graph_below, IsNodeAt}
 use Rattle.lookup.specs.declared.lookup.Lookup.{Lookup}

@@ -12,7 +12,7 @@ use Rattle.planning.specs.declared.change.NewDirectory.{NewDirectory}
 use Rattle.planning.specs.declared.change.NewFile.{NewFile}
 use Rattle.planning.specs.declared.layout.PlacedDirectory.{PlacedDirectory}
 use Rattle.planning.specs.declared.layout.PlacedFile.{PlacedFile}
-use Rattle.table_update.specs.Below.{IsUsed}
+use Rattle.recover.specs.Below.{IsUsed}
 use Rattle.table_update.specs.NextTable.{AreTaken, AreUsed, all_placed, with_made}
 use Rattle.planning.specs.Plan.{file_writings, file_written, directories_writings, directories_written}
 use Rattle.table_update.specs.TableChange.{IsFree, IsRemovable, placed, with_number}
@@ -52,9 +52,9 @@ all_used (d ∷ ds) xs h =
     let rest : All (λ (e : NewDirectory). IsUsed e.address (with_number d.address (Some 0) xs)) ds = all_used ds (with_number d.address (Some 0) xs) h.1 in
     All-cons (λ (e : NewDirectory). IsUsed e.address xs) d ds h.0 (λ k e lt. used_before xs d.address (get_or ds k e).address 0 h.0 (rest k e lt))
 
-used_behind : (xs ys : List Written) (t : Table) → AreUsed (xs ++ ys) t.entries → AreUsed ys (all_placed xs t).entries
-used_behind [] ys t h = h
-used_behind (x ∷ xs) ys t h = used_behind xs ys (placed x.address x.number t) h.1
+used_after : (xs ys : List Written) (t : Table) → AreUsed (xs ++ ys) t.entries → AreUsed ys (all_placed xs t).entries
+used_after [] ys t h = h
+used_after (x ∷ xs) ys t h = used_after xs ys (placed x.address x.number t) h.1
 
 -- ---- as they are placed
 
@@ -95,7 +95,7 @@ module _ (moment : ℕ) (change : Change) (base : Table) (takes : IsTakenBy mome
     directories_used =
         let new : List Writing = new_directories change.directories.items in
         let all = takes (file_written file ++ bare new) (both_addresses (file_written file) (bare new) (new_file moment change.file) new file_same (bare_addresses new)) in
-        all_used change.directories.items (all_placed (file_written file) (with_made change.made base)).entries (used_behind (file_written file) (bare new) (with_made change.made base) all.used)
+        all_used change.directories.items (all_placed (file_written file) (with_made change.made base)).entries (used_after (file_written file) (bare new) (with_made change.made base) all.used)
 
     pub gone_there : (ps : List PlacedDirectory) → directories_writings ps ≡ new_directories change.directories.items
         → IfSome change.removed (λ node. IsRemovable node.kind node.address (all_placed (directories_written ps) (all_placed (file_written file) (with_made change.made base))))

@@ -3,6 +3,7 @@ use Rattle.std.proofs.Common.{◌≡◌, ℕ, ◌+◌, ◌-◌, ◌/◌, ◌^◌
 use Rattle.std.specs.Prelude.{if◌then◌else◌, fold}
 use Rattle.std.specs.Map.{values_of}
 use Rattle.std.proofs.lemmas.List.{length-replicate}
+use Rattle.limits.specs.declared.TheConstants.{DIRECTORY_NAMES, PARTITION_BLOCKS}
 use Rattle.dir.specs.declared.entry.Dir.{Dir}
 use Rattle.dir.specs.declared.entry.Entry.{Entry}
 use Rattle.dir.specs.declared.entry.Kind.{Kind}
@@ -35,12 +36,6 @@ pub length-placed : (bytes : List ℕ) (from first : ℕ) (blocks : List Block) 
 length-placed bytes from first blocks p =
     omega (arith, ap length p.whole, length-append (replicate (first - from) zeros) (packed bytes), length-replicate {A = List ℕ} (first - from) zeros, length-packed bytes, p.start.low)
 
--- no bytes take no block
-pub placed_none : (bytes : List ℕ) (from first : ℕ) (blocks : List Block) → bytes ≡ [] → IsPlaced udf bytes from first blocks → blocks ≡ []
-placed_none bytes from first blocks empty p =
-    let high : first - from ≡ 0 = omega (arith, p.start.high, ap (λ (bs : List ℕ). length (packed bs)) empty) in
-    p.whole ∙ ap (λ (bs : List ℕ). replicate (first - from) zeros ++ packed bs) empty ∙ ap (λ (n : ℕ). replicate n zeros ++ []) high
-
 -- ---- directories
 
 kinds_agree : (k : Kind) → is_directory k ≡ names_directory k
@@ -58,20 +53,20 @@ pub links_agree : (parent : ℕ) (es : List (List ℕ × Entry)) → links_of es
 links_agree parent es = ap (λ n. 1 + n) (counts_agree 0 es)
 
 -- a directory's blocks are its data
-pub laid_there : (d : Dir) (first size : ℕ) → d.parent < 2 ^ 32 → length d.entries.entries ≤ 512 → IsProper d → size ≡ directory_size d → IsDirectory d.parent d.entries.entries first size (directory_blocks d first)
+pub laid_there : (d : Dir) (first size : ℕ) → d.parent < 2 ^ 32 → length d.entries.entries ≤ DIRECTORY_NAMES → IsProper d → size ≡ directory_size d → IsDirectory d.parent d.entries.entries first size (directory_blocks d first)
 laid_there d first size low few proper same =
     let es = d.entries.entries in
     let laid_size : length (laid first 0 (identifiers d.parent es)) ≡ size = data_sized first d.parent es proper.named ∙ sym (data_sized 0 d.parent es proper.named) ∙ sym same in
     subst (λ n. IsDirectory d.parent es first n (directory_blocks d first)) laid_size (laid_directory d.parent first es low few proper.named proper.distinct)
 
-pub holds_directory : (d : Dir) (first size : ℕ) → d.parent < 2 ^ 32 → length d.entries.entries ≤ 512 → IsProper d → first ≤ 449_743 → size ≡ directory_size d
+pub holds_directory : (d : Dir) (first size : ℕ) → d.parent < 2 ^ 32 → length d.entries.entries ≤ DIRECTORY_NAMES → IsProper d → first ≤ PARTITION_BLOCKS → size ≡ directory_size d
     → HoldsDirectory d.parent (said_entries d.entries.entries) first size (directory_blocks d first)
 holds_directory d first size low few proper room same =
     let es = d.entries.entries in
     (directories_agree d.parent first size es (directory_blocks d first) (directory_bytes d.parent first es proper.named) room).0 (laid_there d first size low few proper same)
 
 -- it takes no more blocks than the lengths of its names allow
-pub directory_short : (d : Dir) (first : ℕ) → d.parent < 2 ^ 32 → length d.entries.entries ≤ 512 → IsProper d → length (directory_blocks d first) ≤ 1 + (40 + plain_sizes (name_sizes d.entries.entries)) / 1720
+pub directory_short : (d : Dir) (first : ℕ) → d.parent < 2 ^ 32 → length d.entries.entries ≤ DIRECTORY_NAMES → IsProper d → length (directory_blocks d first) ≤ 1 + (40 + plain_sizes (name_sizes d.entries.entries)) / 1720
 directory_short d first low few proper =
     let es = d.entries.entries in
     directories_short d.parent first (directory_size d) es (directory_blocks d first) (λ k b lt. (directory_bytes d.parent first es proper.named k b lt).size) (laid_there d first (directory_size d) low few proper refl)
@@ -92,14 +87,14 @@ writes-append [] more from blocks others written rest w v =
     subst (λ (bs : List Block). WritesNodes udf more from (bs ++ others) (written ++ rest)) (sym w.0)
     (subst (λ (ws : List Written). WritesNodes udf more from others (ws ++ rest)) (sym w.1)
     (subst (λ n. WritesNodes udf more n others rest) at v))
-writes-append (node ∷ nodes) more from blocks others written rest (first, behind, number, tail, e, f, one, w) v =
-    let at : from + length blocks ≡ from + length first + length behind = omega (arith, ap length e, length-append first behind) in
-    let next = writes-append nodes more (from + length first) behind others tail rest w (subst (λ n. WritesNodes udf more n others rest) at v) in (
+writes-append (node ∷ nodes) more from blocks others written rest (first, after, number, tail, e, f, one, w) v =
+    let at : from + length blocks ≡ from + length first + length after = omega (arith, ap length e, length-append first after) in
+    let next = writes-append nodes more (from + length first) after others tail rest w (subst (λ n. WritesNodes udf more n others rest) at v) in (
       first,
-      behind ++ others,
+      after ++ others,
       number,
       tail ++ rest,
-      ap (λ (bs : List Block). bs ++ others) e ∙ append_assoc first behind others,
+      ap (λ (bs : List Block). bs ++ others) e ∙ append_assoc first after others,
       ap (λ (ws : List Written). ws ++ rest) f,
       one,
       next,

@@ -16,7 +16,7 @@ use Rattle.request.specs.declared.answer.Code.{Code}
 use Rattle.planning.specs.declared.change.Change.{Change}
 use Rattle.planning.specs.declared.change.NewContent.{NewContent}
 use Rattle.planning.specs.declared.change.NewContent.TheVariants as thing
-use Rattle.table_update.specs.declared.node.Node.{Node}
+use Rattle.recover.specs.declared.node.Node.{Node}
 use Rattle.table_update.specs.NextTable.{made_by, RemovesNode}
 use Rattle.planning.specs.Writings.{change_writings}
 

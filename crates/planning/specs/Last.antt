@@ -11,7 +11,7 @@ use Rattle.durability.specs.Plan.{Writing, Written}
 use Rattle.request.specs.Numbers.{code_number}
 use Rattle.vat.specs.Table.{FitsTable, Table, view}
 use Rattle.vat.specs.declared.table.Vat.{Vat}
-use Rattle.table_update.specs.Below.{AreBelow}
+use Rattle.recover.specs.Below.{AreBelow}
 use Rattle.table_update.specs.NextTable.{AreTaken, begun}
 use Rattle.table_update.specs.TableChange.{committed}
 use Rattle.lookup.specs.Asked.{model_operation}

@@ -1,4 +1,5 @@
 pub mod Changes
+pub mod Entered
 pub mod Last
 pub mod Moves
 pub mod Needs

@@ -14,7 +14,7 @@ use Rattle.lookup.specs.declared.lookup.Lookup.{Lookup}
 use Rattle.planning.specs.Changes.{IsChangeSeen}
 use Rattle.planning.specs.declared.change.Change.{Change}
 use Rattle.udf.specs.Said.{names_directory}
-use Rattle.table_update.specs.declared.node.Node.{Node}
+use Rattle.recover.specs.declared.node.Node.{Node}
 use Rattle.lookup.specs.Shows.{IsNodeAt}
 
 -- another name in one directory, which does not have it

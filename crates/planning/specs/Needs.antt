@@ -1,7 +1,7 @@
 -- The most blocks that a commit may take, from sizes alone.
 use Rattle.std.specs.Prelude.{ℕ, ◌+◌, ◌*◌, ◌/◌, List, [], ◌∷◌, length, Option, Some, None}
 use Rattle.std.specs.Int.{div_ceil}
-use Rattle.limits.specs.declared.TheConstants.{BLOCK_BYTES}
+use Rattle.limits.specs.declared.TheConstants.{BLOCK_BYTES, LEAST_FILLED_BYTES}
 use Rattle.dir.specs.Size.{name_sizes, plain_sizes}
 use Rattle.vat.specs.Table.{Table}
 pub use Rattle.table_update.specs.Needs.{table_need}
@@ -17,7 +17,7 @@ file_need (Some f) = 2 * div_ceil (length (outside f.bytes.now)) BLOCK_BYTES + 1
 
 -- a block of a directory that another one follows is used up to byte 1,720 at least
 abbrev pub directory_need : NewDirectory → ℕ
-directory_need d = 2 + (40 + plain_sizes (name_sizes d.content.dir.entries.entries)) / 1720
+directory_need d = 2 + (40 + plain_sizes (name_sizes d.content.dir.entries.entries)) / LEAST_FILLED_BYTES
 
 abbrev pub directories_need : List NewDirectory → ℕ
 directories_need [] = 0

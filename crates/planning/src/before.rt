@@ -21,12 +21,12 @@ use crate::plan::LastTable;
 use dir::Entry;
 use drive::Drive;
 use ecma::Timestamp;
+use limits::DIRECTORY_NAMES;
 use lookup::{DirectoryCache, Lookup, Nodes};
 use osta::Name;
-use recover::StoreFault;
-use request::{Code, DIRECTORY_NAMES, FileSlice, Op, Request};
+use recover::{Node, StoreFault};
+use request::{Code, FileSlice, Op, Request};
 use std::alloc::Global;
-use table_update::Node;
 
 /// The greatest number of names in a path of the tree.
 const PATH_NAMES: usize = limits::PATH_NAMES as usize;

@@ -17,13 +17,13 @@ ghost use Rattle.request.specs.declared.answer.Code.TheVariants.{Done};
 use dir::{Dir, Entry, Kind};
 use ecma::Timestamp;
 use indexmap::IndexMap;
-use limits::NODES;
+use limits::{DIRECTORY_NAMES, NODES};
 use lookup::Content;
 use osta::Name;
-use recover::StoreFault;
-use request::{Code, DIRECTORY_NAMES, FileSlice};
+use recover::{Node, StoreFault};
+use request::{Code, FileSlice};
 use std::alloc::Global;
-use table_update::{NewNode, Node};
+use table_update::NewNode;
 
 /// A file that is written.
 #[derive(Clone, Copy, Debug)]

@@ -1,6 +1,6 @@
 //! Where the blocks of a commit lie.
 
-ghost use Rattle.limits.specs.declared.TheConstants.{BLOCK_BYTES, PARTITION_BLOCKS};
+ghost use Rattle.limits.specs.declared.TheConstants.{BLOCK_BYTES, FILE_BYTES, PARTITION_BLOCKS};
 ghost use Rattle.std.specs.Prelude.{◌≡◌, ℕ, ◌+◌, ◌*◌, ◌<◌, ◌≤◌, List, [], ◌∷◌, ◌++◌, length, Some};
 ghost use Rattle.std.specs.Int.{div_ceil};
 ghost use Rattle.icb.specs.Entry.{FitsPlace, place_of};
@@ -67,7 +67,7 @@ impl Numbers {
 
     /// Places bytes at the least clear start, and says where it is.
     pub(crate) fn place_bytes(&mut self, bytes: &[u8]) -> u32
-        requires few { length bytes.now ≤ 1_048_576 }
+        requires few { length bytes.now ≤ FILE_BYTES }
         requires room { self.old.next + 2 * div_ceil (length bytes.now) BLOCK_BYTES ≤ self.old.end }
         ensures start { IsClearStart udf (packed bytes.now) self.old.next result }
         ensures next { self.new.next ≡ result + div_ceil (length bytes.now) BLOCK_BYTES }
@@ -155,7 +155,7 @@ fn directory_entry(directory: &NewDirectory, extent: Extent) -> PlannedEntry<'st
     requires proper { IsProper directory.now.content.dir }
     requires size { extent.size ≡ directory_size directory.now.content.dir }
     requires some { 0 < extent.size }
-    requires few { extent.size ≤ 1_048_576 }
+    requires few { extent.size ≤ FILE_BYTES }
     requires room { extent.first + div_ceil extent.size BLOCK_BYTES ≤ PARTITION_BLOCKS }
     requires blocks { length (directory_blocks directory.now.content.dir extent.first) ≡ div_ceil extent.size BLOCK_BYTES }
     ensures describes { SaysPlace directory.now.address extent directory.now.moment result }

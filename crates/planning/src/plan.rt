@@ -1,7 +1,7 @@
 //! A commit, planned whole: which blocks it writes, and where; and the writes.
 
-ghost use Rattle.limits.specs.declared.TheConstants.{BLOCK_BYTES, PARTITION_BLOCKS, PARTITION_START};
-ghost use Rattle.std.specs.Prelude.{min, ◌≡◌, ℕ, ◌+◌, ◌-◌, ◌*◌, ◌<◌, ◌≤◌, ◌^◌, ◌++◌, [], ◌∷◌, Some, IfOk, IfErr, OnOk, OnErr, IfSome, All, Err, false, is_err, length, map, List, ◌⊎◌};
+ghost use Rattle.limits.specs.declared.TheConstants.{BLOCK_BYTES, FILE_BYTES, PARTITION_BLOCKS, PARTITION_START};
+ghost use Rattle.std.specs.Prelude.{min, ◌≡◌, ◌+◌, ◌-◌, ◌*◌, ◌<◌, ◌≤◌, ◌^◌, ◌++◌, [], ◌∷◌, Some, IfOk, IfErr, OnOk, OnErr, IfSome, All, Err, false, is_err, length, ◌⊎◌};
 ghost use Rattle.std.specs.Int.{div_ceil};
 ghost use Rattle.drive.specs.Journal.{next_of, written, AddsPrefix};
 ghost use Rattle.drive.specs.Reads.{ReadsOnly, WritesOnly};
@@ -10,20 +10,18 @@ ghost use Rattle.drive.specs.Waiting.{next_address, TakesBlocks, Stops};
 ghost use Rattle.dir.specs.Size.{name_sizes, plain_sizes};
 ghost use Rattle.durability.specs.Formats.Kind.{Table};
 ghost use Rattle.durability.specs.Formats.NodePlace.{Extent};
-ghost use Rattle.durability.specs.Plan.{WritesNodes, Written};
 ghost use Rattle.recover.specs.declared.fault.StoreFault.TheVariants.{Full, Memory};
 ghost use Rattle.udf.specs.Udf.{udf};
 ghost use Rattle.vat.specs.Table.{FitsTable, view};
 ghost use Rattle.recover.specs.Faults.{IsShortage, devices};
-ghost use Rattle.request.specs.Numbers.{code_number};
 ghost use Rattle.planning.specs.Last.{IsLastTableOn, IsTakenBy, HasTableBelow, need_of, table_committed};
-ghost use Rattle.table_update.specs.Below.{AreBelow, IsUsed};
-ghost use Rattle.table_update.specs.Full.{is_full};
+ghost use Rattle.recover.specs.Below.{IsUsed};
+ghost use Rattle.planning.specs.Entered.{ArePlacedFrom, BeginsNext, Enters, IsApartFromDrive, IsPlanAfter, IsSamePlan, LeadsBefore, TakesAway};
 ghost use Rattle.planning.specs.Needs as needs;
-ghost use Rattle.planning.specs.Plan.{IsPlan, IsTablePlaced, AreLaid, file_list, node_list, file_writings, file_written, directory_list, directories_list, directories_writings, directories_written, plan_blocks, plan_writings, plan_written, table_data};
-ghost use Rattle.table_update.specs.NextTable.{AreTaken, all_placed, begun, next_table, without_gone};
-ghost use Rattle.table_update.specs.TableChange.{IsFree, IsNext, IsRemovable, committed};
-ghost use Rattle.planning.specs.Writings.{IsProper, new_file, new_directories, change_writings};
+ghost use Rattle.planning.specs.Plan.{IsPlan, IsTablePlaced, file_list, node_list, file_writings, file_written, directory_list, directories_list, directories_writings, directories_written, plan_blocks, table_data};
+ghost use Rattle.table_update.specs.Full.{OnlyMemoryIsShort};
+ghost use Rattle.table_update.specs.TableChange.{IsFree, IsNext, IsRemovable};
+ghost use Rattle.planning.specs.Writings.{IsProper, new_file};
 
 use crate::change::{Change, NewDirectory, NewFile};
 use crate::layout::{PlacedDirectory, PlacedFile, PlacedTable};
@@ -32,12 +30,14 @@ use crate::write::Writer;
 use drive::{Drive, DriveFault};
 use ecma::Timestamp;
 use icb::{FileEntry, Kind, Place, PlannedEntry};
-use limits::{ADDRESS_BYTES, BLOCK_SIZE, LEAST_FILLED_BYTES, RECORD_BYTES, TABLE_HEAD_BYTES};
+use limits::{
+    ADDRESS_BYTES, BLOCK_SIZE, LEAST_FILLED_BYTES, PARTITION_START, RECORD_BYTES, TABLE_HEAD_BYTES,
+};
 use lookup::Content;
-use recover::{PARTITION_START, StoreFault, block_count, cause, damaged};
+use recover::{Node, StoreFault, block_count, cause, damaged};
 use request::{Reply, Request};
 use std::alloc::Global;
-use table_update::{Node, add_node, copied, keep_reply, place_node, remove_node};
+use table_update::{add_node, copied, keep_reply, place_node, remove_node};
 use vat::{Vat, encode_vat};
 
 /// All that a commit writes, in order: the file, the directories, the table.
@@ -59,11 +59,7 @@ impl Plan<'_> {
         ensures ok { OnOk result (D.journal drive.new ≡ D.journal drive.old ++ written (next_of (D.journal drive.old)) (plan_blocks self.old)) }
         ensures err { OnErr result (AddsPrefix (D.journal drive.old) (next_of (D.journal drive.old)) (plan_blocks self.old) (D.journal drive.new)) }
         ensures alone { SendsAlone D.Drive (node_list self.old ++ table_data self.old.table) self.old.table.entry (is_err result) drive.old drive.new }
-        ensures directories { self.new.directories.items ≡ self.old.directories.items }
-        ensures table { self.new.table ≡ self.old.table }
-        ensures reply { self.new.reply ≡ self.old.reply }
-        ensures file { self.new.file ≡ self.old.file }
-        ensures moment { self.new.moment ≡ self.old.moment }
+        ensures same { IsSamePlan self.old self.new }
         ensures writes { WritesOnly D.Drive (is_err result) drive.old drive.new }
     {
         let held = self.held();
@@ -190,11 +186,7 @@ impl LastTable<'_> {
         requires agrees { IsLastTableOn (D.journal drive.old) (D.capacity drive.old) self.now }
         requires next { IsNext request.now.client request.now.number self.now.vat.now.sessions.records.items }
         ensures plan { IfOk result (IsPlan (next_of (D.journal drive.old)) (D.capacity drive.old)) }
-        ensures code { IfOk result (λ p. p.reply.code ≡ change.entry.code) }
-        ensures commit { IfOk result (λ p. p.reply.commit ≡ self.now.vat.now.sessions.commits + 1) }
-        ensures moment { IfOk result (λ p. p.moment ≡ moment) }
-        ensures writings { IfOk result (λ p. plan_writings p ≡ change_writings moment change.entry) }
-        ensures table { IfOk result (λ p. view p.table.vat ≡ next_table self.now.vat_icb_address request.now.client request.now.number (code_number change.entry.code) change.entry.made (plan_written p) change.entry.removed (view self.now.vat.now)) }
+        ensures makes { IfOk result (IsPlanAfter self.now request.now change.entry moment) }
         ensures room { OnOk result (next_of (D.journal drive.old) + need_of self.now request.now change.entry ≤ self.now.capacity) }
         ensures full { result ≡ Err Full → self.now.capacity < next_of (D.journal drive.old) + need_of self.now request.now change.entry }
         // Where the table takes each change, nothing else is refused.
@@ -249,15 +241,9 @@ impl LastTable<'_> {
     ) -> Result<Vat, StoreFault>
         requires keeps { HasTableBelow self.now.vat_icb_address self.now.vat.now }
         requires next { IsNext request.now.client request.now.number self.now.vat.now.sessions.records.items }
-        ensures table { IfOk result (λ vat. view vat ≡ begun self.now.vat_icb_address request.now.client request.now.number (code_number change.now.code) change.now.made (view self.now.vat.now)) }
-        ensures fits { IfOk result (λ vat. FitsTable (view vat)) }
-        ensures below { IfOk result (λ vat. AreBelow self.now.vat_icb_address vat.entries.items) }
-        ensures previous { IfOk result (λ vat. vat.previous ≡ Some (self.now.vat_icb_address - PARTITION_START)) }
-        ensures commits { IfOk result (λ vat. vat.sessions.commits ≡ self.now.vat.now.sessions.commits + 1) }
-        ensures unique { IfOk result (λ vat. vat.sessions.next_unique ≤ 16 + vat.sessions.commits) }
+        ensures begins { IfOk result (BeginsNext self.now request.now change.now) }
         ensures free { IfSome change.now.made (λ node. IsFree node.address self.now.vat.now.entries.items) → IfErr result (λ fault. fault ≡ Memory) }
-        ensures full { is_full result ≡ false }
-        ensures device { devices result ≡ 0 }
+        ensures apart { IsApartFromDrive result }
     {
         let at = self.vat_icb_address;
         let mut vat = copied(alloc, self.vat)?;
@@ -345,21 +331,11 @@ fn enter_file<'r>(
 ) -> Result<Option<PlacedFile<'r>>, StoreFault>
     requires fits { FitsTable (view vat.old) }
     requires room { numbers.old.next + needs.file_need file ≤ numbers.old.end }
-    ensures fits { OnOk result (FitsTable (view vat.new)) }
-    ensures below { OnOk result (AreBelow (numbers.old.next + PARTITION_START) vat.old.entries.items → AreBelow (numbers.new.next + PARTITION_START) vat.new.entries.items) }
-    ensures previous { OnOk result (vat.new.previous ≡ vat.old.previous) }
-    ensures commits { OnOk result (vat.new.sessions.commits ≡ vat.old.sessions.commits) }
-    ensures unique { OnOk result (vat.new.sessions.next_unique ≡ vat.old.sessions.next_unique) }
-    ensures table { IfOk result (λ placed. view vat.new ≡ all_placed (file_written placed) (view vat.old)) }
+    ensures enters { IfOk result (λ placed. Enters vat.old vat.new numbers.old numbers.new (file_writings moment placed) (file_list placed) (file_written placed) (needs.file_need file.entry)) }
     ensures writings { IfOk result (λ placed. file_writings moment placed ≡ new_file moment file.entry) }
-    ensures written { IfOk result (λ placed. WritesNodes udf (file_writings moment placed) numbers.old.next (file_list placed) (file_written placed)) }
-    ensures next { IfOk result (λ placed. numbers.new.next ≡ numbers.old.next + length (file_list placed)) }
     ensures end { numbers.new.end ≡ numbers.old.end }
-    ensures most { OnOk result (numbers.new.next ≤ numbers.old.next + needs.file_need file.entry) }
     ensures used { IfSome file.entry (λ f. IsUsed f.address vat.old.entries.items) → is_err result ≡ false }
-    ensures need { OnOk result (needs.table_need (view vat.new) ≡ needs.table_need (view vat.old)) }
-    ensures full { is_full result ≡ false }
-    ensures device { devices result ≡ 0 }
+    ensures apart { IsApartFromDrive result }
 {
     let Some(file) = file else {
         return Ok(None);
@@ -384,22 +360,11 @@ fn enter_directories(
     requires fits { FitsTable (view vat.old) }
     requires proper { All (λ d. IsProper d.content.dir) directories.items }
     requires room { numbers.old.next + needs.directories_need directories.items ≤ numbers.old.end }
-    ensures fits { OnOk result (FitsTable (view vat.new)) }
-    ensures below { OnOk result (AreBelow (numbers.old.next + PARTITION_START) vat.old.entries.items → AreBelow (numbers.new.next + PARTITION_START) vat.new.entries.items) }
-    ensures previous { OnOk result (vat.new.previous ≡ vat.old.previous) }
-    ensures commits { OnOk result (vat.new.sessions.commits ≡ vat.old.sessions.commits) }
-    ensures unique { OnOk result (vat.new.sessions.next_unique ≡ vat.old.sessions.next_unique) }
-    ensures table { IfOk result (λ placed. view vat.new ≡ all_placed (directories_written placed.items) (view vat.old)) }
-    ensures writings { IfOk result (λ placed. directories_writings placed.items ≡ new_directories directories.items) }
-    ensures laid { IfOk result (λ placed. AreLaid numbers.old.next placed.items) }
-    ensures written { IfOk result (λ placed. WritesNodes udf (directories_writings placed.items) numbers.old.next (directories_list placed.items) (directories_written placed.items)) }
-    ensures next { IfOk result (λ placed. numbers.new.next ≡ numbers.old.next + length (directories_list placed.items)) }
+    ensures enters { IfOk result (λ placed. Enters vat.old vat.new numbers.old numbers.new (directories_writings placed.items) (directories_list placed.items) (directories_written placed.items) (needs.directories_need directories.items)) }
+    ensures placed { IfOk result (λ placed. ArePlacedFrom numbers.old.next directories.items placed.items) }
     ensures end { numbers.new.end ≡ numbers.old.end }
-    ensures most { OnOk result (numbers.new.next ≤ numbers.old.next + needs.directories_need directories.items) }
-    ensures need { OnOk result (needs.table_need (view vat.new) ≡ needs.table_need (view vat.old)) }
     ensures used { All (λ d. IsUsed d.address vat.old.entries.items) directories.items → IfErr result (λ fault. fault ≡ Memory) }
-    ensures full { is_full result ≡ false }
-    ensures device { devices result ≡ 0 }
+    ensures apart { IsApartFromDrive result }
 {
     let mut all = Vec::with_capacity(alloc, directories.len())?;
     for directory in directories {
@@ -416,16 +381,9 @@ fn enter_directories(
 /// Takes a node away, if one goes. The table of the state before is at `at`.
 fn take_away(vat: &mut Vat, removed: Option<Node>, at: u32) -> Result<(), StoreFault>
     requires fits { FitsTable (view vat.old) }
-    ensures table { OnOk result (view vat.new ≡ without_gone removed (view vat.old)) }
-    ensures fits { OnOk result (FitsTable (view vat.new)) }
-    ensures below { OnOk result ((at : ℕ) → AreBelow at vat.old.entries.items → AreBelow at vat.new.entries.items) }
-    ensures previous { OnOk result (vat.new.previous ≡ vat.old.previous) }
-    ensures commits { OnOk result (vat.new.sessions.commits ≡ vat.old.sessions.commits) }
-    ensures unique { OnOk result (vat.new.sessions.next_unique ≡ vat.old.sessions.next_unique) }
-    ensures need { OnOk result (needs.table_need (view vat.new) ≡ needs.table_need (view vat.old)) }
+    ensures gone { OnOk result (TakesAway removed vat.old vat.new) }
     ensures there { IfSome removed (λ node. IsRemovable node.kind node.address (view vat.old)) → is_err result ≡ false }
-    ensures full { is_full result ≡ false }
-    ensures device { devices result ≡ 0 }
+    ensures apart { IsApartFromDrive result }
 {
     let Some(node) = removed else {
         return Ok(());
@@ -444,16 +402,13 @@ fn place_table(
     moment: Timestamp,
 ) -> Result<PlacedTable, StoreFault>
     requires fits { FitsTable (view vat) }
-    requires below { AreBelow (numbers.old.next + PARTITION_START) vat.entries.items }
-    requires previous { IfSome vat.previous (λ previous. previous < numbers.old.next) }
+    requires leads { LeadsBefore numbers.old.next vat }
     requires room { numbers.old.next + needs.table_need (view vat) ≤ numbers.old.end }
     ensures vat { IfOk result (λ t. t.vat ≡ vat) }
     ensures placed { IfOk result (IsTablePlaced numbers.old.next moment) }
     ensures some { IfOk result (λ t. 0 < length t.bytes.items) }
     ensures within { IfOk result (λ t. t.at < numbers.old.end + PARTITION_START) }
-    ensures memory { IfErr result (λ fault. fault ≡ Memory) }
-    ensures full { is_full result ≡ false }
-    ensures device { devices result ≡ 0 }
+    ensures short { OnlyMemoryIsShort result }
 {
     let bytes = encode_vat(alloc, &vat)?;
     let start = numbers.next();
@@ -474,7 +429,7 @@ fn place_table(
 /// The VAT ICB of so many bytes, which begin at the block of a number, for the block of another.
 fn table_entry(size: u32, first: u32, number: u32, moment: Timestamp) -> PlannedEntry<'static>
     requires some { 0 < size }
-    requires few { size ≤ 1_048_576 }
+    requires few { size ≤ FILE_BYTES }
     requires room { first + div_ceil size BLOCK_BYTES ≤ PARTITION_BLOCKS }
     ensures { udf.IsEntry (record { kind = Table; moment = moment; links = 0; identity = 0; size = size; place = Extent first }) result number }
 {

@@ -3,10 +3,11 @@
 use crate::asking::{CREATE, Told, formatted, run};
 use media::{FileMedia, MemMedia};
 use programs::{command_on, copy_answers, send_frames};
-use std::io::{Error, ErrorKind, Read, Write};
+use std::io::{Error, ErrorKind, Read};
 use std::os::unix::net::UnixStream;
 use std::test::Fail;
 use std::{fs, io};
+use words::Room;
 
 /// A reader that gives its bytes one by one, and then fails.
 #[derive(Drop)]
@@ -39,28 +40,6 @@ impl Read for Pieces<'_> {
         buf[..count].copy_from_slice(piece);
         self.bytes = rest;
         Ok(count)
-    }
-}
-
-/// A writer that has room for so many bytes.
-#[derive(Drop)]
-struct Room {
-    bytes: Vec<u8>,
-    left: usize,
-}
-
-impl Write for Room {
-    fn write(&mut self, buf: &[u8]) -> io::Result<usize> {
-        let count = buf.len().min(self.left);
-        if count == 0 || self.bytes.extend_from_slice(&buf[..count]).is_err() {
-            return Err(Error::from(ErrorKind::Other));
-        }
-        self.left -= count;
-        Ok(count)
-    }
-
-    fn flush(&mut self) -> io::Result<()> {
-        Ok(())
     }
 }
 

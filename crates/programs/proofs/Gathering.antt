@@ -4,6 +4,7 @@ use Rattle.std.specs.Prelude.{IfErr, IsOk, OnOk, OnErr}
 use Rattle.std.specs.Io.KnownBytes.{Appends, Keeps, append_known}
 use Rattle.std.proofs.lemmas.List.{append-nil}
 use Rattle.std.proofs.Math.Seq.{take-append-add}
+use Rattle.limits.specs.declared.TheConstants.{GREATEST_CAPACITY}
 use Rattle.drive.specs.Journal.{Event}
 use Rattle.request.specs.Answers.{answer_frame}
 use Rattle.request.specs.declared.answer.Answer.{Answer}
@@ -39,7 +40,7 @@ keeps_trans (Some xs) None c h k = absurd h
 keeps_trans (Some xs) (Some ys) None h k = absurd k
 keeps_trans (Some xs) (Some ys) (Some zs) h k = k ∙ h
 
-on_image : (Finds : Option (List Event) → List Event → Type 0) (capacity : ℕ) (path : List ℕ) (P Q : Situation → Situation → Type 0) (old new : Images) → ((before behind : Situation) → P before behind → Q before behind)
+on_image : (Finds : Option (List Event) → List Event → Type 0) (capacity : ℕ) (path : List ℕ) (P Q : Situation → Situation → Type 0) (old new : Images) → ((before afterwards : Situation) → P before afterwards → Q before afterwards)
     → OnMedia Finds capacity path P old new → OnMedia Finds capacity path Q old new
 on_image Finds capacity path P Q old new f h = record {
   journal = h.journal;
@@ -65,12 +66,12 @@ module _ (i l o v w : Option (List ℕ)) (kept : Keeps v w) where
   makes_kept label moment capacity (Err (Stream streams.Write)) J K honest h = (h.0, front_kept o v w formatted_text h.1 kept)
   makes_kept label moment capacity (Err (Stream streams.Memory)) J K honest h = h
 
-  made_on_kept : {T : Type 0} (label : List ℕ) (moment capacity : ℕ) (outcome : Result T Fault) (before behind : Situation) → MakesOn label moment capacity outcome before behind o v → MakesOn label moment capacity outcome before behind o w
-  made_on_kept label moment capacity outcome before behind (inl k) = inl (record { refused = k.refused; why = k.why; journal = k.journal; writes = k.writes; unwritten = keeps_trans o v w k.unwritten kept })
-  made_on_kept label moment capacity outcome before behind (inr k) = inr (k.0, makes_kept label moment capacity outcome before.journal behind.journal behind.honest k.1, k.2)
+  made_on_kept : {T : Type 0} (label : List ℕ) (moment capacity : ℕ) (outcome : Result T Fault) (look : Option (List ℕ)) (before afterwards : Situation) → MakesOn label moment capacity outcome before afterwards look o v → MakesOn label moment capacity outcome before afterwards look o w
+  made_on_kept label moment capacity outcome look before afterwards (inl k) = inl (record { refused = k.refused; why = k.why; journal = k.journal; writes = k.writes; unwritten = keeps_trans o v w k.unwritten kept })
+  made_on_kept label moment capacity outcome look before afterwards (inr k) = inr (k.0, makes_kept label moment capacity outcome before.journal afterwards.journal afterwards.honest k.1, k.2)
 
-  serves_kept : (before behind : Situation) → ServesAll before behind i l o v → ServesAll before behind i l o w
-  serves_kept before behind h = record {
+  serves_kept : (before afterwards : Situation) → ServesAll before afterwards i l o v → ServesAll before afterwards i l o w
+  serves_kept before afterwards h = record {
     reader = h.reader;
     serving = record {
       bytes = h.serving.bytes;
@@ -103,8 +104,8 @@ module _ (i l o v w : Option (List ℕ)) (kept : Keeps v w) where
   left_kept streams.Memory bytes answers reader (inr (inl h)) = inr (inl (h.0, h.1, h.2, h.3, h.4, keeps_on o v w (frames_of answers) h.5 kept))
   left_kept streams.Memory bytes answers reader (inr (inr h)) = inr (inr (h.0, keeps_on o v w (frames_of answers) h.1 kept))
 
-  until_kept : (fault : ServeFault) (before behind : Situation) → ServesUntil fault before behind i l o v → ServesUntil fault before behind i l o w
-  until_kept fault before behind h = record {
+  until_kept : (fault : ServeFault) (before afterwards : Situation) → ServesUntil fault before afterwards i l o v → ServesUntil fault before afterwards i l o w
+  until_kept fault before afterwards h = record {
     some = record {
       bytes = h.some.bytes;
       messages = h.some.messages;
@@ -120,13 +121,13 @@ module _ (i l o v w : Option (List ℕ)) (kept : Keeps v w) where
     left_by = left_kept fault h.some.bytes h.some.answers h.some.reader h.left_by;
   }
 
-  applies_kept : {T : Type 0} (outcome : Result T Fault) (before behind : Situation) → AppliesStream outcome before behind i l o v → AppliesStream outcome before behind i l o w
-  applies_kept (Ok x) before behind (store, h) = (store, serves_kept before (with_store store behind) h)
-  applies_kept (Err Usage) before behind h = h
-  applies_kept (Err Path) before behind h = h
-  applies_kept (Err Socket) before behind h = h
-  applies_kept (Err (Store fault)) before behind h = h
-  applies_kept (Err (Stream fault)) before behind (store, h) = (store, until_kept fault before (with_store store behind) h)
+  applies_kept : {T : Type 0} (outcome : Result T Fault) (before afterwards : Situation) → AppliesStream outcome before afterwards i l o v → AppliesStream outcome before afterwards i l o w
+  applies_kept (Ok x) before afterwards (store, h) = (store, serves_kept before (with_store store afterwards) h)
+  applies_kept (Err Usage) before afterwards h = h
+  applies_kept (Err Path) before afterwards h = h
+  applies_kept (Err Socket) before afterwards h = h
+  applies_kept (Err (Store fault)) before afterwards h = h
+  applies_kept (Err (Stream fault)) before afterwards (store, h) = (store, until_kept fault before (with_store store afterwards) h)
 
   answers_kept : {T : Type 0} (outcome : Result T Fault) (capacity : ℕ) → AnswersInMemory outcome capacity i l o v → AnswersInMemory outcome capacity i l o w
   answers_kept (Ok x) capacity h = record {
@@ -194,18 +195,18 @@ module _ (old new : Images) (i l o v w : Option (List ℕ)) (kept : Keeps v w) w
   made_kept : {T : Type 0} (image label : List ℕ) (moment capacity : ℕ) (outcome : Result T Fault) → MakesOnImage image label moment capacity outcome old new o v → MakesOnImage image label moment capacity outcome old new o w
   made_kept image label moment capacity outcome (inl h) = inl (unmade_kept image outcome h)
   made_kept image label moment capacity outcome (inr h) =
-      inr (on_image IsThereOrMade capacity image (λ before behind. MakesOn label moment capacity outcome before behind o v) (λ before behind. MakesOn label moment capacity outcome before behind o w) old new (made_on_kept i l o v w kept label moment capacity outcome) h)
+      inr (on_image IsThereOrMade capacity image (λ before afterwards. MakesOn label moment capacity outcome before afterwards (new.looked image) o v) (λ before afterwards. MakesOn label moment capacity outcome before afterwards (new.looked image) o w) old new (made_on_kept i l o v w kept label moment capacity outcome (new.looked image)) h)
 
   applied_kept : {T : Type 0} (image : List ℕ) (outcome : Result T Fault) → AppliesToImage image outcome old new i l o v → AppliesToImage image outcome old new i l o w
   applied_kept image outcome (inl (h, same)) = inl (unopened_kept outcome h, same)
-  applied_kept image outcome (inr h) = inr (on_image IsThere 450000 image (λ before behind. AppliesStream outcome before behind i l o v) (λ before behind. AppliesStream outcome before behind i l o w) old new (applies_kept i l o v w kept outcome) h)
+  applied_kept image outcome (inr h) = inr (on_image IsThere GREATEST_CAPACITY image (λ before afterwards. AppliesStream outcome before afterwards i l o v) (λ before afterwards. AppliesStream outcome before afterwards i l o w) old new (applies_kept i l o v w kept outcome) h)
 
   shown_kept : {T : Type 0} (question : Question) (image : List ℕ) (outcome : Result T Fault) → ShowsImage question image outcome old new o v → ShowsImage question image outcome old new o w
   shown_kept question image outcome (inl h) = inl (unopened_kept outcome h)
   shown_kept question image outcome (inr h) =
-      inr (on_image IsThere 450000 image (λ before behind. (behind.journal ≡ before.journal) × (behind.writes ≡ before.writes) × PrintsAnswer question outcome before.capacity before.journal behind.honest o v)
-      (λ before behind. (behind.journal ≡ before.journal) × (behind.writes ≡ before.writes) × PrintsAnswer question outcome before.capacity before.journal behind.honest o w) old new
-      (λ before behind k. (k.0, k.1, shows_kept i l o v w kept question outcome before.capacity before.journal behind.honest k.2)) h)
+      inr (on_image IsThere GREATEST_CAPACITY image (λ before afterwards. (afterwards.journal ≡ before.journal) × (afterwards.writes ≡ before.writes) × PrintsAnswer question outcome before.capacity before.journal afterwards.honest o v)
+      (λ before afterwards. (afterwards.journal ≡ before.journal) × (afterwards.writes ≡ before.writes) × PrintsAnswer question outcome before.capacity before.journal afterwards.honest o w) old new
+      (λ before afterwards k. (k.0, k.1, shows_kept i l o v w kept question outcome before.capacity before.journal afterwards.honest k.2)) h)
 
   path_kept : {T : Type 0} (question : tree.Path → Question) (image text : List ℕ) (outcome : Result T Fault) → ShowsPath question image text outcome old new o v → ShowsPath question image text outcome old new o w
   path_kept question image text outcome (inl (h, same, k)) = inl (h, same, keeps_trans o v w k kept)
@@ -321,7 +322,7 @@ module _ {O : Type 0} (contents : O → Option (List ℕ)) (output first last in
 pub err_of : {T E : Type 0} (r : Result T E) (e told : E) (P : E → Type 0) → r ≡ Err e → e ≡ told → IfErr r P → P told
 err_of {T} {E} r e told P is same h = subst (λ (x : E). P x) same (subst (λ (x : Result T E). IfErr x P) is h)
 
-module _ (before behind : Situation) (i l : Option (List ℕ)) {O : Type 0} (contents : O → Option (List ℕ)) (output first last inner : O) (waiting waited rest bytes : List ℕ)
+module _ (before afterwards : Situation) (i l : Option (List ℕ)) {O : Type 0} (contents : O → Option (List ℕ)) (output first last inner : O) (waiting waited rest bytes : List ℕ)
     (begins : first ≡ output) (empty : waiting ≡ []) (taken : inner ≡ last) (left : rest ≡ waited) (same : bytes ≡ rest) where
   begins_with : append_known (contents first) waiting ≡ contents output
   begins_with = ap (λ (x : O). append_known (contents x) waiting) begins ∙ nothing_waits (contents output) waiting empty
@@ -329,40 +330,40 @@ module _ (before behind : Situation) (i l : Option (List ℕ)) {O : Type 0} (con
   ends_with : append_known (contents last) waited ≡ append_known (contents inner) bytes
   ends_with = ap (λ (x : O). append_known (contents x) waited) (sym taken) ∙ ap (λ (b : List ℕ). append_known (contents inner) b) (sym (same ∙ left))
 
-  pub served_all : (now : Option (List ℕ)) → Appends (contents inner) now bytes → ServesAll before behind i l (append_known (contents first) waiting) (append_known (contents last) waited) → ServesAll before behind i l (contents output) now
+  pub served_all : (now : Option (List ℕ)) → Appends (contents inner) now bytes → ServesAll before afterwards i l (append_known (contents first) waiting) (append_known (contents last) waited) → ServesAll before afterwards i l (contents output) now
   served_all now put h =
-      serves_kept i l (contents output) (append_known (contents inner) bytes) now (written_out (contents inner) now bytes put) before behind
-      (subst (λ (a : Option (List ℕ)). ServesAll before behind i l a (append_known (contents inner) bytes)) begins_with
-      (subst (λ (b : Option (List ℕ)). ServesAll before behind i l (append_known (contents first) waiting) b) ends_with h))
+      serves_kept i l (contents output) (append_known (contents inner) bytes) now (written_out (contents inner) now bytes put) before afterwards
+      (subst (λ (a : Option (List ℕ)). ServesAll before afterwards i l a (append_known (contents inner) bytes)) begins_with
+      (subst (λ (b : Option (List ℕ)). ServesAll before afterwards i l (append_known (contents first) waiting) b) ends_with h))
 
   -- all messages were answered, and a prefix of what waited was written
-  pub served_part : (fault : ServeFault) (now : Option (List ℕ)) → fault ≡ streams.Write → PutsPrefix (contents inner) now bytes → ServesAll before behind i l (append_known (contents first) waiting) (append_known (contents last) waited)
-      → ServesPrefix fault before behind i l (contents output) now
+  pub served_part : (fault : ServeFault) (now : Option (List ℕ)) → fault ≡ streams.Write → PutsPrefix (contents inner) now bytes → ServesAll before afterwards i l (append_known (contents first) waiting) (append_known (contents last) waited)
+      → ServesPrefix fault before afterwards i l (contents output) now
   served_part fault now write put h = record {
     gathered = append_known (contents inner) bytes;
     serves = inr (
       write,
-      subst (λ (a : Option (List ℕ)). ServesAll before behind i l a (append_known (contents inner) bytes)) begins_with
-          (subst (λ (b : Option (List ℕ)). ServesAll before behind i l (append_known (contents first) waiting) b) ends_with h),
+      subst (λ (a : Option (List ℕ)). ServesAll before afterwards i l a (append_known (contents inner) bytes)) begins_with
+          (subst (λ (b : Option (List ℕ)). ServesAll before afterwards i l (append_known (contents first) waiting) b) ends_with h),
     );
     front = written_part (contents inner) now bytes put;
   }
 
-  served_front : (fault : ServeFault) (now : Option (List ℕ)) → PutsPrefix (contents inner) now bytes → ServesUntil fault before behind i l (append_known (contents first) waiting) (append_known (contents last) waited)
-      → ServesPrefix fault before behind i l (contents output) now
+  served_front : (fault : ServeFault) (now : Option (List ℕ)) → PutsPrefix (contents inner) now bytes → ServesUntil fault before afterwards i l (append_known (contents first) waiting) (append_known (contents last) waited)
+      → ServesPrefix fault before afterwards i l (contents output) now
   served_front fault now put h = record {
     gathered = append_known (contents inner) bytes;
-    serves = inl (subst (λ (a : Option (List ℕ)). ServesUntil fault before behind i l a (append_known (contents inner) bytes)) begins_with
-        (subst (λ (b : Option (List ℕ)). ServesUntil fault before behind i l (append_known (contents first) waiting) b) ends_with h));
+    serves = inl (subst (λ (a : Option (List ℕ)). ServesUntil fault before afterwards i l a (append_known (contents inner) bytes)) begins_with
+        (subst (λ (b : Option (List ℕ)). ServesUntil fault before afterwards i l (append_known (contents first) waiting) b) ends_with h));
     front = written_part (contents inner) now bytes put;
   }
 
   -- what waited was let go
-  pub served_cut : (fault : ServeFault) → ServesUntil fault before behind i l (append_known (contents first) waiting) (append_known (contents last) waited) → ServesPrefix fault before behind i l (contents output) (contents inner)
+  pub served_cut : (fault : ServeFault) → ServesUntil fault before afterwards i l (append_known (contents first) waiting) (append_known (contents last) waited) → ServesPrefix fault before afterwards i l (contents output) (contents inner)
   served_cut fault h = served_front fault (contents inner) (0, nothing_more (contents inner)) h
 
   -- what waited was written, or a prefix of it
   pub served_tried : {T E : Type 0} (fault : ServeFault) (r : Result T E) (now : Option (List ℕ)) → OnOk r (Appends (contents inner) now bytes) → OnErr r (PutsPrefix (contents inner) now bytes)
-      → ServesUntil fault before behind i l (append_known (contents first) waiting) (append_known (contents last) waited) → ServesPrefix fault before behind i l (contents output) now
+      → ServesUntil fault before afterwards i l (append_known (contents first) waiting) (append_known (contents last) waited) → ServesPrefix fault before afterwards i l (contents output) now
   served_tried fault (Ok x) now all some h = served_front fault now (whole_front (contents inner) now bytes all) h
   served_tried fault (Err e) now all some h = served_front fault now some h

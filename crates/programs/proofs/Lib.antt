@@ -12,7 +12,6 @@ pub mod Ending
 pub mod Gathering
 pub mod Hearing
 pub mod Telling
-pub mod Beginnings
 pub mod Framing
 pub mod Tallies
 pub mod Processes

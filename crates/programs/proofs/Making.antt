@@ -1,17 +1,19 @@
 -- A volume was made, or it was refused.
-use Rattle.std.proofs.Common.{◌≡◌, ℕ, List, Bool, Option, None, Result, Ok, Err, refl, sym, subst, inl, inr}
-use Rattle.std.specs.Prelude.{IsErrAnd}
+use Rattle.std.proofs.Common.{◌≡◌, ℕ, List, Bool, Option, None, Result, Ok, Err, refl, sym, subst, ◌∙◌, inl, inr}
+use Rattle.std.specs.Prelude.{IsErrAnd, IsTrue}
+use Rattle.media.specs.Held.{Held, SameBut}
 use Rattle.drive.specs.Journal.{Event}
 use Rattle.drive.specs.declared.Drive.{Ghosts}
+use Rattle.formatting.specs.Beginning.{IsBegun}
 use Rattle.formatting.specs.NewVolume.{FormatSurvivesPowerLoss, words_on, IsFormatted, IsFormatRefused}
 use Rattle.recover.specs.declared.fault.StoreFault.{StoreFault}
 use Rattle.engine.specs.Situation.{situation_on}
 use Rattle.engine.specs.declared.serving.ServeFault.TheVariants as streams
 use Rattle.programs.specs.declared.fault.Fault.{Fault}
 use Rattle.programs.specs.declared.fault.Fault.TheVariants.{Usage, Path, Socket, Store, Stream}
-use Rattle.programs.specs.Images.{Images, IsOpened, IsPutBack, IsThereOrMade}
+use Rattle.programs.specs.Images.{Images, IsOpened, IsPutBack, IsThereOrMade, MayLook}
 use Rattle.programs.specs.Lines.{PutsBytes, formatted_text}
-use Rattle.programs.specs.NewVolumes.{MakesVolume, MakesOn, MakesOnImage, HasFormatPrefix, IsUnbegun}
+use Rattle.programs.specs.NewVolumes.{IsLookRefused, MakesVolume, MakesOn, MakesOnImage}
 use Rattle.programs.proofs.Opening.{keeps_self, on_media}
 
 pub makes_put : {T : Type 0} (label : List ℕ) (moment capacity : ℕ) (outcome : Result T Fault) (J K : List Event) (honest : Bool) (o w : Option (List ℕ)) → PutsBytes outcome o w formatted_text
@@ -33,18 +35,18 @@ makes_refused {T} label moment capacity (Err f) J K honest o fault is refused =
 
 -- ---- on an image that was opened
 
--- what is left there after the last whole block is refused, by the fault of the command
-pub unbegun_on : {T D : Type 0} (drive : Ghosts D) (label : List ℕ) (moment : ℕ) (outcome : Result T Fault) (fault : Fault) (d e : D) (o : Option (List ℕ)) → IsErrAnd outcome (λ f. f ≡ fault) → IsUnbegun (drive.capacity d) label moment (drive.journal d) fault
-    → drive.journal e ≡ drive.journal d → drive.writes e ≡ drive.writes d → MakesOn label moment (drive.capacity d) outcome (situation_on drive None d) (situation_on drive None e) o o
-unbegun_on drive label moment (Ok x) fault d e o is why journal writes = absurd is
-unbegun_on drive label moment (Err f) fault d e o is why journal writes =
-    inl (record { refused = refl; why = subst (λ (g : Fault). IsUnbegun (drive.capacity d) label moment (drive.journal d) g) (sym is) why; journal = journal; writes = writes; unwritten = keeps_self o })
+-- what was found there after the last whole block is refused, by the fault of the command
+pub unbegun_on : {T D : Type 0} (drive : Ghosts D) (label : List ℕ) (moment : ℕ) (outcome : Result T Fault) (fault : Fault) (d e : D) (look o : Option (List ℕ)) → IsErrAnd outcome (λ f. f ≡ fault) → IsLookRefused (drive.capacity d) label moment (drive.journal d) look fault
+    → drive.journal e ≡ drive.journal d → drive.writes e ≡ drive.writes d → MakesOn label moment (drive.capacity d) outcome (situation_on drive None d) (situation_on drive None e) look o o
+unbegun_on drive label moment (Ok x) fault d e look o is why journal writes = absurd is
+unbegun_on drive label moment (Err f) fault d e look o is why journal writes =
+    inl (record { refused = refl; why = subst (λ (g : Fault). IsLookRefused (drive.capacity d) label moment (drive.journal d) look g) (sym is) why; journal = journal; writes = writes; unwritten = keeps_self o })
 
-pub makes_on : {T D : Type 0} (drive : Ghosts D) (label : List ℕ) (moment room : ℕ) (outcome : Result T Fault) (before : List Event) (written : List (List (List ℕ))) (d e : D) (o w : Option (List ℕ)) → room ≡ drive.capacity d → before ≡ drive.journal d → written ≡ drive.writes d
-    → HasFormatPrefix (drive.capacity d) label moment (drive.journal d) → MakesVolume label moment room outcome before (drive.journal e) (drive.honest e) o w
+pub makes_on : {T D : Type 0} (drive : Ghosts D) (label : List ℕ) (moment room : ℕ) (outcome : Result T Fault) (before : List Event) (written : List (List (List ℕ))) (d e : D) (look o w : Option (List ℕ)) → room ≡ drive.capacity d → before ≡ drive.journal d → written ≡ drive.writes d
+    → IsBegun (drive.capacity d) label moment (drive.journal d) look → MakesVolume label moment room outcome before (drive.journal e) (drive.honest e) o w
     → FormatSurvivesPowerLoss room (words_on room label moment) before written (drive.writes e) (drive.honest e)
-    → MakesOn label moment (drive.capacity d) outcome (situation_on drive None d) (situation_on drive None e) o w
-makes_on drive label moment room outcome before written d e o w same journal writes begun h withstands = inr (
+    → MakesOn label moment (drive.capacity d) outcome (situation_on drive None d) (situation_on drive None e) look o w
+makes_on drive label moment room outcome before written d e look o w same journal writes begun h withstands = inr (
   begun,
   subst (λ (n : ℕ). MakesVolume label moment n outcome (drive.journal d) (drive.journal e) (drive.honest e) o w) same
       (subst (λ (j : List Event). MakesVolume label moment room outcome j (drive.journal e) (drive.honest e) o w) journal h),
@@ -53,9 +55,21 @@ makes_on drive label moment room outcome before written d e o w same journal wri
       (subst (λ (ws : List (List (List ℕ))). FormatSurvivesPowerLoss room (words_on room label moment) before ws (drive.writes e) (drive.honest e)) writes withstands)),
 )
 
-pub makes_image : {T D : Type 0} (drive : Ghosts D) (image label : List ℕ) (moment capacity : ℕ) (outcome : Result T Fault) (d e : D) (before between behind : Images) (o w : Option (List ℕ))
-    → IsOpened drive IsThereOrMade capacity image d before between → IsPutBack drive image e between behind → MakesOn label moment (drive.capacity d) outcome (situation_on drive None d) (situation_on drive None e) o w
-    → MakesOnImage image label moment capacity outcome before behind o w
-makes_image drive image label moment capacity outcome d e before between behind o w opened back h =
-    inr (on_media drive IsThereOrMade capacity image (λ first last. MakesOn label moment capacity outcome first last o w) d e before between behind opened back
-    (subst (λ (n : ℕ). MakesOn label moment n outcome (situation_on drive None d) (situation_on drive None e) o w) opened.fresh.size h))
+-- an image that was opened, and then looked at
+opened_seen : {D : Type 0} (drive : Ghosts D) (image : List ℕ) (capacity : ℕ) (d : D) (before between seen : Images) → IsOpened drive IsThereOrMade capacity image d before between → MayLook image between seen
+    → IsOpened drive IsThereOrMade capacity image d before seen
+opened_seen drive image capacity d before between seen opened look = record {
+  found = λ honest. opened.found (subst (λ (b : Bool). IsTrue b) look.honest honest);
+  agreed = λ there. look.honest ∙ opened.agreed there;
+  others = subst (λ (held : Held). SameBut image before.held held) (sym look.held) opened.others;
+  honest = λ honest. opened.honest (subst (λ (b : Bool). IsTrue b) look.honest honest);
+  fresh = opened.fresh;
+}
+
+pub makes_image : {T D : Type 0} (drive : Ghosts D) (image label : List ℕ) (moment capacity : ℕ) (outcome : Result T Fault) (d e : D) (before between seen afterwards : Images) (o w : Option (List ℕ))
+    → IsOpened drive IsThereOrMade capacity image d before between → MayLook image between seen → IsPutBack drive image e seen afterwards
+    → MakesOn label moment (drive.capacity d) outcome (situation_on drive None d) (situation_on drive None e) (seen.looked image) o w → MakesOnImage image label moment capacity outcome before afterwards o w
+makes_image drive image label moment capacity outcome d e before between seen afterwards o w opened look back h =
+    inr (on_media drive IsThereOrMade capacity image (λ first last. MakesOn label moment capacity outcome first last (afterwards.looked image) o w) d e before seen afterwards (opened_seen drive image capacity d before between seen opened look) back
+    (subst (λ (looked : List ℕ → Option (List ℕ)). MakesOn label moment capacity outcome (situation_on drive None d) (situation_on drive None e) (looked image) o w) (sym back.looked)
+    (subst (λ (n : ℕ). MakesOn label moment n outcome (situation_on drive None d) (situation_on drive None e) (seen.looked image) o w) opened.fresh.size h)))

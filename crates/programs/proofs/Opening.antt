@@ -22,9 +22,9 @@ untouched images = record { same = λ _. refl; honest = refl }
 opened_as : {D : Type 0} (drive : Ghosts D) (capacity : ℕ) (d : D) → IsFresh drive capacity d → situation_on drive None d ≡ situation None (drive.journal d) 0 capacity true []
 opened_as drive capacity d h i = situation None (drive.journal d) (h.failures i) (h.size i) (h.honest i) (h.writes i)
 
-pub on_media : {D : Type 0} (drive : Ghosts D) (Finds : Option (List Event) → List Event → Type 0) (capacity : ℕ) (path : List ℕ) (Did : Situation → Situation → Type 0) (d e : D) (before between behind : Images)
-    → IsOpened drive Finds capacity path d before between → IsPutBack drive path e between behind → Did (situation_on drive None d) (situation_on drive None e) → OnMedia Finds capacity path Did before behind
-on_media drive Finds capacity path Did d e before between behind opened back did = record {
+pub on_media : {D : Type 0} (drive : Ghosts D) (Finds : Option (List Event) → List Event → Type 0) (capacity : ℕ) (path : List ℕ) (Did : Situation → Situation → Type 0) (d e : D) (before between afterwards : Images)
+    → IsOpened drive Finds capacity path d before between → IsPutBack drive path e between afterwards → Did (situation_on drive None d) (situation_on drive None e) → OnMedia Finds capacity path Did before afterwards
+on_media drive Finds capacity path Did d e before between afterwards opened back did = record {
   journal = drive.journal d;
   once = opened.fresh.once;
   last = situation_on drive None e;
@@ -42,10 +42,10 @@ same_fault : {T : Type 0} (outcome : Result T Fault) (fault : Fault) → IsErrAn
 same_fault (Ok x) fault is device = absurd is
 same_fault (Err f) fault is device = ap (λ (g : Fault). Err g) (is ∙ device)
 
-pub unopened : {T : Type 0} (outcome : Result T Fault) (fault : Fault) (before behind : Images) (output : Option (List ℕ)) → IsErrAnd outcome (λ f. f ≡ fault) → fault ≡ Store Device → AreUntouched before behind
-    → Unopened outcome before behind output output
-unopened outcome fault before behind output is device same = record { fault = same_fault outcome fault is device; unwritten = keeps_self output; untouched = same }
+pub unopened : {T : Type 0} (outcome : Result T Fault) (fault : Fault) (before afterwards : Images) (output : Option (List ℕ)) → IsErrAnd outcome (λ f. f ≡ fault) → fault ≡ Store Device → AreUntouched before afterwards
+    → Unopened outcome before afterwards output output
+unopened outcome fault before afterwards output is device same = record { fault = same_fault outcome fault is device; unwritten = keeps_self output; untouched = same }
 
-pub unmade : {T : Type 0} (path : List ℕ) (outcome : Result T Fault) (fault : Fault) (before behind : Images) (output : Option (List ℕ)) → IsErrAnd outcome (λ f. f ≡ fault) → fault ≡ Store Device → MayBeMade path before behind
-    → Unmade path outcome before behind output output
-unmade path outcome fault before behind output is device made = record { fault = same_fault outcome fault is device; unwritten = keeps_self output; made = made }
+pub unmade : {T : Type 0} (path : List ℕ) (outcome : Result T Fault) (fault : Fault) (before afterwards : Images) (output : Option (List ℕ)) → IsErrAnd outcome (λ f. f ≡ fault) → fault ≡ Store Device → MayBeMade path before afterwards
+    → Unmade path outcome before afterwards output output
+unmade path outcome fault before afterwards output is device made = record { fault = same_fault outcome fault is device; unwritten = keeps_self output; made = made }

@@ -1,6 +1,7 @@
 -- What was asked of a volume was printed, or it was refused.
 use Rattle.std.proofs.Common.{◌≡◌, ◌⊎◌, ℕ, ◌+◌, Bool, false, List, length, Option, Result, Ok, Err, refl, sym, ap, subst, ◌∙◌, inl, inr}
 use Rattle.std.specs.Prelude.{IsTrue, IsErrAnd}
+use Rattle.limits.specs.declared.TheConstants.{GREATEST_CAPACITY}
 use Rattle.drive.specs.Journal.{Event, Once, held}
 use Rattle.drive.specs.declared.Drive.{Ghosts}
 use Rattle.model.specs.Session.{State}
@@ -16,13 +17,13 @@ use Rattle.recover.specs.declared.fault.StoreFault.{StoreFault}
 use Rattle.recover.specs.declared.fault.StoreFault.TheVariants.{Memory}
 use Rattle.store.specs.declared.history.Commit.{Commit}
 use Rattle.store.specs.declared.store.Store.{Store}
-use Rattle.store.specs.Asked.{said_names}
+use Rattle.lookup.specs.Asked.{said_names}
 use Rattle.store.specs.Calls.{IsOpenOn}
 use Rattle.store.specs.History.{IsHistory, IsHistoryRefused}
 use Rattle.store.specs.Opened.{IsOpenRefused}
 use Rattle.store.specs.Past.{AllRecovered, IsCheckRefused}
-use Rattle.store.specs.Queries.{IsQueryRefused as QueryRefused}
-use Rattle.store.specs.Shows.{HasNodesOf as TreeShows}
+use Rattle.lookup.specs.Queries.{IsQueryRefused as QueryRefused}
+use Rattle.lookup.specs.Shows.{HasNodesOf as TreeShows}
 use Rattle.store.proofs.Knowing.{shows}
 use Rattle.store.proofs.Queried.{gets, lists}
 use Rattle.engine.specs.declared.serving.ServeFault.TheVariants as streams
@@ -154,15 +155,15 @@ module _ (capacity : ℕ) (J : List Event) (store : Store) where
 
 -- ---- on an image
 
-pub shows_image : {T D : Type 0} (drive : Ghosts D) (question : Question) (image : List ℕ) (outcome : Result T Fault) (d e : D) (before between behind : Images) (o w : Option (List ℕ))
-    → IsOpened drive IsThere 450000 image d before between → IsPutBack drive image e between behind → drive.journal e ≡ drive.journal d → drive.writes e ≡ drive.writes d
-    → PrintsAnswer question outcome (drive.capacity d) (drive.journal d) (drive.honest e) o w → ShowsImage question image outcome before behind o w
-shows_image drive question image outcome d e before between behind o w opened back journal writes h =
-    inr (on_media drive IsThere 450000 image (λ first last. (last.journal ≡ first.journal) × (last.writes ≡ first.writes) × PrintsAnswer question outcome first.capacity first.journal last.honest o w) d e before between behind opened back (journal, writes, h))
+pub shows_image : {T D : Type 0} (drive : Ghosts D) (question : Question) (image : List ℕ) (outcome : Result T Fault) (d e : D) (before between afterwards : Images) (o w : Option (List ℕ))
+    → IsOpened drive IsThere GREATEST_CAPACITY image d before between → IsPutBack drive image e between afterwards → drive.journal e ≡ drive.journal d → drive.writes e ≡ drive.writes d
+    → PrintsAnswer question outcome (drive.capacity d) (drive.journal d) (drive.honest e) o w → ShowsImage question image outcome before afterwards o w
+shows_image drive question image outcome d e before between afterwards o w opened back journal writes h =
+    inr (on_media drive IsThere GREATEST_CAPACITY image (λ first last. (last.journal ≡ first.journal) × (last.writes ≡ first.writes) × PrintsAnswer question outcome first.capacity first.journal last.honest o w) d e before between afterwards opened back (journal, writes, h))
 
-pub shows_path : {T : Type 0} (question : Path → Question) (image text : List ℕ) (path : Path) (outcome : Result T Fault) (before behind : Images) (o w : Option (List ℕ)) → IsPath path × (text ≡ path_text path)
-    → ShowsImage (question path) image outcome before behind o w → ShowsPath question image text outcome before behind o w
-shows_path question image text path outcome before behind o w is h = inr (path, is.0, is.1, h)
+pub shows_path : {T : Type 0} (question : Path → Question) (image text : List ℕ) (path : Path) (outcome : Result T Fault) (before afterwards : Images) (o w : Option (List ℕ)) → IsPath path × (text ≡ path_text path)
+    → ShowsImage (question path) image outcome before afterwards o w → ShowsPath question image text outcome before afterwards o w
+shows_path question image text path outcome before afterwards o w is h = inr (path, is.0, is.1, h)
 
 pub path_unread : {T : Type 0} (question : Path → Question) (image text : List ℕ) (fault : PathFault) (outcome : Result T Fault) (images : Images) (o : Option (List ℕ)) → IsErrAnd outcome (IsPathTold fault)
     → (fault ≡ paths.Path → (path : Path) → IsPath path → text ≡ path_text path → ⊥) → ShowsPath question image text outcome images images o o

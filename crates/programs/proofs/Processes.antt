@@ -4,6 +4,7 @@ use Rattle.std.specs.Prelude.{bytes_eq}
 use Rattle.std.proofs.Math.Seq.{take-append_seam}
 use Rattle.std.proofs.lemmas.Option.{none-some}
 use Rattle.std.proofs.lemmas.List.{append_cancel_left, drop_all, take_all}
+use Rattle.limits.specs.declared.TheConstants.{GREATEST_CAPACITY}
 use Rattle.drive.specs.Journal.{Event, Once, held, next_of, written}
 use Rattle.drive.specs.Writes.{IsLeft}
 use Rattle.request.specs.declared.answer.Answer.{Answer}
@@ -91,9 +92,9 @@ module _ (old new : Images) (honest : IsTrue new.honest) where
 
   did_honest : (process : Process) → Did process old new → IsTrue old.honest
   did_honest (Command task outcome i l o w) h = does_honest task outcome i l o w h
-  did_honest (Daemon image connections before behind) h = h.honest honest
+  did_honest (Daemon image connections before afterwards) h = h.honest honest
   did_honest (CutCommand task i l o w) h = cut_honest task i l o w h
-  did_honest (CutDaemon image before behind) h = h.honest honest
+  did_honest (CutDaemon image before afterwards) h = h.honest honest
 
 all_honest : (processes : List Process) (old new : Images) → IsTrue new.honest → AllDid processes old new → IsTrue old.honest
 all_honest [] old new honest h = untouched_honest old new honest h
@@ -105,13 +106,13 @@ all_honest (process ∷ processes) old new honest (between, did, rest) = did_hon
 record Left (path : List ℕ) (volume : ℕ) (S : State) (before : List Event) (new : Images) (Are : List Life → Type 0) : Type 0 where
   pub lives : List Life
   pub done : List Request
-  pub behind : List Event
+  pub afterwards : List Event
   pub are : Are lives
-  pub cuts : AreCut 450000 volume S before lives done behind
-  pub held_is : new.held path ≡ Some behind
+  pub cuts : AreCut GREATEST_CAPACITY volume S before lives done afterwards
+  pub held_is : new.held path ≡ Some afterwards
 
 -- nothing is lost after a run that no power loss cut off
-advances_none : (volume : ℕ) (T T' : State) (journal : List Event) → Once journal → RecoversTo udf 450000 volume (held journal) T' → Advances udf 450000 volume journal T journal T'
+advances_none : (volume : ℕ) (T T' : State) (journal : List Event) → Once journal → RecoversTo udf GREATEST_CAPACITY volume (held journal) T' → Advances udf GREATEST_CAPACITY volume journal T journal T'
 advances_none volume T T' journal once stands = record {
   front = take_all (length journal) journal (omega arith);
   once = once;
@@ -122,10 +123,10 @@ some_same : (a b : List Event) → Some a ≡ Some b → a ≡ b
 some_same a b e = ap begun e
 
 -- A format finds nothing to write where a state is recovered: nothing is recovered before the last of its blocks.
-module _ (capacity volume : ℕ) (words : Words) (S : State) (before behind : List Event) (blocks : List (List ℕ)) (stands : RecoversTo udf 450000 volume (held before) S) (is : IsFormatOf words blocks) (fronts : HoldsPrefixes capacity words blocks before behind) (front : take (length before) behind ≡ before) where
+module _ (capacity volume : ℕ) (words : Words) (S : State) (before afterwards : List Event) (blocks : List (List ℕ)) (stands : RecoversTo udf GREATEST_CAPACITY volume (held before) S) (is : IsFormatOf words blocks) (fronts : HoldsPrefixes capacity words blocks before afterwards) (front : take (length before) afterwards ≡ before) where
   none_left : drop (next_of before) blocks ≡ []
   none_left = elim (side (next_of before) 262) [
-    | inl low ↦ absurd (fronts.nothing (length before) 450000 volume S (omega arith) (subst (λ (j : List Event). next_of j < 262) (sym front) low) (subst (λ (j : List Event). RecoversTo udf 450000 volume (held j) S) (sym front) stands))
+    | inl low ↦ absurd (fronts.nothing (length before) GREATEST_CAPACITY volume S (omega arith) (subst (λ (j : List Event). next_of j < 262) (sym front) low) (subst (λ (j : List Event). RecoversTo udf GREATEST_CAPACITY volume (held j) S) (sym front) stands))
     | inr most ↦ drop_all (next_of before) blocks (omega (arith, most, format_long words blocks is))
   ]
 
@@ -136,19 +137,19 @@ module _ (capacity volume : ℕ) (words : Words) (S : State) (before behind : Li
   same_with : (m : ℕ) → before ++ written (next_of before) (take m (drop (next_of before) blocks)) ≡ before
   same_with m = ap (λ (bs : List (List ℕ)). before ++ written (next_of before) (take m bs)) none_left ∙ nothing_taken m
 
-module _ (capacity volume : ℕ) (words : Words) (S : State) (before behind : List Event) (honest : Bool) (stands : RecoversTo udf 450000 volume (held before) S) (sure : IsTrue honest) where
-  formatted_same : IsFormatted capacity words before behind honest → behind ≡ before
+module _ (capacity volume : ℕ) (words : Words) (S : State) (before afterwards : List Event) (honest : Bool) (stands : RecoversTo udf GREATEST_CAPACITY volume (held before) S) (sure : IsTrue honest) where
+  formatted_same : IsFormatted capacity words before afterwards honest → afterwards ≡ before
   formatted_same h =
-      let front : take (length before) behind ≡ before = ap (λ (j : List Event). take (length before) j) h.journal ∙ take-append_seam before (written (next_of before) (drop (next_of before) h.blocks)) in
-      h.journal ∙ ap (λ (bs : List (List ℕ)). before ++ written (next_of before) bs) (none_left capacity volume words S before behind h.blocks stands h.is (h.fronts sure) front) ∙ append-nil before
+      let front : take (length before) afterwards ≡ before = ap (λ (j : List Event). take (length before) j) h.journal ∙ take-append_seam before (written (next_of before) (drop (next_of before) h.blocks)) in
+      h.journal ∙ ap (λ (bs : List (List ℕ)). before ++ written (next_of before) bs) (none_left capacity volume words S before afterwards h.blocks stands h.is (h.fronts sure) front) ∙ append-nil before
 
-  cut_same : new_volumes.IsFormatCutShort capacity words before behind honest → behind ≡ before
+  cut_same : new_volumes.IsFormatCutShort capacity words before afterwards honest → afterwards ≡ before
   cut_same h =
       let added : List Event = written (next_of before) (take h.journal.0 (drop (next_of before) h.blocks)) in
-      let front : take (length before) behind ≡ before = ap (λ (j : List Event). take (length before) j) h.journal.2 ∙ take-append_seam before added in
-      h.journal.2 ∙ same_with capacity volume words S before behind h.blocks stands h.is (h.fronts sure) front h.journal.0
+      let front : take (length before) afterwards ≡ before = ap (λ (j : List Event). take (length before) j) h.journal.2 ∙ take-append_seam before added in
+      h.journal.2 ∙ same_with capacity volume words S before afterwards h.blocks stands h.is (h.fronts sure) front h.journal.0
 
-  refused_same : (fault : StoreFault) → IsFormatRefused capacity words before behind honest fault → behind ≡ before
+  refused_same : (fault : StoreFault) → IsFormatRefused capacity words before afterwards honest fault → afterwards ≡ before
   refused_same stores.NotBlank h = h.0
   refused_same stores.Label h = h
   refused_same stores.Small h = h
@@ -164,16 +165,16 @@ module _ (capacity volume : ℕ) (words : Words) (S : State) (before behind : Li
   refused_same stores.IsDirectory h = absurd h
   refused_same stores.NotDirectory h = absurd h
 
-makes_none : {T : Type 0} (label : List ℕ) (moment capacity : ℕ) (outcome : Result T Fault) (before behind : List Event) (honest : Bool) (o w : Option (List ℕ)) (volume : ℕ) (S : State) → RecoversTo udf 450000 volume (held before) S → IsTrue honest
-    → MakesVolume label moment capacity outcome before behind honest o w → behind ≡ before
-makes_none label moment capacity (Ok x) before behind honest o w volume S stands sure h = formatted_same capacity volume (words_on capacity label moment) S before behind honest stands sure h.0
-makes_none label moment capacity (Err Usage) before behind honest o w volume S stands sure h = absurd h
-makes_none label moment capacity (Err Path) before behind honest o w volume S stands sure h = absurd h
-makes_none label moment capacity (Err Socket) before behind honest o w volume S stands sure h = absurd h
-makes_none label moment capacity (Err (Store fault)) before behind honest o w volume S stands sure h = refused_same capacity volume (words_on capacity label moment) S before behind honest stands sure fault h.0
-makes_none label moment capacity (Err (Stream streams.Read)) before behind honest o w volume S stands sure h = absurd h
-makes_none label moment capacity (Err (Stream streams.Write)) before behind honest o w volume S stands sure h = formatted_same capacity volume (words_on capacity label moment) S before behind honest stands sure h.0
-makes_none label moment capacity (Err (Stream streams.Memory)) before behind honest o w volume S stands sure h = absurd h
+makes_none : {T : Type 0} (label : List ℕ) (moment capacity : ℕ) (outcome : Result T Fault) (before afterwards : List Event) (honest : Bool) (o w : Option (List ℕ)) (volume : ℕ) (S : State) → RecoversTo udf GREATEST_CAPACITY volume (held before) S → IsTrue honest
+    → MakesVolume label moment capacity outcome before afterwards honest o w → afterwards ≡ before
+makes_none label moment capacity (Ok x) before afterwards honest o w volume S stands sure h = formatted_same capacity volume (words_on capacity label moment) S before afterwards honest stands sure h.0
+makes_none label moment capacity (Err Usage) before afterwards honest o w volume S stands sure h = absurd h
+makes_none label moment capacity (Err Path) before afterwards honest o w volume S stands sure h = absurd h
+makes_none label moment capacity (Err Socket) before afterwards honest o w volume S stands sure h = absurd h
+makes_none label moment capacity (Err (Store fault)) before afterwards honest o w volume S stands sure h = refused_same capacity volume (words_on capacity label moment) S before afterwards honest stands sure fault h.0
+makes_none label moment capacity (Err (Stream streams.Read)) before afterwards honest o w volume S stands sure h = absurd h
+makes_none label moment capacity (Err (Stream streams.Write)) before afterwards honest o w volume S stands sure h = formatted_same capacity volume (words_on capacity label moment) S before afterwards honest stands sure h.0
+makes_none label moment capacity (Err (Stream streams.Memory)) before afterwards honest o w volume S stands sure h = absurd h
 
 -- a power loss loses nothing of what made no write
 lost_same : (before next : Situation) (lost : List Event) → next.writes ≡ before.writes → IsLost before next lost → lost ≡ before.journal
@@ -183,25 +184,25 @@ lost_same before next lost same l =
     l.lost_is ∙ ap (λ (bs : List (List ℕ)). before.journal ++ written (length before.journal) bs) empty ∙ append-nil before.journal
 
 -- a format makes none where a state stands
-format_lost : (label : List ℕ) (moment capacity : ℕ) (before next : Situation) (lost : List Event) (volume : ℕ) (S : State) → RecoversTo udf 450000 volume (held before.journal) S → IsTrue next.honest
+format_lost : (label : List ℕ) (moment capacity : ℕ) (before next : Situation) (lost : List Event) (volume : ℕ) (S : State) → RecoversTo udf GREATEST_CAPACITY volume (held before.journal) S → IsTrue next.honest
     → LosesFormat label moment capacity before next lost → lost ≡ before.journal
 format_lost label moment capacity before next lost volume S stands sure (survives, loses) = elim survives.torn [
   | inl none ↦ lost_same before next lost (survives.writes_are ∙ ap (λ (ws : List (List (List ℕ))). before.writes ++ ws) none ∙ append-nil before.writes) loses
-  | inr torn ↦ absurd ((torn sure).0 450000 volume S stands)
+  | inr torn ↦ absurd ((torn sure).0 GREATEST_CAPACITY volume S stands)
 ]
 
 -- the messages of an input that were answered, on an image where a state is recovered
-record Run (volume : ℕ) (S : State) (before behind : List Event) (Are : List Message → List Answer → Type 0) : Type 0 where
+record Run (volume : ℕ) (S : State) (before afterwards : List Event) (Are : List Message → List Answer → Type 0) : Type 0 where
   pub messages : List Message
   pub answers : List Answer
   pub are : Are messages answers
-  pub holds : HoldsOnJournal udf (need spelled) 450000 volume S before behind (brought messages) (model_answers answers)
+  pub holds : HoldsOnJournal udf (need spelled) GREATEST_CAPACITY volume S before afterwards (brought messages) (model_answers answers)
 
-module _ (volume : ℕ) (S : State) (J : List Event) (once : Once J) (stands : RecoversTo udf 450000 volume (held J) S) (last : Situation) (honest : IsTrue last.honest) where
-  at_start : HoldsState volume S (situation None J 0 450000 true [])
-  at_start = (runs_begin volume S J 0 450000 true [] once stands).0
+module _ (volume : ℕ) (S : State) (J : List Event) (once : Once J) (stands : RecoversTo udf GREATEST_CAPACITY volume (held J) S) (last : Situation) (honest : IsTrue last.honest) where
+  at_start : HoldsState volume S (situation None J 0 GREATEST_CAPACITY true [])
+  at_start = (runs_begin volume S J 0 GREATEST_CAPACITY true [] once stands).0
 
-  applies_run : {T : Type 0} (outcome : Result T Fault) (i l o w : Option (List ℕ)) → AppliesStream outcome (situation None J 0 450000 true []) last i l o w → Run volume S J last.journal (AnswersInput i l o w)
+  applies_run : {T : Type 0} (outcome : Result T Fault) (i l o w : Option (List ℕ)) → AppliesStream outcome (situation None J 0 GREATEST_CAPACITY true []) last i l o w → Run volume S J last.journal (AnswersInput i l o w)
   applies_run (Ok x) i l o w (kept, h) = record {
     messages = h.serving.messages;
     answers = h.serving.answers;
@@ -231,43 +232,43 @@ module _ (volume : ℕ) (S : State) (J : List Event) (once : Once J) (stands : R
     holds = h.some.holds volume S honest at_start;
   }
 
-module _ (path : List ℕ) (volume : ℕ) (S : State) (J : List Event) (once : Once J) (stands : RecoversTo udf 450000 volume (held J) S) (old new : Images) (honest : IsTrue new.honest) (there : old.held path ≡ Some J) where
+module _ (path : List ℕ) (volume : ℕ) (S : State) (J : List Event) (once : Once J) (stands : RecoversTo udf GREATEST_CAPACITY volume (held J) S) (old new : Images) (honest : IsTrue new.honest) (there : old.held path ≡ Some J) where
   stays : (Are : List Life → Type 0) → new.held path ≡ Some J → Are [] → Left path volume S J new Are
-  stays Are same are = record { lives = []; done = []; behind = J; are = are; cuts = (refl, refl); held_is = same }
+  stays Are same are = record { lives = []; done = []; afterwards = J; are = are; cuts = (refl, refl); held_is = same }
 
   untouched_stays : (Are : List Life → Type 0) → AreUntouched old new → Are [] → Left path volume S J new Are
   untouched_stays Are h are = stays Are (h.same path ∙ there) are
 
-  cut_off : (Are : List Life → Type 0) (life : Life) (K : List Event) → IsRunCutShort 450000 volume S J life K → new.held path ≡ Some K → Are (life ∷ []) → Left path volume S J new Are
+  cut_off : (Are : List Life → Type 0) (life : Life) (K : List Event) → IsRunCutShort GREATEST_CAPACITY volume S J life K → new.held path ≡ Some K → Are (life ∷ []) → Left path volume S J new Are
   cut_off Are life K cut held_is are =
-      record { lives = life ∷ []; done = (cut.run.holds.committed ++ life.under) ++ []; behind = K; are = are; cuts = (K, cut, [], refl, (refl, refl)); held_is = held_is }
+      record { lives = life ∷ []; done = (cut.run.holds.committed ++ life.under) ++ []; afterwards = K; are = are; cuts = (K, cut, [], refl, (refl, refl)); held_is = held_is }
 
-  ran : (Are : List Life → Type 0) (messages : List Message) (answers : List Answer) (K : List Event) → HoldsOnJournal udf (need spelled) 450000 volume S J K (brought messages) (model_answers answers) → new.held path ≡ Some K
+  ran : (Are : List Life → Type 0) (messages : List Message) (answers : List Answer) (K : List Event) → HoldsOnJournal udf (need spelled) GREATEST_CAPACITY volume S J K (brought messages) (model_answers answers) → new.held path ≡ Some K
       → Are (life_of messages answers ∷ []) → Left path volume S J new Are
   ran Are messages answers K run held_is are =
       let committed : List Request = run.holds.committed in
-      let ends : RecoversTo udf 450000 volume (held K) (after S committed) = held_stands volume 450000 (brought messages) S J K (model_answers answers) run in
-      let cut : IsRunCutShort 450000 volume S J (life_of messages answers) K = record {
+      let ends : RecoversTo udf GREATEST_CAPACITY volume (held K) (after S committed) = held_stands volume GREATEST_CAPACITY (brought messages) S J K (model_answers answers) run in
+      let cut : IsRunCutShort GREATEST_CAPACITY volume S J (life_of messages answers) K = record {
         during = K;
         run = run;
         few = inl refl;
-        advances = advances_none volume (after S committed) (after S (committed ++ [])) K run.once (subst (λ (D : List Request). RecoversTo udf 450000 volume (held K) (after S D)) (sym (append-nil committed)) ends);
+        advances = advances_none volume (after S committed) (after S (committed ++ [])) K run.once (subst (λ (D : List Request). RecoversTo udf GREATEST_CAPACITY volume (held K) (after S D)) (sym (append-nil committed)) ends);
       } in
       cut_off Are (life_of messages answers) K cut held_is are
 
   -- the power was lost while messages were answered
-  lost_serving : (Are : List Life → Type 0) (messages : List Message) (answers : List Answer) (last : Situation) (all : AllAnswered messages (situation None J 0 450000 true []) answers last) → IsTrue last.honest
-      → ServedHolds messages (situation None J 0 450000 true []) answers last → ServedWithstands messages (situation None J 0 450000 true []) answers last all
-      → (lost : List Event) → LosesServing messages (situation None J 0 450000 true []) answers last all lost → new.held path ≡ Some lost
+  lost_serving : (Are : List Life → Type 0) (messages : List Message) (answers : List Answer) (last : Situation) (all : AllAnswered messages (situation None J 0 GREATEST_CAPACITY true []) answers last) → IsTrue last.honest
+      → ServedHolds messages (situation None J 0 GREATEST_CAPACITY true []) answers last → ServedWithstands messages (situation None J 0 GREATEST_CAPACITY true []) answers last all
+      → (lost : List Event) → LosesServing messages (situation None J 0 GREATEST_CAPACITY true []) answers last all lost → new.held path ≡ Some lost
       → ((life : Life) → IsLifeCut messages answers life → Are (life ∷ [])) → Left path volume S J new Are
   lost_serving Are messages answers last all sure holds withstands lost (inl same) held_is are =
-      ran Are messages answers lost (subst (λ (K : List Event). HoldsOnJournal udf (need spelled) 450000 volume S J K (brought messages) (model_answers answers)) (sym same) (holds volume S sure (at_start volume S J once stands last sure))) held_is
+      ran Are messages answers lost (subst (λ (K : List Event). HoldsOnJournal udf (need spelled) GREATEST_CAPACITY volume S J K (brought messages) (model_answers answers)) (sym same) (holds volume S sure (at_start volume S J once stands last sure))) held_is
       (are (life_of messages answers) (inl refl))
   lost_serving Are messages answers last all sure holds withstands lost (inr loses) held_is are =
-      let start : Situation = situation None J 0 450000 true [] in
+      let start : Situation = situation None J 0 GREATEST_CAPACITY true [] in
       let at : HoldsState volume S start = at_start volume S J once stands last sure in
       let each = withstands volume S sure at in
-      let c : IsStreamCut 450000 volume S J messages answers lost = served_reach volume messages S start answers last at all each.0 each.1 lost loses in
+      let c : IsStreamCut GREATEST_CAPACITY volume S J messages answers lost = served_reach volume messages S start answers last at all each.0 each.1 lost loses in
       let life : Life = record { said = brought c.done; answers = model_answers c.given; under = c.under } in
       cut_off Are life lost c.cut held_is (are life (inr (record {
         done = c.done;
@@ -333,7 +334,7 @@ module _ (path : List ℕ) (volume : ℕ) (S : State) (J : List Event) (once : O
 
   shown : {T : Type 0} (question : Question) (image : List ℕ) (outcome : Result T Fault) (o w : Option (List ℕ)) (Are : List Life → Type 0) → ShowsImage question image outcome old new o w → Are [] → Left path volume S J new Are
   shown question image outcome o w Are (inl h) are = untouched_stays Are h.untouched are
-  shown question image outcome o w Are (inr h) are = quiet IsThere same_there 450000 image (λ first last. (last.journal ≡ first.journal) × (last.writes ≡ first.writes) × PrintsAnswer question outcome first.capacity first.journal last.honest o w) h Are (λ did. did.0) are
+  shown question image outcome o w Are (inr h) are = quiet IsThere same_there GREATEST_CAPACITY image (λ first last. (last.journal ≡ first.journal) × (last.writes ≡ first.writes) × PrintsAnswer question outcome first.capacity first.journal last.honest o w) h Are (λ did. did.0) are
 
   shown_at : {T : Type 0} (question : tree.Path → Question) (image text : List ℕ) (outcome : Result T Fault) (o w : Option (List ℕ)) (Are : List Life → Type 0) → ShowsPath question image text outcome old new o w → Are [] → Left path volume S J new Are
   shown_at question image text outcome o w Are (inl h) are = untouched_stays Are h.1 are
@@ -349,7 +350,7 @@ module _ (path : List ℕ) (volume : ℕ) (S : State) (J : List Event) (once : O
   made : {T : Type 0} (image label : List ℕ) (moment capacity : ℕ) (outcome : Result T Fault) (o w : Option (List ℕ)) (Are : List Life → Type 0) → MakesOnImage image label moment capacity outcome old new o w → Are [] → Left path volume S J new Are
   made image label moment capacity outcome o w Are (inl h) are = stays Are (made_none image h.made.same) are
   made image label moment capacity outcome o w Are (inr h) are =
-      quiet IsThereOrMade same_made capacity image (λ first last. MakesOn label moment capacity outcome first last o w) h Are
+      quiet IsThereOrMade same_made capacity image (λ first last. MakesOn label moment capacity outcome first last (new.looked image) o w) h Are
       (λ did. elim did [ inl unbegun ↦ unbegun.journal | inr makes ↦ makes_none label moment capacity outcome J h.last.journal h.last.honest o w volume S stands (h.drive_honest honest) makes.1 ]) are
 
   applied : {T : Type 0} (image : List ℕ) (outcome : Result T Fault) (i l o w : Option (List ℕ)) (Are : List Life → Type 0) → AppliesToImage image outcome old new i l o w → (Unopened outcome old new o w → Are []) → ((path ≡ image → ⊥) → Are [])
@@ -357,48 +358,48 @@ module _ (path : List ℕ) (volume : ℕ) (S : State) (J : List Event) (once : O
   applied image outcome i l o w Are (inl (h, same)) unopened apart here = untouched_stays Are h.untouched (unopened h)
   applied image outcome i l o w Are (inr h) unopened apart here = elim (bytes_cases path image) [
     | inl is ↦ (
-        let run = applies_run volume S J once stands h.last (h.drive_honest honest) outcome i l o w (did_here IsThere same_there 450000 image (λ first last. AppliesStream outcome first last i l o w) h is.1) in
-        ran Are run.messages run.answers h.last.journal run.holds (left_here IsThere same_there 450000 image (λ first last. AppliesStream outcome first last i l o w) h is.1) (here is.1 run.messages run.answers run.are)
+        let run = applies_run volume S J once stands h.last (h.drive_honest honest) outcome i l o w (did_here IsThere same_there GREATEST_CAPACITY image (λ first last. AppliesStream outcome first last i l o w) h is.1) in
+        ran Are run.messages run.answers h.last.journal run.holds (left_here IsThere same_there GREATEST_CAPACITY image (λ first last. AppliesStream outcome first last i l o w) h is.1) (here is.1 run.messages run.answers run.are)
         )
-    | inr other ↦ stays Are (elsewhere IsThere same_there 450000 image (λ first last. AppliesStream outcome first last i l o w) h other.0) (apart other.1)
+    | inr other ↦ stays Are (elsewhere IsThere same_there GREATEST_CAPACITY image (λ first last. AppliesStream outcome first last i l o w) h other.0) (apart other.1)
   ]
 
-  served : (image : List ℕ) (connections : ℕ) (before behind : Heard) → OnMedia IsThere 450000 image (ServesEach connections before behind) old new → Left path volume S J new (Ran path (Daemon image connections before behind))
-  served image connections before behind h = elim (bytes_cases path image) [
+  served : (image : List ℕ) (connections : ℕ) (before afterwards : Heard) → OnMedia IsThere GREATEST_CAPACITY image (ServesEach connections before afterwards) old new → Left path volume S J new (Ran path (Daemon image connections before afterwards))
+  served image connections before afterwards h = elim (bytes_cases path image) [
     | inl is ↦ (
-        let did : ServesEach connections before behind (situation None J 0 450000 true []) h.last = did_here IsThere same_there 450000 image (ServesEach connections before behind) h is.1 in
-        ran (Ran path (Daemon image connections before behind)) did.run.messages did.run.answers h.last.journal (did.run.holds volume S (h.drive_honest honest) (at_start volume S J once stands h.last (h.drive_honest honest)))
-        (left_here IsThere same_there 450000 image (ServesEach connections before behind) h is.1)
+        let did : ServesEach connections before afterwards (situation None J 0 GREATEST_CAPACITY true []) h.last = did_here IsThere same_there GREATEST_CAPACITY image (ServesEach connections before afterwards) h is.1 in
+        ran (Ran path (Daemon image connections before afterwards)) did.run.messages did.run.answers h.last.journal (did.run.holds volume S (h.drive_honest honest) (at_start volume S J once stands h.last (h.drive_honest honest)))
+        (left_here IsThere same_there GREATEST_CAPACITY image (ServesEach connections before afterwards) h is.1)
         (inr (is.1, (did.run.messages, did.run.answers, record { inputs = did.inputs; outputs = did.outputs; given = did.given; ended = did.ended; heard = did.run.heard }, life_of did.run.messages did.run.answers, refl, refl)))
         )
-    | inr other ↦ stays (Ran path (Daemon image connections before behind)) (elsewhere IsThere same_there 450000 image (ServesEach connections before behind) h other.0) (inl (refl, other.1))
+    | inr other ↦ stays (Ran path (Daemon image connections before afterwards)) (elsewhere IsThere same_there GREATEST_CAPACITY image (ServesEach connections before afterwards) h other.0) (inl (refl, other.1))
   ]
 
-  cut_served : (image : List ℕ) (before behind : Heard) → CutOnMedia IsThere 450000 image (LosesDaemon before behind) old new → Left path volume S J new (Ran path (CutDaemon image before behind))
-  cut_served image before behind h = elim (bytes_cases path image) [
+  cut_served : (image : List ℕ) (before afterwards : Heard) → CutOnMedia IsThere GREATEST_CAPACITY image (LosesDaemon before afterwards) old new → Left path volume S J new (Ran path (CutDaemon image before afterwards))
+  cut_served image before afterwards h = elim (bytes_cases path image) [
     | inl is ↦ (
-        let did : LosesDaemon before behind (situation None J 0 450000 true []) h.last h.lost = loses_here IsThere same_there 450000 image (LosesDaemon before behind) h is.1 in
-        lost_serving (Ran path (CutDaemon image before behind)) did.run.messages did.run.answers (with_store did.kept h.last) did.run.answered (h.drive_honest honest) did.run.holds did.run.withstands h.lost did.loses
-        (lost_here IsThere same_there 450000 image (LosesDaemon before behind) h is.1)
+        let did : LosesDaemon before afterwards (situation None J 0 GREATEST_CAPACITY true []) h.last h.lost = loses_here IsThere same_there GREATEST_CAPACITY image (LosesDaemon before afterwards) h is.1 in
+        lost_serving (Ran path (CutDaemon image before afterwards)) did.run.messages did.run.answers (with_store did.kept h.last) did.run.answered (h.drive_honest honest) did.run.holds did.run.withstands h.lost did.loses
+        (lost_here IsThere same_there GREATEST_CAPACITY image (LosesDaemon before afterwards) h is.1)
         (λ life cut. inr (is.1, (did.run.messages, did.run.answers, record { inputs = did.inputs; outputs = did.outputs; given = did.given; ended = did.ended; heard = did.run.heard }, life, cut, refl)))
         )
-    | inr other ↦ stays (Ran path (CutDaemon image before behind)) (lost_elsewhere IsThere same_there 450000 image (LosesDaemon before behind) h other.0) (inl (refl, other.1))
+    | inr other ↦ stays (Ran path (CutDaemon image before afterwards)) (lost_elsewhere IsThere same_there GREATEST_CAPACITY image (LosesDaemon before afterwards) h other.0) (inl (refl, other.1))
   ]
 
-  cut_applied : (image : List ℕ) (i l o w : Option (List ℕ)) → CutOnMedia IsThere 450000 image (LosesApply i l o w) old new → Left path volume S J new (RanUntil path (Apply_to_image image) i l o w)
+  cut_applied : (image : List ℕ) (i l o w : Option (List ℕ)) → CutOnMedia IsThere GREATEST_CAPACITY image (LosesApply i l o w) old new → Left path volume S J new (RanUntil path (Apply_to_image image) i l o w)
   cut_applied image i l o w h = elim (bytes_cases path image) [
     | inl is ↦ (
-        let did : LosesApply i l o w (situation None J 0 450000 true []) h.last h.lost = loses_here IsThere same_there 450000 image (LosesApply i l o w) h is.1 in
+        let did : LosesApply i l o w (situation None J 0 GREATEST_CAPACITY true []) h.last h.lost = loses_here IsThere same_there GREATEST_CAPACITY image (LosesApply i l o w) h is.1 in
         let some = did.serves in
         lost_serving (RanUntil path (Apply_to_image image) i l o w) some.messages some.answers (with_store did.kept h.last) some.answered (h.drive_honest honest) some.holds some.withstands h.lost did.loses
-        (lost_here IsThere same_there 450000 image (LosesApply i l o w) h is.1)
+        (lost_here IsThere same_there GREATEST_CAPACITY image (LosesApply i l o w) h is.1)
         (λ life cut. inr (is.1, (some.messages, some.answers, record { bytes = some.bytes; reader = some.reader; consumed = some.consumed; messages_are = some.messages_are; front = some.front }, life, cut, refl)))
         )
-    | inr other ↦ stays (RanUntil path (Apply_to_image image) i l o w) (lost_elsewhere IsThere same_there 450000 image (LosesApply i l o w) h other.0) (inl (refl, other.1))
+    | inr other ↦ stays (RanUntil path (Apply_to_image image) i l o w) (lost_elsewhere IsThere same_there GREATEST_CAPACITY image (LosesApply i l o w) h other.0) (inl (refl, other.1))
   ]
 
-  cut_reading : (image : List ℕ) (Are : List Life → Type 0) → CutOnMedia IsThere 450000 image LosesReading old new → Are [] → Left path volume S J new Are
-  cut_reading image Are h are = lost_quiet IsThere same_there 450000 image LosesReading h Are (λ loses. lost_same (situation None J 0 450000 true []) h.last h.lost loses.0 loses.1) are
+  cut_reading : (image : List ℕ) (Are : List Life → Type 0) → CutOnMedia IsThere GREATEST_CAPACITY image LosesReading old new → Are [] → Left path volume S J new Are
+  cut_reading image Are h are = lost_quiet IsThere same_there GREATEST_CAPACITY image LosesReading h Are (λ loses. lost_same (situation None J 0 GREATEST_CAPACITY true []) h.last h.lost loses.0 loses.1) are
 
   cut_does : (task : Task) (i l o w : Option (List ℕ)) → IsTaskCut task old new i l o w → Left path volume S J new (RanUntil path task i l o w)
   cut_does (Format image label moment capacity) i l o w h =
@@ -426,40 +427,40 @@ module _ (path : List ℕ) (volume : ℕ) (S : State) (J : List Event) (once : O
 
   did : (process : Process) → Did process old new → Left path volume S J new (Ran path process)
   did (Command task outcome i l o w) h = does task outcome i l o w h
-  did (Daemon image connections before behind) h = served image connections before behind h
+  did (Daemon image connections before afterwards) h = served image connections before afterwards h
   did (CutCommand task i l o w) h = cut_does task i l o w h
-  did (CutDaemon image before behind) h = cut_served image before behind h
+  did (CutDaemon image before afterwards) h = cut_served image before afterwards h
 
 -- ---- one process after another
 
-cut_append : (volume : ℕ) (first second : List Life) (S : State) (before between behind : List Event) (done more : List Request) → AreCut 450000 volume S before first done between → AreCut 450000 volume (after S done) between second more behind
-    → AreCut 450000 volume S before (first ++ second) (done ++ more) behind
-cut_append volume [] second S before between behind done more (none, same) s =
-    let at : AreCut 450000 volume S between second more behind = subst (λ (D : List Request). AreCut 450000 volume (after S D) between second more behind) none s in
-    subst (λ (D : List Request). AreCut 450000 volume S before second (D ++ more) behind) (sym none) (subst (λ (j : List Event). AreCut 450000 volume S j second more behind) same at)
-cut_append volume (life ∷ first) second S before between behind done more (next, cut, rest, order, others) s =
+cut_append : (volume : ℕ) (first second : List Life) (S : State) (before between afterwards : List Event) (done more : List Request) → AreCut GREATEST_CAPACITY volume S before first done between → AreCut GREATEST_CAPACITY volume (after S done) between second more afterwards
+    → AreCut GREATEST_CAPACITY volume S before (first ++ second) (done ++ more) afterwards
+cut_append volume [] second S before between afterwards done more (none, same) s =
+    let at : AreCut GREATEST_CAPACITY volume S between second more afterwards = subst (λ (D : List Request). AreCut GREATEST_CAPACITY volume (after S D) between second more afterwards) none s in
+    subst (λ (D : List Request). AreCut GREATEST_CAPACITY volume S before second (D ++ more) afterwards) (sym none) (subst (λ (j : List Event). AreCut GREATEST_CAPACITY volume S j second more afterwards) same at)
+cut_append volume (life ∷ first) second S before between afterwards done more (next, cut, rest, order, others) s =
     let now : List Request = cut.run.holds.committed ++ life.under in
     let state : after S done ≡ after (after S now) rest = ap (λ (D : List Request). after S D) order ∙ after-append now rest S in (
       next,
       cut,
       rest ++ more,
       ap (λ (D : List Request). D ++ more) order ∙ append_assoc now rest more,
-      cut_append volume first second (after S now) next between behind rest more others (subst (λ (T : State). AreCut 450000 volume T between second more behind) state s),
+      cut_append volume first second (after S now) next between afterwards rest more others (subst (λ (T : State). AreCut GREATEST_CAPACITY volume T between second more afterwards) state s),
     )
 
-all_did : (path : List ℕ) (processes : List Process) (old new : Images) (volume : ℕ) (S : State) (before : List Event) → IsTrue new.honest → AllDid processes old new → old.held path ≡ Some before → Once before → RecoversTo udf 450000 volume (held before) S
+all_did : (path : List ℕ) (processes : List Process) (old new : Images) (volume : ℕ) (S : State) (before : List Event) → IsTrue new.honest → AllDid processes old new → old.held path ≡ Some before → Once before → RecoversTo udf GREATEST_CAPACITY volume (held before) S
     → Left path volume S before new (AllRan path processes)
 all_did path [] old new volume S before honest h there once stands = untouched_stays path volume S before once stands old new honest there (AllRan path []) h refl
 all_did path (process ∷ processes) old new volume S before honest (between, first, rest) there once stands =
     let one = did path volume S before once stands old between (all_honest processes between new honest rest) there process first in
-    let survives : Survives 450000 volume S before one.done one.behind = losses_reach 450000 volume S before one.lives one.done one.behind once stands one.cuts in
-    let more = all_did path processes between new volume (after S one.done) one.behind honest rest one.held_is survives.once survives.stands in
+    let survives : Survives GREATEST_CAPACITY volume S before one.done one.afterwards = losses_reach GREATEST_CAPACITY volume S before one.lives one.done one.afterwards once stands one.cuts in
+    let more = all_did path processes between new volume (after S one.done) one.afterwards honest rest one.held_is survives.once survives.stands in
     record {
       lives = one.lives ++ more.lives;
       done = one.done ++ more.done;
-      behind = more.behind;
+      afterwards = more.afterwards;
       are = (one.lives, more.lives, refl, one.are, more.are);
-      cuts = cut_append volume one.lives more.lives S before one.behind more.behind one.done more.done one.cuts more.cuts;
+      cuts = cut_append volume one.lives more.lives S before one.afterwards more.afterwards one.done more.done one.cuts more.cuts;
       held_is = more.held_is;
     }
 
@@ -469,9 +470,9 @@ processes_are_runs path processes old new volume S before honest h there once st
     record {
       lives = all.lives;
       done = all.done;
-      behind = all.behind;
+      afterwards = all.afterwards;
       ran = all.are;
       cuts = all.cuts;
       held_is = all.held_is;
-      survives = losses_reach 450000 volume S before all.lives all.done all.behind once stands all.cuts;
+      survives = losses_reach GREATEST_CAPACITY volume S before all.lives all.done all.afterwards once stands all.cuts;
     }

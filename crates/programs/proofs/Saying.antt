@@ -51,23 +51,23 @@ module _ (name : List ℕ) (fault : Fault) (a b c : Option (List ℕ)) where
   abbrev Placed : List ℕ
   Placed = Told ++ damage_text (fault_damage fault)
 
-  behind_told : PutsPrefix a c Told → PutsPrefix a c (fault_line name fault)
-  behind_told h = front_longer a c Placed (codes "\n") (front_longer a c Told (damage_text (fault_damage fault)) h)
+  after_told : PutsPrefix a c Told → PutsPrefix a c (fault_line name fault)
+  after_told h = front_longer a c Placed (codes "\n") (front_longer a c Told (damage_text (fault_damage fault)) h)
 
-  behind_named : PutsPrefix a c Named → PutsPrefix a c (fault_line name fault)
-  behind_named h = behind_told (front_longer a c Named (fault_name fault) h)
+  after_named : PutsPrefix a c Named → PutsPrefix a c (fault_line name fault)
+  after_named h = after_told (front_longer a c Named (fault_name fault) h)
 
   pub cut_name : (n : List ℕ) → n ≡ name → PutsPrefix a c n → PutsPrefix a c (fault_line name fault)
-  cut_name n e h = behind_named (front_longer a c name (codes ": ") (same_front a c n name e h))
+  cut_name n e h = after_named (front_longer a c name (codes ": ") (same_front a c n name e h))
 
   pub cut_colon : (n : List ℕ) → n ≡ name → Appends a b n → PutsPrefix b c (codes ": ") → PutsPrefix a c (fault_line name fault)
-  cut_colon n e first h = behind_named (then_front a b c name (codes ": ") (same_text a b n name e first) h)
+  cut_colon n e first h = after_named (then_front a b c name (codes ": ") (same_text a b n name e first) h)
 
   pub named : (n : List ℕ) → n ≡ name → Appends a b n → Appends b c (codes ": ") → Appends a c Named
   named n e first h = appends_more a b c name (codes ": ") (same_text a b n name e first) h
 
   pub cut_fault : (m : List ℕ) → m ≡ fault_name fault → Appends a b Named → PutsPrefix b c m → PutsPrefix a c (fault_line name fault)
-  cut_fault m e first h = behind_told (then_front a b c Named (fault_name fault) first (same_front b c m (fault_name fault) e h))
+  cut_fault m e first h = after_told (then_front a b c Named (fault_name fault) first (same_front b c m (fault_name fault) e h))
 
   pub told : (m : List ℕ) → m ≡ fault_name fault → Appends a b Named → Appends b c m → Appends a c Told
   told m e first h = appends_more a b c Named (fault_name fault) first (same_text b c m (fault_name fault) e h)
@@ -93,14 +93,14 @@ module _ (block cause : ℕ) (a b c : Option (List ℕ)) where
   abbrev By : List ℕ
   By = At ++ codes " cause "
 
-  behind_at : PutsPrefix a c At → PutsPrefix a c (place_text block cause)
-  behind_at h = front_longer a c By (decimal cause) (front_longer a c At (codes " cause ") h)
+  after_at : PutsPrefix a c At → PutsPrefix a c (place_text block cause)
+  after_at h = front_longer a c By (decimal cause) (front_longer a c At (codes " cause ") h)
 
   pub cut_block : PutsPrefix a c (codes " block ") → PutsPrefix a c (place_text block cause)
-  cut_block h = behind_at (front_longer a c (codes " block ") (decimal block) h)
+  cut_block h = after_at (front_longer a c (codes " block ") (decimal block) h)
 
   pub cut_at : (m : List ℕ) → m ≡ decimal block → Appends a b (codes " block ") → PutsPrefix b c m → PutsPrefix a c (place_text block cause)
-  cut_at m e first h = behind_at (then_front a b c (codes " block ") (decimal block) first (same_front b c m (decimal block) e h))
+  cut_at m e first h = after_at (then_front a b c (codes " block ") (decimal block) first (same_front b c m (decimal block) e h))
 
   pub said_at : (m : List ℕ) → m ≡ decimal block → Appends a b (codes " block ") → Appends b c m → Appends a c At
   said_at m e first h = appends_more a b c (codes " block ") (decimal block) first (same_text b c m (decimal block) e h)

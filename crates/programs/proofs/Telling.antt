@@ -1,6 +1,7 @@
 -- What a program said in the end, by its outcome.
 use Rattle.std.proofs.Common.{◌≡◌, ℕ, ◌≤◌, List, [], ◌∷◌, ◌++◌, codes, Option, None, Result, Ok, Err, refl, sym, ◌∙◌, subst, inl, inr, arith}
 use Rattle.std.specs.Prelude.{IfErr, IsErrAnd, OnErr, OnOk}
+use Rattle.limits.specs.declared.TheConstants.{GREATEST_CAPACITY}
 use Rattle.drive.specs.declared.Drive.{Ghosts}
 use Rattle.command_line.specs.declared.daemon.DaemonWords.{DaemonWords}
 use Rattle.command_line.specs.declared.daemon.WordsFault.{WordsFault}
@@ -79,18 +80,18 @@ told_refusal words status old new e f h = inr (words, h)
 -- ---- on the image of a daemon
 
 -- the socket cannot be had
-pub serves_unheard : {T D : Type 0} (drive : Ghosts D) (image : List ℕ) (Did : Situation → Situation → Type 0) (outcome : Result T Fault) (d e : D) (before between behind : Images) → IsOpened drive IsThere 450000 image d before between
-    → IsPutBack drive image e between behind → IfErr outcome (λ fault. fault ≡ Socket) → OnErr outcome (IsUnchanged (situation_on drive None d) (situation_on drive None e)) → OnOk outcome (Did (situation_on drive None d) (situation_on drive None e))
-    → ServesImage image Did outcome before behind
-serves_unheard drive image Did (Ok x) d e before between behind opened back refused unchanged run = on_media drive IsThere 450000 image Did d e before between behind opened back run
-serves_unheard {T} drive image Did (Err fault) d e before between behind opened back refused unchanged run =
-    subst (λ (f : Fault). ServesImage {T = T} image Did (Err f) before behind) (sym refused) (on_media drive IsThere 450000 image IsUnchanged d e before between behind opened back unchanged)
+pub serves_unheard : {T D : Type 0} (drive : Ghosts D) (image : List ℕ) (Did : Situation → Situation → Type 0) (outcome : Result T Fault) (d e : D) (before between afterwards : Images) → IsOpened drive IsThere GREATEST_CAPACITY image d before between
+    → IsPutBack drive image e between afterwards → IfErr outcome (λ fault. fault ≡ Socket) → OnErr outcome (IsUnchanged (situation_on drive None d) (situation_on drive None e)) → OnOk outcome (Did (situation_on drive None d) (situation_on drive None e))
+    → ServesImage image Did outcome before afterwards
+serves_unheard drive image Did (Ok x) d e before between afterwards opened back refused unchanged run = on_media drive IsThere GREATEST_CAPACITY image Did d e before between afterwards opened back run
+serves_unheard {T} drive image Did (Err fault) d e before between afterwards opened back refused unchanged run =
+    subst (λ (f : Fault). ServesImage {T = T} image Did (Err f) before afterwards) (sym refused) (on_media drive IsThere GREATEST_CAPACITY image IsUnchanged d e before between afterwards opened back unchanged)
 
 -- the image cannot
-pub serves_unopened : {T : Type 0} (image : List ℕ) (Did : Situation → Situation → Type 0) (outcome : Result T Fault) (fault : Fault) (before behind : Images) → IsErrAnd outcome (λ f. f ≡ fault) → fault ≡ Store stores.Device → AreUntouched before behind
-    → ServesImage image Did outcome before behind
-serves_unopened {T} image Did (Ok x) fault before behind is device same = absurd is
-serves_unopened {T} image Did (Err f) fault before behind is device same = subst (λ (g : Fault). ServesImage {T = T} image Did (Err g) before behind) (sym (is ∙ device)) (same, refl)
+pub serves_unopened : {T : Type 0} (image : List ℕ) (Did : Situation → Situation → Type 0) (outcome : Result T Fault) (fault : Fault) (before afterwards : Images) → IsErrAnd outcome (λ f. f ≡ fault) → fault ≡ Store stores.Device → AreUntouched before afterwards
+    → ServesImage image Did outcome before afterwards
+serves_unopened {T} image Did (Ok x) fault before afterwards is device same = absurd is
+serves_unopened {T} image Did (Err f) fault before afterwards is device same = subst (λ (g : Fault). ServesImage {T = T} image Did (Err g) before afterwards) (sym (is ∙ device)) (same, refl)
 
 -- a fault was said before anything was begun
 pub told_early : (name : List ℕ) (status : ℕ) (fault : Fault) (e d f : Option (List ℕ)) → IsEarly fault → d ≡ e → status ≡ fault_status fault → Reports {T = Unit {0}} name (Err fault) d f → ReportsEarly name status e f
@@ -112,12 +113,12 @@ at_most_two (Err (Stream fault)) = omega arith
 
 -- ---- what a daemon says of its connections
 
-leaving : (fault : Fault) (before behind : Situation) → LeavesConnection fault before behind → IsLeaving fault
-leaving Usage before behind h = h
-leaving Path before behind h = h
-leaving Socket before behind h = tt
-leaving (Store fault) before behind h = h.0
-leaving (Stream fault) before behind h = tt
+leaving : (fault : Fault) (before afterwards : Situation) → LeavesConnection fault before afterwards → IsLeaving fault
+leaving Usage before afterwards h = h
+leaving Path before afterwards h = h
+leaving Socket before afterwards h = tt
+leaving (Store fault) before afterwards h = h.0
+leaving (Stream fault) before afterwards h = tt
 
 pub says_none : (e : Option (List ℕ)) → ReportsFaults e e
 says_none e = record { faults = []; lines = refl }
@@ -127,16 +128,16 @@ pub says_unconnected : (e f : Option (List ℕ)) → Reports {T = Unit {0}} (cod
 says_unconnected e f reports = record { faults = Socket ∷ []; lines = (e, refl, tt, reports) }
 
 -- and then why one was left, where it was
-pub says_left : {T : Type 0} (served : Result T Fault) (before behind : Situation) (e d f : Option (List ℕ)) → IfErr served (λ fault. LeavesConnection fault before behind) → ReportsFaults e d → Reports (codes "udfburnd") served d f → ReportsFaults e f
-says_left (Ok x) before behind e d f left says reports = subst (λ (y : Option (List ℕ)). ReportsFaults e y) (sym reports) says
-says_left (Err fault) before behind e d f left says reports = record { faults = fault ∷ says.faults; lines = (d, says.lines, leaving fault before behind left, reports) }
+pub says_left : {T : Type 0} (served : Result T Fault) (before afterwards : Situation) (e d f : Option (List ℕ)) → IfErr served (λ fault. LeavesConnection fault before afterwards) → ReportsFaults e d → Reports (codes "udfburnd") served d f → ReportsFaults e f
+says_left (Ok x) before afterwards e d f left says reports = subst (λ (y : Option (List ℕ)). ReportsFaults e y) (sym reports) says
+says_left (Err fault) before afterwards e d f left says reports = record { faults = fault ∷ says.faults; lines = (d, says.lines, leaving fault before afterwards left, reports) }
 
-each_behind : (faults earlier : List Fault) (e d f : Option (List ℕ)) → ReportsEach earlier e d → ReportsEach faults d f → ReportsEach (faults ++ earlier) e f
-each_behind [] earlier e d f h k = subst (λ (y : Option (List ℕ)). ReportsEach earlier e y) (sym k) h
-each_behind (fault ∷ faults) earlier e d f h k = (k.0, each_behind faults earlier e d k.0 h k.1, k.2, k.3)
+each_after : (faults earlier : List Fault) (e d f : Option (List ℕ)) → ReportsEach earlier e d → ReportsEach faults d f → ReportsEach (faults ++ earlier) e f
+each_after [] earlier e d f h k = subst (λ (y : Option (List ℕ)). ReportsEach earlier e y) (sym k) h
+each_after (fault ∷ faults) earlier e d f h k = (k.0, each_after faults earlier e d k.0 h k.1, k.2, k.3)
 
 pub says_more : (e d f : Option (List ℕ)) → ReportsFaults e d → ReportsFaults d f → ReportsFaults e f
-says_more e d f h k = record { faults = k.faults ++ h.faults; lines = each_behind k.faults h.faults e d f h.lines k.lines }
+says_more e d f h k = record { faults = k.faults ++ h.faults; lines = each_after k.faults h.faults e d f h.lines k.lines }
 
 -- at status 0 nothing is said after them
 pub said_done : (outcome : Result (Unit {0}) Fault) (status : ℕ) (e d f : Option (List ℕ)) → OnOk outcome (ReportsFaults e d) → status ≡ status_of outcome → Reports (codes "udfburnd") outcome d f → status ≡ 0 → ReportsFaults e f

@@ -4,7 +4,7 @@ use Rattle.std.specs.List.{flat_map}
 use Rattle.std.proofs.lemmas.List.{append-nil, map-append, take_more}
 use Rattle.std.proofs.lemmas.Grind.{flat_map-append}
 use Rattle.request.specs.declared.answer.Listed.{Listed}
-use Rattle.store.specs.Asked.{said_listed, said_names}
+use Rattle.lookup.specs.Asked.{said_listed, said_names}
 use Rattle.programs.specs.Lines.{name_line, names_text}
 
 module _ {A : Type 0} (line : A → List ℕ) where

@@ -31,24 +31,24 @@ use Rattle.programs.specs.Images.{Images, IsThere, OnMedia, Unopened}
 
 -- All messages of the input were answered, or the first ones up to where this fault came. Which store is open after them is not reported.
 abbrev pub AppliesAll : Situation → Situation → Option (List ℕ) → Option (List ℕ) → Option (List ℕ) → Option (List ℕ) → Type 0
-AppliesAll before behind input left output written = (kept : Option Store) × ServesAll before (with_store kept behind) input left output written
+AppliesAll before afterwards input left output written = (kept : Option Store) × ServesAll before (with_store kept afterwards) input left output written
 
 abbrev pub AppliesUntil : ServeFault → Situation → Situation → Option (List ℕ) → Option (List ℕ) → Option (List ℕ) → Option (List ℕ) → Type 0
-AppliesUntil fault before behind input left output written = (kept : Option Store) × ServesUntil fault before (with_store kept behind) input left output written
+AppliesUntil fault before afterwards input left output written = (kept : Option Store) × ServesUntil fault before (with_store kept afterwards) input left output written
 
 -- by the outcome, which is no other fault than that of a stream
 abbrev pub AppliesStream : {T : Type 0} → Result T Fault → Situation → Situation → Option (List ℕ) → Option (List ℕ) → Option (List ℕ) → Option (List ℕ) → Type 0
-AppliesStream (Ok x) before behind input left output written = AppliesAll before behind input left output written
-AppliesStream (Err Usage) before behind input left output written = ⊥
-AppliesStream (Err Path) before behind input left output written = ⊥
-AppliesStream (Err Socket) before behind input left output written = ⊥
-AppliesStream (Err (Stored fault)) before behind input left output written = ⊥
-AppliesStream (Err (Stream fault)) before behind input left output written = AppliesUntil fault before behind input left output written
+AppliesStream (Ok x) before afterwards input left output written = AppliesAll before afterwards input left output written
+AppliesStream (Err Usage) before afterwards input left output written = ⊥
+AppliesStream (Err Path) before afterwards input left output written = ⊥
+AppliesStream (Err Socket) before afterwards input left output written = ⊥
+AppliesStream (Err (Stored fault)) before afterwards input left output written = ⊥
+AppliesStream (Err (Stream fault)) before afterwards input left output written = AppliesUntil fault before afterwards input left output written
 
 -- the same on the image at a path
 abbrev pub AppliesToImage : {T : Type 0} → List ℕ → Result T Fault → Images → Images → Option (List ℕ) → Option (List ℕ) → Option (List ℕ) → Option (List ℕ) → Type 0
 AppliesToImage image outcome old new input left output written =
-    (Unopened outcome old new output written × (left ≡ input)) ⊎ OnMedia IsThere GREATEST_CAPACITY image (λ before behind. AppliesStream outcome before behind input left output written) old new
+    (Unopened outcome old new output written × (left ≡ input)) ⊎ OnMedia IsThere GREATEST_CAPACITY image (λ before afterwards. AppliesStream outcome before afterwards input left output written) old new
 
 -- ---- a volume in memory, whose drive is honest: no premise is left
 

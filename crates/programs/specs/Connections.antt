@@ -14,32 +14,32 @@ use Rattle.programs.specs.Tasks.{IsPrefixOf}
 -- Messages were answered in turn, and nothing else was done: from where the engine and its drive were before, to where they are.
 -- On an honest drive where a state is recovered, what is recovered at each prefix of what was written is the state after the first of the requests that were committed,
 -- and whatever a power loss leaves of the writes for a message, the state after all that were committed by then is recovered, or the one after its request.
-pub record ServesMessages (before behind : Situation) : Type 0 where
+pub record ServesMessages (before afterwards : Situation) : Type 0 where
   pub messages : List Message
   pub answers : List Answer
-  pub answered : AllAnswered messages before answers behind
-  pub holds : ServedHolds messages before answers behind
-  pub withstands : ServedWithstands messages before answers behind answered
+  pub answered : AllAnswered messages before answers afterwards
+  pub holds : ServedHolds messages before answers afterwards
+  pub withstands : ServedWithstands messages before answers afterwards answered
 
 -- The first messages of a connection were answered up to where this fault came, or all were and then the output failed; and
 -- of what was written with that a prefix is there.
-pub record ServesPrefix (fault : ServeFault) (before behind : Situation) (input left output written : Option (List ℕ)) : Type 0 where
+pub record ServesPrefix (fault : ServeFault) (before afterwards : Situation) (input left output written : Option (List ℕ)) : Type 0 where
   pub gathered : Option (List ℕ)
-  pub serves : ServesUntil fault before behind input left output gathered ⊎ ((fault ≡ streams.Write) × ServesAll before behind input left output gathered)
+  pub serves : ServesUntil fault before afterwards input left output gathered ⊎ ((fault ≡ streams.Write) × ServesAll before afterwards input left output gathered)
   pub front : IsPrefixOf gathered written
 
 -- so it is of a connection whose output is there in the end, which is left by a stream's fault alone
 abbrev pub LeavesStream : Fault → Situation → Situation → Option (List ℕ) → Option (List ℕ) → Option (List ℕ) → Option (List ℕ) → Type 0
-LeavesStream Usage before behind input left output written = ⊥
-LeavesStream Path before behind input left output written = ⊥
-LeavesStream Socket before behind input left output written = ⊥
-LeavesStream (Stored fault) before behind input left output written = ⊥
-LeavesStream (Stream fault) before behind input left output written = ServesPrefix fault before behind input left output written
+LeavesStream Usage before afterwards input left output written = ⊥
+LeavesStream Path before afterwards input left output written = ⊥
+LeavesStream Socket before afterwards input left output written = ⊥
+LeavesStream (Stored fault) before afterwards input left output written = ⊥
+LeavesStream (Stream fault) before afterwards input left output written = ServesPrefix fault before afterwards input left output written
 
 -- Why a connection was left. Nothing was done where the socket cannot be had, or memory is short for what waits to be written.
 abbrev pub LeavesConnection : Fault → Situation → Situation → Type 0
-LeavesConnection Usage before behind = ⊥
-LeavesConnection Path before behind = ⊥
-LeavesConnection Socket before behind = behind ≡ before
-LeavesConnection (Stored fault) before behind = (fault ≡ stores.Memory) × (behind ≡ before)
-LeavesConnection (Stream fault) before behind = ⊤
+LeavesConnection Usage before afterwards = ⊥
+LeavesConnection Path before afterwards = ⊥
+LeavesConnection Socket before afterwards = afterwards ≡ before
+LeavesConnection (Stored fault) before afterwards = (fault ≡ stores.Memory) × (afterwards ≡ before)
+LeavesConnection (Stream fault) before afterwards = ⊤

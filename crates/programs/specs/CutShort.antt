@@ -19,47 +19,47 @@ use Rattle.programs.specs.Tasks.Task.{Format, Apply_to_image, Apply_in_memory, L
 
 -- The power was lost while messages were answered: in one of them, and the disk kept what is left of the writes for it, or
 -- after the last of them.
-abbrev pub LosesServing : (messages : List Message) → (before : Situation) → (answers : List Answer) → (behind : Situation) → AllAnswered messages before answers behind → List Event → Type 0
-LosesServing messages before answers behind all lost = (lost ≡ behind.journal) ⊎ LosesStream messages before answers behind all lost
+abbrev pub LosesServing : (messages : List Message) → (before : Situation) → (answers : List Answer) → (afterwards : Situation) → AllAnswered messages before answers afterwards → List Event → Type 0
+LosesServing messages before answers afterwards all lost = (lost ≡ afterwards.journal) ⊎ LosesStream messages before answers afterwards all lost
 
 -- So a command was cut off that answers the messages of its input. It had read and answered so much, or would have.
-pub record LosesApply (input left output written : Option (List ℕ)) (before behind : Situation) (lost : List Event) : Type 0 where
+pub record LosesApply (input left output written : Option (List ℕ)) (before afterwards : Situation) (lost : List Event) : Type 0 where
   pub kept : Option Store
-  pub serves : ServesSome before (with_store kept behind) input left output written
-  pub loses : LosesServing serves.messages before serves.answers (with_store kept behind) serves.answered lost
+  pub serves : ServesSome before (with_store kept afterwards) input left output written
+  pub loses : LosesServing serves.messages before serves.answers (with_store kept afterwards) serves.answered lost
 
 -- so a daemon was, in one of the connections that its listener gave
-pub record LosesDaemon (old new : Heard) (before behind : Situation) (lost : List Event) : Type 0 where
+pub record LosesDaemon (old new : Heard) (before afterwards : Situation) (lost : List Event) : Type 0 where
   pub inputs : List (Option (List ℕ))
   pub outputs : List (Option (List ℕ))
   pub given : new.given ≡ old.given ++ inputs
   pub ended : new.ended ≡ old.ended ++ flat_map known outputs
   pub kept : Option Store
-  pub run : IsOneRun inputs outputs before (with_store kept behind)
-  pub loses : LosesServing run.messages before run.answers (with_store kept behind) run.answered lost
+  pub run : IsOneRun inputs outputs before (with_store kept afterwards)
+  pub loses : LosesServing run.messages before run.answers (with_store kept afterwards) run.answered lost
 
 -- so a format was, in one of its writes
 abbrev pub LosesFormat : List ℕ → ℕ → ℕ → Situation → Situation → List Event → Type 0
-LosesFormat label moment capacity before behind lost =
-    FormatSurvivesPowerLoss capacity (words_on capacity label moment) before.journal before.writes behind.writes behind.honest × IsLost before behind lost
+LosesFormat label moment capacity before afterwards lost =
+    FormatSurvivesPowerLoss capacity (words_on capacity label moment) before.journal before.writes afterwards.writes afterwards.honest × IsLost before afterwards lost
 
 -- and so a command that makes no write
 abbrev pub LosesReading : Situation → Situation → List Event → Type 0
-LosesReading before behind lost = (behind.writes ≡ before.writes) × IsLost before behind lost
+LosesReading before afterwards lost = (afterwards.writes ≡ before.writes) × IsLost before afterwards lost
 
 -- It was cut off on the drive of the image at this path, after its opening, and the path holds what the disk kept. Where the media are
 -- honest then, they were so before, the drive began with what the path held, and each read gave what was written.
-pub record CutOnMedia (Finds : Option (List Event) → List Event → Type 0) (capacity : ℕ) (path : List ℕ) (Loses : Situation → Situation → List Event → Type 0) (before behind : Images) : Type 0 where
+pub record CutOnMedia (Finds : Option (List Event) → List Event → Type 0) (capacity : ℕ) (path : List ℕ) (Loses : Situation → Situation → List Event → Type 0) (before afterwards : Images) : Type 0 where
   pub journal : List Event
   pub once : Once journal
   pub last : Situation
   pub lost : List Event
   pub loses : Loses (situation None journal 0 capacity true []) last lost
-  pub found : IsTrue behind.honest → Finds (before.held path) journal
-  pub left : behind.held path ≡ Some lost
-  pub others : SameBut path before.held behind.held
-  pub drive_honest : IsTrue behind.honest → IsTrue last.honest
-  pub honest : IsTrue behind.honest → IsTrue before.honest
+  pub found : IsTrue afterwards.honest → Finds (before.held path) journal
+  pub left : afterwards.held path ≡ Some lost
+  pub others : SameBut path before.held afterwards.held
+  pub drive_honest : IsTrue afterwards.honest → IsTrue last.honest
+  pub honest : IsTrue afterwards.honest → IsTrue before.honest
 
 -- by what the words of a command ask for; one that has no image leaves all of them
 abbrev pub IsTaskCut : Task → Images → Images → Option (List ℕ) → Option (List ℕ) → Option (List ℕ) → Option (List ℕ) → Type 0

@@ -21,34 +21,34 @@ use Rattle.programs.specs.Tasks.{IsPrefixOf}
 -- How a connection ended, by the outcome. All messages of what its client sends were answered, or the first ones and a prefix of
 -- their answers was written; or nothing was done, since the connection could not be had or memory was short.
 abbrev pub EndsBy : {T : Type 0} → Result T Fault → Situation → Situation → Option (List ℕ) → Option (List ℕ) → Option (List ℕ) → Option (List ℕ) → Type 0
-EndsBy (Ok x) before behind input left output written = ServesAll before behind input left output written
-EndsBy (Err Usage) before behind input left output written = ⊥
-EndsBy (Err Path) before behind input left output written = ⊥
-EndsBy (Err Socket) before behind input left output written = (behind ≡ before) × (written ≡ output)
-EndsBy (Err (Store fault)) before behind input left output written = ⊥
-EndsBy (Err (Stream fault)) before behind input left output written = ServesPrefix fault before behind input left output written
+EndsBy (Ok x) before afterwards input left output written = ServesAll before afterwards input left output written
+EndsBy (Err Usage) before afterwards input left output written = ⊥
+EndsBy (Err Path) before afterwards input left output written = ⊥
+EndsBy (Err Socket) before afterwards input left output written = (afterwards ≡ before) × (written ≡ output)
+EndsBy (Err (Store fault)) before afterwards input left output written = ⊥
+EndsBy (Err (Stream fault)) before afterwards input left output written = ServesPrefix fault before afterwards input left output written
 
 -- or its output was let go, for lack of memory, and nothing was done
 abbrev pub LetsGo : {T : Type 0} → Result T Fault → Situation → Situation → Type 0
-LetsGo outcome before behind = (outcome ≡ Err (Store Memory)) × (behind ≡ before)
+LetsGo outcome before afterwards = (outcome ≡ Err (Store Memory)) × (afterwards ≡ before)
 
 -- This connection was served, whose client sends this, and that was written on it.
-pub record IsServed {T : Type 0} (outcome : Result T Fault) (input written : Option (List ℕ)) (before behind : Situation) : Type 0 where
+pub record IsServed {T : Type 0} (outcome : Result T Fault) (input written : Option (List ℕ)) (before afterwards : Situation) : Type 0 where
   pub left : Option (List ℕ)
   pub output : Option (List ℕ)
   pub blank : IsBlank output
-  pub ends : EndsBy outcome before behind input left output written ⊎ ((written ≡ None) × LetsGo outcome before behind)
-  pub goes : ServesMessages before behind
+  pub ends : EndsBy outcome before afterwards input left output written ⊎ ((written ≡ None) × LetsGo outcome before afterwards)
+  pub goes : ServesMessages before afterwards
 
 abbrev pub ServesOne : Option (List ℕ) → Option (List ℕ) → Situation → Situation → Type 0
-ServesOne input written before behind = (outcome : Result (Unit {0}) Fault) × IsServed outcome input written before behind
+ServesOne input written before afterwards = (outcome : Result (Unit {0}) Fault) × IsServed outcome input written before afterwards
 
 -- one after another, each from where the one before it left the engine and the drive
 abbrev pub ServesList : List (Option (List ℕ)) → List (Option (List ℕ)) → Situation → Situation → Type 0
-ServesList [] [] before behind = behind ≡ before
-ServesList [] (written ∷ outputs) before behind = ⊥
-ServesList (input ∷ inputs) [] before behind = ⊥
-ServesList (input ∷ inputs) (written ∷ outputs) before behind = (during : Situation) × ServesOne input written before during × ServesList inputs outputs during behind
+ServesList [] [] before afterwards = afterwards ≡ before
+ServesList [] (written ∷ outputs) before afterwards = ⊥
+ServesList (input ∷ inputs) [] before afterwards = ⊥
+ServesList (input ∷ inputs) (written ∷ outputs) before afterwards = (during : Situation) × ServesOne input written before during × ServesList inputs outputs during afterwards
 
 -- ---- the messages that connections bring
 
@@ -82,13 +82,13 @@ AllHeard (input ∷ inputs) (written ∷ outputs) messages answers =
 -- stands, what stands at each prefix of what was written is the state after the first of the requests that were committed, and
 -- whatever a power loss leaves of the writes for a message, the state after all that were committed by then stands, or the one
 -- after its request.
-pub record IsOneRun (inputs outputs : List (Option (List ℕ))) (before behind : Situation) : Type 0 where
+pub record IsOneRun (inputs outputs : List (Option (List ℕ))) (before afterwards : Situation) : Type 0 where
   pub messages : List Message
   pub answers : List Answer
   pub heard : AllHeard inputs outputs messages answers
-  pub answered : AllAnswered messages before answers behind
-  pub holds : ServedHolds messages before answers behind
-  pub withstands : ServedWithstands messages before answers behind answered
+  pub answered : AllAnswered messages before answers afterwards
+  pub holds : ServedHolds messages before answers afterwards
+  pub withstands : ServedWithstands messages before answers afterwards answered
 
 -- ---- a listener
 
@@ -102,12 +102,12 @@ abbrev pub heard_on : {L I O : Type 0} → Ghosts L I O → L → Heard
 heard_on listener l = record { given = listener.given l; ended = listener.ended l; missed = listener.missed l }
 
 -- a connection of a listener was served so, and ended
-pub record EndsOne {T : Type 0} (outcome : Result T Fault) (input : Option (List ℕ)) (old new : Heard) (before behind : Situation) : Type 0 where
+pub record EndsOne {T : Type 0} (outcome : Result T Fault) (input : Option (List ℕ)) (old new : Heard) (before afterwards : Situation) : Type 0 where
   pub written : Option (List ℕ)
   pub given : new.given ≡ old.given
   pub missed : new.missed ≡ old.missed
   pub ended : new.ended ≡ old.ended ++ known written
-  pub is : IsServed outcome input written before behind
+  pub is : IsServed outcome input written before afterwards
 
 -- As many connections were served as were asked for, or fewer, where the listener was asked 2 ^ 64 - 1 times.
 abbrev pub AreEnough : ℕ → ℕ → ℕ → ℕ → Type 0
@@ -115,12 +115,12 @@ AreEnough connections served missed now =
     (served ≡ connections) ⊎ ((served < connections) × ((failed : ℕ) × (served + failed ≡ 2 ^ 64 - 1) × CountsFailures failed missed now))
 
 -- So many connections of a listener were served, with one engine that was new, and all of them are one run.
-pub record ServesEach (connections : ℕ) (old new : Heard) (before behind : Situation) : Type 0 where
+pub record ServesEach (connections : ℕ) (old new : Heard) (before afterwards : Situation) : Type 0 where
   pub inputs : List (Option (List ℕ))
   pub outputs : List (Option (List ℕ))
   pub given : new.given ≡ old.given ++ inputs
   pub ended : new.ended ≡ old.ended ++ flat_map known outputs
   pub kept : Option stored.Store
-  pub served : ServesList inputs outputs before (with_store kept behind)
-  pub run : IsOneRun inputs outputs before (with_store kept behind)
+  pub served : ServesList inputs outputs before (with_store kept afterwards)
+  pub run : IsOneRun inputs outputs before (with_store kept afterwards)
   pub enough : AreEnough connections (length inputs) old.missed new.missed

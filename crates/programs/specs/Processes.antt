@@ -28,16 +28,16 @@ use Rattle.programs.specs.Tasks.Task.{Format, Apply_to_image, Apply_in_memory, L
 -- A process of one of the two programs: one that ended, or one that a power loss cut off after it had opened its image.
 pub data Process : Type 0 where
   Command : (task : Task) (outcome : Result (Unit {0}) Fault) (input left output written : Option (List ℕ)) → Process
-  Daemon : (image : List ℕ) (connections : ℕ) (before behind : Heard) → Process
+  Daemon : (image : List ℕ) (connections : ℕ) (before afterwards : Heard) → Process
   CutCommand : (task : Task) (input left output written : Option (List ℕ)) → Process
-  CutDaemon : (image : List ℕ) (before behind : Heard) → Process
+  CutDaemon : (image : List ℕ) (before afterwards : Heard) → Process
 
 -- what it did to the images, as `command_on` and `daemon_on` say it, and what of that the disk kept
 abbrev pub Did : Process → Images → Images → Type 0
 Did (Command task outcome input left output written) old new = IsTaskDone task outcome old new input left output written
-Did (Daemon image connections before behind) old new = OnMedia IsThere GREATEST_CAPACITY image (ServesEach connections before behind) old new
+Did (Daemon image connections before afterwards) old new = OnMedia IsThere GREATEST_CAPACITY image (ServesEach connections before afterwards) old new
 Did (CutCommand task input left output written) old new = IsTaskCut task old new input left output written
-Did (CutDaemon image before behind) old new = CutOnMedia IsThere GREATEST_CAPACITY image (LosesDaemon before behind) old new
+Did (CutDaemon image before afterwards) old new = CutOnMedia IsThere GREATEST_CAPACITY image (LosesDaemon before afterwards) old new
 
 -- each of them on what the one before it left
 abbrev pub AllDid : List Process → Images → Images → Type 0
@@ -119,9 +119,9 @@ RanUntil path Send input left output written lives = lives ≡ []
 
 abbrev pub Ran : List ℕ → Process → List Life → Type 0
 Ran path (Command task outcome input left output written) lives = RanCommand path task outcome input left output written lives
-Ran path (Daemon image connections before behind) lives = IsElsewhere path image lives ⊎ ((path ≡ image) × IsOneLife (AnswersConnections before behind) IsLife lives)
+Ran path (Daemon image connections before afterwards) lives = IsElsewhere path image lives ⊎ ((path ≡ image) × IsOneLife (AnswersConnections before afterwards) IsLife lives)
 Ran path (CutCommand task input left output written) lives = RanUntil path task input left output written lives
-Ran path (CutDaemon image before behind) lives = IsElsewhere path image lives ⊎ ((path ≡ image) × IsOneLife (AnswersConnections before behind) IsLifeCut lives)
+Ran path (CutDaemon image before afterwards) lives = IsElsewhere path image lives ⊎ ((path ≡ image) × IsOneLife (AnswersConnections before afterwards) IsLifeCut lives)
 
 -- the runs of all of them, in order
 abbrev pub AllRan : List ℕ → List Process → List Life → Type 0
@@ -134,11 +134,11 @@ AllRan path (process ∷ processes) lives = (first later : List Life) × (lives 
 pub record AreRuns (path : List ℕ) (processes : List Process) (volume : ℕ) (S : State) (before : List Event) (new : Images) : Type 0 where
   pub lives : List Life
   pub done : List Request
-  pub behind : List Event
+  pub afterwards : List Event
   pub ran : AllRan path processes lives
-  pub cuts : AreCut GREATEST_CAPACITY volume S before lives done behind
-  pub held_is : new.held path ≡ Some behind
-  pub survives : Survives GREATEST_CAPACITY volume S before done behind
+  pub cuts : AreCut GREATEST_CAPACITY volume S before lives done afterwards
+  pub held_is : new.held path ≡ Some afterwards
+  pub survives : Survives GREATEST_CAPACITY volume S before done afterwards
 
 -- So it is of any processes on media that are honest in the end, and of any image that recovers to a state at first.
 abbrev pub ProcessesAreRuns : Type 0

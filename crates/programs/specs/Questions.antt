@@ -91,7 +91,7 @@ PrintsAnswer question (Err (faults.Stream stream.Memory)) capacity journal hones
 abbrev pub ShowsImage : {T : Type 0} → Question → List ℕ → Result T Fault → Images → Images → Option (List ℕ) → Option (List ℕ) → Type 0
 ShowsImage question image outcome old new output written =
     Unopened outcome old new output written
-    ⊎ OnMedia IsThere GREATEST_CAPACITY image (λ before behind. (behind.journal ≡ before.journal) × (behind.writes ≡ before.writes) × PrintsAnswer question outcome before.capacity before.journal behind.honest output written) old new
+    ⊎ OnMedia IsThere GREATEST_CAPACITY image (λ before afterwards. (afterwards.journal ≡ before.journal) × (afterwards.writes ≡ before.writes) × PrintsAnswer question outcome before.capacity before.journal afterwards.honest output written) old new
 
 -- The text is that of no path, or there was no memory for it.
 abbrev pub IsUnread : {T : Type 0} → List ℕ → Result T Fault → Type 0

@@ -1,7 +1,7 @@
 //! What is printed, as docs/OPERATIONS.md has it. A text is made whole before any of it is written.
 
 ghost use Rattle.std.specs.Prelude.{◌≡◌, ◌++◌, IfOk, IfErr, OnOk, string_bytes};
-ghost use Rattle.store.specs.Asked.{said_listed, said_names};
+ghost use Rattle.lookup.specs.Asked.{said_listed, said_names};
 ghost use Rattle.programs.specs.Lines.{PutsBytes, name_line, names_text, commit_line, commits_text, sound_text};
 ghost use Rattle.programs.specs.Status.{IsRefusal};
 

@@ -34,11 +34,6 @@ module _ {X : Type 0} where
   contains_at (y ∷ xs) zero x e = subst (Contains (y ∷ xs)) (same_Some y x e) (contains_here y xs)
   contains_at (y ∷ xs) (suc i) x e = contains_there y xs x (contains_at xs i x e)
 
-  contains_take : (xs : List X) (i : ℕ) (x : X) → Contains (take i xs) x → Contains xs x
-  contains_take xs zero x c = absurd (not_in_nil x c)
-  contains_take [] (suc i) x c = c
-  contains_take (y ∷ xs) (suc i) x c = elim (contains_cons y (take i xs) x c) [ inl e ↦ subst (Contains (y ∷ xs)) e (contains_here y xs) | inr d ↦ contains_there y xs x (contains_take xs i x d) ]
-
 -- a name of a directory is not among those before it
 name_apart : (es : List (List ℕ × DirEntry)) (i : ℕ) (e : List ℕ × DirEntry) → IsDistinct bytes_eq (keys_of es) → slice_get es i ≡ Some e → Contains (keys_of (take i es)) e.0 → ⊥
 unfolding IsDistinct

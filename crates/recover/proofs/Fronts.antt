@@ -4,6 +4,7 @@ use Rattle.std.specs.Prelude.{slice_get, slice_index_or}
 use Rattle.std.proofs.lemmas.Bool.{cases_lt}
 use Rattle.std.proofs.lemmas.List.{get_or-take}
 use Rattle.std.proofs.lemmas.Option.{get_or_from_slice_get}
+use Rattle.limits.specs.declared.TheConstants.{GREATEST_CAPACITY, LEAST_CAPACITY}
 use Rattle.ecma.specs.FirstFault.{IsFirst}
 use Rattle.ecma.proofs.Faults.{no_fault}
 use Rattle.volume.specs.declared.front.Front.{Front}
@@ -31,7 +32,7 @@ module _ (label : List ℕ) (moment capacity : ℕ) (medium : List (List ℕ)) w
             (subst (λ (b : List ℕ). IsFrontBlock label moment capacity n b) (sym (get_or_from_slice_get medium n block [] there)) is)
       ]
 
-  pub whole_front : 512 ≤ capacity → capacity ≤ 450_000 → 257 ≤ length medium → BeginsFront label moment capacity 257 medium → IsFront label moment capacity (take 257 medium)
+  pub whole_front : LEAST_CAPACITY ≤ capacity → capacity ≤ GREATEST_CAPACITY → 257 ≤ length medium → BeginsFront label moment capacity 257 medium → IsFront label moment capacity (take 257 medium)
   whole_front low high long seen = record {
     low = low;
     high = high;

@@ -6,6 +6,7 @@ use Rattle.std.specs.Cmp.Lexicographic.{pointwise}
 use Rattle.std.proofs.lemmas.Bool.{true≢false}
 use Rattle.std.proofs.lemmas.List.{length-take}
 use Rattle.std.proofs.lemmas.Option.{same_Some}
+use Rattle.limits.specs.declared.TheConstants.{NODES}
 use Rattle.dir.specs.declared.entry.Kind.TheVariants.{Directory}
 use Rattle.dir.specs.Directory.{is_directory}
 use Rattle.model.specs.Graph.{IsFunctional}
@@ -49,7 +50,7 @@ same_label a b r e f = go (pointwise nat_eq a b) refl (sym e ∙ f)
     go false is n = absurd (true≢false (sym (ap not is) ∙ n))
 
 -- a table has few nodes
-pub few_nodes : (icb : ℕ) (vat : Vat) (bytes : List ℕ) → IsTableAt icb (view vat) bytes → (16 ≤ vat.sessions.next_unique) × (vat.files + vat.directories ≤ 4096)
+pub few_nodes : (icb : ℕ) (vat : Vat) (bytes : List ℕ) → IsTableAt icb (view vat) bytes → (16 ≤ vat.sessions.next_unique) × (vat.files + vat.directories ≤ NODES)
 few_nodes icb vat bytes is = (is.table.fits.next_unique, let used = bounded.nodes (model_table (view vat)) icb bytes (tables_agree (view vat) icb bytes is) in let a = used.0 in let b = used.1 in omega (arith, a, b))
 
 -- ---- the tree
@@ -82,7 +83,7 @@ module _ (medium : List (List ℕ)) (vat : Vat) (before after : Walk) (node : Na
     );
   }
 
-  pub has_tree : 16 ≤ vat.sessions.next_unique → vat.files + vat.directories ≤ 4096 → before.files ≡ 0 → before.directories ≡ 0 → after.files ≡ vat.files → after.directories ≡ vat.directories
+  pub has_tree : 16 ≤ vat.sessions.next_unique → vat.files + vat.directories ≤ NODES → before.files ≡ 0 → before.directories ≡ 0 → after.files ≡ vat.files → after.directories ≡ vat.directories
       → CountsTree medium vat
   has_tree enough few no_files no_directories files directories =
       let w = is_whole in
@@ -100,7 +101,7 @@ module _ (medium : List (List ℕ)) (vat : Vat) (before after : Walk) (node : Na
       }
 
   -- what was counted is what the table counts, where the nodes make a tree that it counts
-  pub counts_agree : vat.files + vat.directories ≤ 4096 → before.files ≡ 0 → before.directories ≡ 0 → CountsTree medium vat → (after.files ≡ vat.files) × (after.directories ≡ vat.directories)
+  pub counts_agree : vat.files + vat.directories ≤ NODES → before.files ≡ 0 → before.directories ≡ 0 → CountsTree medium vat → (after.files ≡ vat.files) × (after.directories ≡ vat.directories)
   counts_agree few no_files no_directories has =
       let w = is_whole in
       let graph = graph_of udf medium vat.entries.items in

@@ -16,10 +16,8 @@ use Rattle.vat.specs.declared.fault.VatFault.{VatFault}
 use Rattle.vat.specs.declared.fault.VatFault.TheVariants as vat_faults
 use Rattle.vat.specs.Rules.{table_rules, number_of_fault}
 use Rattle.vat.specs.Table.{Table, IsTableAt}
-use Rattle.recover.specs.declared.fault.StoreFault.{StoreFault}
-use Rattle.recover.specs.declared.fault.StoreFault.TheVariants.{Damaged, Device}
+use Rattle.recover.specs.declared.fault.StoreFault.TheVariants.{Damaged}
 use Rattle.recover.specs.declared.table.TableEntry.{TableEntry}
-use Rattle.recover.specs.Faults.{IsShortage}
 use Rattle.recover.specs.Tables.{HasDataBelow, HasVatIcb, HasNoneFrom, HasTableAt, IsEntryAt, IsEntryRefused, IsTableRefused, table_data_of}
 
 -- a number below that of a VAT ICB lies below the entry's address
@@ -28,8 +26,8 @@ below_entry None at low h = tt
 below_entry (Some p) at low h = omega arith
 
 -- after the last block there is no entry
-pub none_behind : (M : List (List ℕ)) (n : ℕ) → length M ≤ n → HasNoneFrom M n
-none_behind M n long at from h = let within : at < length M = slice_get_within M at h.block h.there in omega arith
+pub none_after : (M : List (List ℕ)) (n : ℕ) → length M ≤ n → HasNoneFrom M n
+none_after M n long at from h = let within : at < length M = slice_get_within M at h.block h.there in omega arith
 
 pub none_above : (M : List (List ℕ)) (n m : ℕ) → n ≤ m → HasNoneFrom M n → HasNoneFrom M m
 none_above M n m le none at from h = none at (omega arith) h
@@ -73,13 +71,6 @@ other_entry M at block e there only never =
 -- an entry whose data do not lie below it
 pub far_entry : (M : List (List ℕ)) (at : ℕ) (e : TableEntry) → IsEntryAt M at e → (HasDataBelow at e → ⊥) → IsEntryRefused M at (Damaged at 72)
 far_entry M at e is far = (refl, inr (refl, e, is, far))
-
-pub failed_entry : (M : List (List ℕ)) (at : ℕ) (fault : StoreFault) → fault ≡ Device → IsEntryRefused M at fault
-failed_entry M at fault device = subst (IsEntryRefused M at) (sym device) tt
-
-pub short_of_table : (icb : ℕ) (e : TableEntry) (bytes : List ℕ) (fault : StoreFault) → IsShortage fault → IsTableRefused icb e bytes fault
-short_of_table icb e bytes fault short =
-    elim short [ inl device ↦ subst (IsTableRefused icb e bytes) (sym device) tt | inr memory ↦ subst (IsTableRefused icb e bytes) (sym memory) tt ]
 
 -- the decoder's first fault
 pub table_refused : (icb : ℕ) (e : TableEntry) (bytes stored : List ℕ) (fault : VatFault) (cause : ℕ) → bytes ≡ stored → cause ≡ number_of_fault fault → (fault ≡ vat_faults.Memory → ⊥)

@@ -3,6 +3,7 @@ use Rattle.std.proofs.Common.{◌≡◌, ℕ, ◌+◌, ◌<◌, ◌≤◌, false
 use Rattle.std.specs.Prelude.{IfSome, count_by, slice_get, All}
 use Rattle.std.specs.Int.{div_ceil}
 use Rattle.std.proofs.lemmas.Option.{same_Some}
+use Rattle.limits.specs.declared.TheConstants.{PARTITION_BLOCKS}
 use Rattle.dir.specs.declared.entry.Entry.{Entry as DirEntry}
 use Rattle.dir.specs.declared.entry.Kind.TheVariants.{File}
 use Rattle.dir.specs.Directory.{IsDirectory}
@@ -60,7 +61,7 @@ unread H before entry_at node below _ r = absurd r
 -- ---- names
 
 -- the directory that the blocks hold has another one above it, or other links
-pub other_names : (M : List (List ℕ)) (x : Extent) (parent : ℕ) (es : List (List ℕ × DirEntry)) (blocks : List (List ℕ)) → x.first ≤ 449_743 → blocks ≡ data_of M x → All IsBlock blocks
+pub other_names : (M : List (List ℕ)) (x : Extent) (parent : ℕ) (es : List (List ℕ × DirEntry)) (blocks : List (List ℕ)) → x.first ≤ PARTITION_BLOCKS → blocks ≡ data_of M x → All IsBlock blocks
     → IsDirectory parent es x.first x.size blocks → (above count : ℕ) → (parent ≡ above → count ≡ links_of es → ⊥) → HaveNoNames M above count x
 other_names M x parent es blocks low same are is above count never fs are' is' links =
     let holds = (directories_agree parent x.first x.size es blocks are low).0 is in

@@ -1,7 +1,10 @@
 -- What was read of a medium, and is not read again.
-use Rattle.std.specs.Prelude.{◌≡◌, ◌==◌, ◌&&◌, ℕ, ⊤, Bool, List, take, Some, None, IfSome, get_or, slice_get, All}
+use Rattle.std.specs.Prelude.{◌≡◌, ◌==◌, ◌&&◌, ℕ, ⊤, Bool, IsTrue, List, take, Some, None, IfSome, get_or, slice_get, All}
 use Rattle.std.specs.HashMap.{get}
 use Rattle.limits.specs.declared.TheConstants.{PARTITION_START}
+use Rattle.drive.specs.Journal.{held}
+use Rattle.drive.specs.Reads.{ReadsOnly}
+use Rattle.drive.specs.declared.Drive.{Ghosts}
 use Rattle.icb.specs.Entry.{Fields, IsEntry}
 use Rattle.dir.specs.Directory.{IsDirectory}
 use Rattle.udf.specs.Udf.{IsBlock}
@@ -61,3 +64,8 @@ pub record IsKnown (medium : List (List ℕ)) (known : ReadCache) : Type 0 where
   pub entries : AreCachedEntries medium known.entries
   pub before : AreCachedDirectories medium known.before
   pub met : AreCachedDirectories medium known.met
+
+-- the drive was only read, and what is known afterwards is right, whatever was found
+pub record ReadsAndKnows {D : Type 0} (drive : Ghosts D) (failed : ℕ) (old new : D) (cache : ReadCache) : Type 0 where
+  pub reads : ReadsOnly drive failed old new
+  pub known : IsTrue (drive.honest new) → IsKnown (held (drive.journal new)) cache

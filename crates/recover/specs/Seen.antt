@@ -44,6 +44,11 @@ VisitsName graph before after entries index depth =
     (name : List ℕ × Entry) × (slice_get entries index ≡ Some name)
     × ((child : Named) → child.kind ≡ name.1.kind → child.address ≡ name.1.virtual_address → child.unique ≡ name.1.unique → child.depth ≡ depth → Visits graph before after child)
 
+-- the file that is kept at the place of a name was seen, so many names deep
+abbrev pub VisitsKept : Walk → Walk → CheckedFiles → ℕ → ℕ → Type 0
+VisitsKept before after files index depth =
+    (journal : List Event) (entries : List (List ℕ × Entry)) → before.at ≤ next_of journal → AreSeen (held journal) entries files → VisitsName (nodes_of journal before) before after entries index depth
+
 -- Where the nodes of a directory, so many names deep, were seen up to one place, they are seen up to another: those between
 -- are among its files that are kept.
 abbrev pub WalksOn : Walk → Walk → CheckedFiles → ℕ → ℕ → ℕ → Type 0

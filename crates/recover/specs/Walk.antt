@@ -1,8 +1,8 @@
 -- What the walk through the nodes of a tree sees, and what it keeps.
-use Rattle.std.specs.Prelude.{◌≡◌, ℕ, ◌+◌, ◌<◌, ◌≤◌, ◌^◌, ◌-◌, List, [], Option, Some, None, IfSome, true, take, slice_get, All}
+use Rattle.std.specs.Prelude.{◌≡◌, ℕ, ◌+◌, ◌<◌, ◌≤◌, ◌^◌, ◌-◌, Bool, IsTrue, List, [], Option, Some, None, IfSome, true, take, slice_get, All}
 use Rattle.std.specs.Int.{div_ceil}
 use Rattle.limits.specs.declared.TheConstants.{BLOCK_BYTES, PARTITION_START, PARTITION_BLOCKS, PATH_NAMES}
-use Rattle.drive.specs.Journal.{Event, held}
+use Rattle.drive.specs.Journal.{Event, held, next_of}
 use Rattle.icb.specs.declared.entry.Kind.{Kind as IcbKind}
 use Rattle.icb.specs.declared.entry.Kind.TheVariants as icb_kinds
 use Rattle.icb.specs.Entry.{Fields, Place, IsEntry}
@@ -20,7 +20,7 @@ use Rattle.recover.specs.declared.directory.Extent.{Extent}
 use Rattle.recover.specs.declared.walk.Body.{Body}
 use Rattle.recover.specs.declared.walk.Named.{Named}
 use Rattle.recover.specs.declared.walk.Walk.{Walk}
-use Rattle.recover.specs.Forest.{Forest, IsSeen, IsWalked, AreAssigned, Adds, Numbers, by_address, by_identity, height, files_in, directories_in, entries_named}
+use Rattle.recover.specs.Forest.{Forest, IsAssigned, IsSeen, IsWalked, AreAssigned, Adds, InsertsNumber, Numbers, by_address, by_identity, height, files_in, directories_in, entries_named}
 use Rattle.recover.specs.Forest.Forest.{End, Seen}
 use Rattle.recover.specs.IdSet.{marked}
 use Rattle.recover.specs.Nodes.{data_of, links_of}
@@ -57,12 +57,22 @@ pub record HasFileEntry (medium : List (List ℕ)) (entry_at : ℕ) (node : Name
 abbrev pub HasNode : List (List ℕ) → ℕ → ℕ → Named → Type 0
 HasNode medium at entry_at node = (body : Body) × HasFileEntry medium entry_at node body × IfSome body.extent (LiesBelow at)
 
+-- It was read so if the drive is honest, and the bytes that it names lie below an address.
+pub record IsBodyRead (honest : Bool) (medium : List (List ℕ)) (at entry_at : ℕ) (node : Named) (body : Body) : Type 0 where
+  pub entry : IsTrue honest → HasFileEntry medium entry_at node body
+  pub extent : IfSome body.extent (LiesBelow at)
+
 -- these blocks are a directory's with this address above it, and with so many links
 pub record HasListing (medium : List (List ℕ)) (above count : ℕ) (extent : Extent) (directory : Dir) : Type 0 where
   pub parent : directory.parent ≡ above
   pub links : count ≡ links_of directory.entries.entries
   pub are : All IsBlock (data_of medium extent)
   pub is : IsDirectory directory.parent directory.entries.entries extent.first extent.size (data_of medium extent)
+
+-- an address of the partition that was written
+pub record IsInPartition (journal : List Event) (at : ℕ) : Type 0 where
+  pub low : PARTITION_START ≤ at
+  pub within : at < next_of journal
 
 -- the virtual address leads to this address
 pub record LeadsTo (table : List (Option ℕ)) (address entry_at : ℕ) : Type 0 where
@@ -84,6 +94,43 @@ nodes_of journal walk = graph_of udf (take walk.at (held journal)) walk.entries.
 -- so many were counted, while the count is below its top
 abbrev pub Tallied : ℕ → ℕ → ℕ → Type 0
 Tallied before n after = (before ≤ after) × (after < 2 ^ 32 - 1 → after ≡ before + n) × (after ≤ before + n)
+
+-- the walk goes on in the same table, with as many directories or more
+pub record GoesOn (old new : Walk) : Type 0 where
+  pub at : new.at ≡ old.at
+  pub entries : new.entries.now ≡ old.entries.now
+  pub next_unique : new.next_unique ≡ old.next_unique
+  pub more : old.directories ≤ new.directories
+
+-- nothing of the walk changes but which virtual addresses were reached
+pub record OnlyReaches (old new : Walk) : Type 0 where
+  pub at : new.at ≡ old.at
+  pub entries : new.entries ≡ old.entries
+  pub next_unique : new.next_unique ≡ old.next_unique
+  pub uniques : new.uniques ≡ old.uniques
+  pub files : new.files ≡ old.files
+  pub directories : new.directories ≡ old.directories
+
+-- nothing of the walk changes but which unique IDs were seen
+pub record OnlySeesUniques (old new : Walk) : Type 0 where
+  pub at : new.at ≡ old.at
+  pub entries : new.entries ≡ old.entries
+  pub next_unique : new.next_unique ≡ old.next_unique
+  pub reached : new.reached ≡ old.reached
+  pub files : new.files ≡ old.files
+  pub directories : new.directories ≡ old.directories
+
+-- nothing of the walk changes but what was seen of files
+pub record OnlySeesFiles (old new : Walk) : Type 0 where
+  pub at : new.at ≡ old.at
+  pub entries : new.entries ≡ old.entries
+  pub next_unique : new.next_unique ≡ old.next_unique
+  pub directories : new.directories ≡ old.directories
+
+-- the node has a unique ID that it may have and that no node had, and now it has been seen
+pub record TakesUnique (old : Walk) (node : Named) (new : Walk) : Type 0 where
+  pub drawn : IsAssigned old.next_unique node.address node.unique
+  pub uniques : InsertsNumber (uniques_in old) node.unique (uniques_in new)
 
 -- what the walk keeps of the nodes that it saw between two states, at a depth
 pub record CountsWalk (before after : Walk) (depth : ℕ) (forest : Forest) : Type 0 where

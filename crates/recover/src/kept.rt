@@ -126,7 +126,7 @@ impl Names {
 }
 
 /// Entries are kept for virtual addresses below this. A sound tree has no other, since a new node takes the least that is free.
-const ADDRESSES: usize = 8_192;
+const KEPT_ADDRESSES: usize = 8_192;
 
 /// An entry that is kept.
 #[derive(Clone, Copy, Debug)]
@@ -174,7 +174,7 @@ impl Entries {
         ensures { (medium : List (List ℕ)) → IsEntrySaid medium place entry → AreCachedEntries medium self.old → AreCachedEntries medium self.new }
     {
         let index = place.address as usize;
-        if index >= ADDRESSES {
+        if index >= KEPT_ADDRESSES {
             return;
         }
         let Ok(()) = reach(&mut self.kept, index, None) else {

@@ -8,6 +8,10 @@
 //! the state had for which it was called before; of a file that is where it was found under its name it asks no more than
 //! where the table leads.
 //!
+//! Here stands too what the crates above share of reading: `Node` and `ROOT`, as directories name nodes; `Extent`, which
+//! `read_directory` is asked for; and `StoreFault`, the refusals of every call on a volume, since the lowest calls that are
+//! refused so are these reads.
+//!
 //! Left to others: whatever is written, and what is asked of a state.
 #![tactic(auto)]
 
@@ -18,6 +22,7 @@ mod fault;
 mod id_set;
 mod kept;
 mod laws;
+mod node;
 mod places;
 mod read_cache;
 mod reading;
@@ -28,7 +33,7 @@ mod walk;
 pub use directory::{Extent, read_directory};
 pub use fault::{StoreFault, damaged};
 pub use laws::last_state_stands;
-pub use limits::PARTITION_START;
+pub use node::{Node, ROOT};
 pub use read_cache::ReadCache;
 pub use reading::{block_count, read_block, read_blocks, read_bytes};
 pub use state::{State, state_at, state_sharing};

@@ -1,15 +1,16 @@
 //! The state to which a VAT ICB leads.
 
-ghost use Rattle.limits.specs.declared.TheConstants.{GREATEST_CAPACITY, LEAST_CAPACITY, NODES, PARTITION_START};
+ghost use Rattle.limits.specs.declared.TheConstants.{FIRST_UNIQUE, GREATEST_CAPACITY, LEAST_CAPACITY, NODES, PARTITION_START};
 ghost use Rattle.std.specs.Prelude.{◌≡◌, ℕ, ◌<◌, ◌≤◌, ◌+◌, ◌-◌, List, IsTrue, IfOk, IfErr, OnOk, take};
 ghost use Rattle.drive.specs.Journal.{held, next_of};
 ghost use Rattle.vat.specs.Table.{IsTableAt, view};
 ghost use Rattle.volume.specs.Front.{IsFront};
 ghost use Rattle.drive.specs.Reads.{ReadsOnly};
 ghost use Rattle.recover.specs.Faults.{devices};
-ghost use Rattle.recover.specs.ReadCache.{IsKnown};
+ghost use Rattle.recover.specs.ReadCache.{IsKnown, ReadsAndKnows};
 ghost use Rattle.recover.specs.State.{HasFileSet, CountsTree, IsCounted, IsDescribed, IsFrontRefused, IsSetRefused, IsShown, HasSoundTable, IsStateRefused, IsTreeRefused};
 ghost use Rattle.recover.specs.Tables.{HasTableAt};
+ghost use Rattle.recover.specs.Walk.{IsInPartition};
 
 use crate::cause;
 use crate::fault::{StoreFault, damaged};
@@ -80,8 +81,7 @@ pub fn state_sharing<D: Drive>(
     ensures sound { IfOk result (HasSoundTable at (D.capacity drive.old)) }
     ensures table { IfOk result (λ state. IsTrue (D.honest drive.new) → HasTableAt (held (D.journal drive.old)) at (view state.vat)) }
     // What is known stays so, whatever was found.
-    ensures known { IsTrue (D.honest drive.new) → IsKnown (held (D.journal drive.new)) known.new }
-    ensures reads { ReadsOnly D.Drive (devices result) drive.old drive.new }
+    ensures reads { ReadsAndKnows D.Drive (devices result) drive.old drive.new known.new }
 {
     known.begin();
     let (state, data_at) = described(alloc, drive, known, at)?;
@@ -103,8 +103,7 @@ fn described<D: Drive>(
     ensures refused { IfErr result (λ fault. IsTrue (D.honest drive.new) → IsStateRefused (D.capacity drive.old) (held (D.journal drive.old)) at fault) }
     ensures limits { IfOk result (λ found. (LEAST_CAPACITY ≤ found.0.capacity) × (found.0.capacity ≤ GREATEST_CAPACITY) × (found.0.capacity ≤ D.capacity drive.old)) }
     ensures table { IfOk result (λ found. (bytes : List ℕ) × IsTableAt (at - PARTITION_START) (view found.0.vat) bytes) }
-    ensures known { IsTrue (D.honest drive.new) → IsKnown (held (D.journal drive.new)) known.new }
-    ensures reads { ReadsOnly D.Drive (devices result) drive.old drive.new }
+    ensures reads { ReadsAndKnows D.Drive (devices result) drive.old drive.new known.new }
 {
     let front = known.front(drive)?;
     if front.capacity > drive.capacity() {
@@ -193,16 +192,14 @@ fn check_tree<D: Drive>(
     at: u32,
     data_at: u32,
 ) -> Result<(), StoreFault>
-    requires low { PARTITION_START ≤ at }
-    requires within { at < next_of (D.journal drive.old) }
+    requires within { IsInPartition (D.journal drive.old) at }
     requires known { IsTrue (D.honest drive.old) → IsKnown (held (D.journal drive.old)) known.old }
-    requires next { 16 ≤ vat.now.sessions.next_unique }
+    requires next { FIRST_UNIQUE ≤ vat.now.sessions.next_unique }
     requires few { vat.now.files + vat.now.directories ≤ NODES }
     ensures tree { OnOk result (IsTrue (D.honest drive.new) → CountsTree (take at (held (D.journal drive.old))) vat.now) }
     ensures counts { OnOk result (IsCounted at vat.now) }
     ensures refused { IfErr result (λ fault. IsTrue (D.honest drive.new) → IsTreeRefused (take at (held (D.journal drive.old))) at vat.now fault) }
-    ensures known { IsTrue (D.honest drive.new) → IsKnown (held (D.journal drive.new)) known.new }
-    ensures reads { ReadsOnly D.Drive (devices result) drive.old drive.new }
+    ensures reads { ReadsAndKnows D.Drive (devices result) drive.old drive.new known.new }
 {
     let sessions = &vat.sessions;
     let mut walk = Walk::new(alloc, at, &vat.entries, sessions.next_unique);

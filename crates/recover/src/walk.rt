@@ -4,12 +4,11 @@ ghost use Rattle.limits.specs.declared.TheConstants.{BLOCK_BYTES, PARTITION_BLOC
 ghost use Rattle.std.specs.Prelude.{◌≡◌, ◌↔◌, ◌+◌, ◌<◌, ◌≤◌, ◌^◌, IsTrue, IfOk, IfErr, IfSome, OnOk, ℕ, List, take};
 ghost use Rattle.std.specs.Int.{div_ceil};
 ghost use Rattle.drive.specs.Journal.{held, next_of};
-ghost use Rattle.drive.specs.Reads.{ReadsOnly};
 ghost use Rattle.recover.specs.Faults.{devices};
-ghost use Rattle.recover.specs.ReadCache.{IsKnown};
+ghost use Rattle.recover.specs.ReadCache.{IsKnown, ReadsAndKnows};
 ghost use Rattle.recover.specs.Refused.{IsNamesRefused};
 ghost use Rattle.recover.specs.Seen.{AreSeen};
-ghost use Rattle.recover.specs.Walk.{HasListing, HasNode, LeadsTo, LiesBelow, icb_kind};
+ghost use Rattle.recover.specs.Walk.{HasListing, HasNode, LeadsTo, icb_kind};
 ghost use Rattle.dir.specs.declared.entry.Kind.TheVariants.{Directory, File};
 
 use crate::cause;
@@ -114,15 +113,15 @@ pub(crate) struct Walk<'a> {
 impl<'a> Walk<'a> {
     ghost use Rattle.std.specs.Prelude.{◌≡◌, ◌+◌, ◌<◌, ◌≤◌, ◌^◌, ℕ, List, IsTrue, IfOk, IfErr, IfSome, OnOk, false, take, vec_len};
     ghost use Rattle.std.specs.Int.{div_ceil};
-    ghost use Rattle.drive.specs.Journal.{Event, held, next_of};
+    ghost use Rattle.drive.specs.Journal.{held, next_of};
     ghost use Rattle.recover.specs.Faults.{devices};
     ghost use Rattle.recover.specs.declared.fault.StoreFault.TheVariants.{Memory};
     ghost use Rattle.recover.specs.Forest.{IsAssigned, InsertsNumber};
-    ghost use Rattle.recover.specs.ReadCache.{IsKnown};
+    ghost use Rattle.recover.specs.ReadCache.{IsKnown, ReadsAndKnows};
     ghost use Rattle.recover.specs.Refused.{IsBodyRefused, IsReachRefused, IsVisitRefused};
     ghost use Rattle.dir.specs.declared.entry.Entry.{Entry as DirEntry};
-    ghost use Rattle.recover.specs.Seen.{AreSeen, WalksOn, IsFileSeen, IsNamedAt, VisitsName};
-    ghost use Rattle.recover.specs.Walk.{HasFileEntry, HasNode, LeadsTo, LiesBelow, Tallied, Visits, nodes_of, reached_in, uniques_in};
+    ghost use Rattle.recover.specs.Seen.{AreSeen, WalksOn, IsFileSeen, IsNamedAt, VisitsKept};
+    ghost use Rattle.recover.specs.Walk.{GoesOn, IsBodyRead, IsInPartition, LeadsTo, OnlyReaches, OnlySeesFiles, OnlySeesUniques, TakesUnique, Tallied, Visits, nodes_of, reached_in, uniques_in};
     ghost use Rattle.dir.specs.declared.entry.Kind.TheVariants.{Directory, File};
 
     /// Nothing is seen yet of the tree of a table whose entry is at `at`.
@@ -160,19 +159,14 @@ impl<'a> Walk<'a> {
         known: &mut ReadCache,
         node: &Named,
     ) -> Result<(), StoreFault>
-        requires low { PARTITION_START ≤ self.old.at }
-        requires within { self.old.at < next_of (D.journal drive.old) }
+        requires within { IsInPartition (D.journal drive.old) self.old.at }
         requires depth { node.now.depth ≤ 17 }
         requires known { IsTrue (D.honest drive.old) → IsKnown (held (D.journal drive.old)) known.old }
         ensures refused { IfErr result (λ fault. IsTrue (D.honest drive.new) → IsVisitRefused (nodes_of (D.journal drive.old) self.old) self.old node.now fault) }
         ensures visits { OnOk result (IsTrue (D.honest drive.new) → Visits (nodes_of (D.journal drive.old) self.old) self.old self.new node.now) }
-        ensures at { self.new.at ≡ self.old.at }
-        ensures entries { self.new.entries.now ≡ self.old.entries.now }
-        ensures next_unique { self.new.next_unique ≡ self.old.next_unique }
+        ensures goes_on { GoesOn self.old self.new }
         ensures counted { OnOk result (node.now.kind ≡ Directory → 1 ≤ self.new.directories) }
-        ensures more { self.old.directories ≤ self.new.directories }
-        ensures known { IsTrue (D.honest drive.new) → IsKnown (held (D.journal drive.new)) known.new }
-        ensures reads { ReadsOnly D.Drive (devices result) drive.old drive.new }
+        ensures reads { ReadsAndKnows D.Drive (devices result) drive.old drive.new known.new }
     {
         let entry_at = self.reach(node)?;
         let body = self.read_entry(drive, known, node, entry_at)?;
@@ -244,10 +238,7 @@ impl<'a> Walk<'a> {
     fn visit_checked(&mut self, files: &CheckedFiles, from: usize, depth: u32) -> usize
         ensures visits { WalksOn self.old self.new files.now depth from result }
         ensures on { from ≤ result }
-        ensures at { self.new.at ≡ self.old.at }
-        ensures entries { self.new.entries ≡ self.old.entries }
-        ensures next_unique { self.new.next_unique ≡ self.old.next_unique }
-        ensures directories { self.new.directories ≡ self.old.directories }
+        ensures rest { OnlySeesFiles self.old self.new }
     {
         let mut index = from;
         while self.are_unchanged(files, index, depth) {
@@ -260,13 +251,10 @@ impl<'a> Walk<'a> {
     /// Whether it did; else nothing is changed.
     #[inline]
     fn are_unchanged(&mut self, files: &CheckedFiles, index: usize, depth: u32) -> bool
-        ensures visits { (journal : List Event) (entries : List (List ℕ × DirEntry)) → IsTrue result → self.old.at ≤ next_of journal → AreSeen (held journal) entries files.now → VisitsName (nodes_of journal self.old) self.old self.new entries index (depth + 1) }
+        ensures visits { IsTrue result → VisitsKept self.old self.new files.now index (depth + 1) }
         ensures within { IsTrue result → index < vec_len files.now.files }
         ensures unchanged { result ≡ false → self.new ≡ self.old }
-        ensures at { self.new.at ≡ self.old.at }
-        ensures entries { self.new.entries ≡ self.old.entries }
-        ensures next_unique { self.new.next_unique ≡ self.old.next_unique }
-        ensures directories { self.new.directories ≡ self.old.directories }
+        ensures rest { OnlySeesFiles self.old self.new }
     {
         let is_deepest = depth >= PATH_NAMES;
         if is_deepest {
@@ -289,10 +277,7 @@ impl<'a> Walk<'a> {
         ensures uniques { IsTrue result → InsertsNumber (uniques_in self.old) file.now.unique (uniques_in self.new) }
         ensures files { IsTrue result → Tallied self.old.files 1 self.new.files }
         ensures unchanged { result ≡ false → self.new ≡ self.old }
-        ensures at { self.new.at ≡ self.old.at }
-        ensures entries { self.new.entries ≡ self.old.entries }
-        ensures next_unique { self.new.next_unique ≡ self.old.next_unique }
-        ensures directories { self.new.directories ≡ self.old.directories }
+        ensures rest { OnlySeesFiles self.old self.new }
     {
         if !leads_to(self.entries, file) {
             return false;
@@ -355,12 +340,7 @@ impl<'a> Walk<'a> {
         ensures reached { OnOk result (InsertsNumber (reached_in self.old) node.now.address (reached_in self.new)) }
         ensures depth { OnOk result (node.now.depth ≤ PATH_NAMES) }
         ensures refused { IfErr result (IsReachRefused self.old node.now) }
-        ensures at { self.new.at ≡ self.old.at }
-        ensures entries { self.new.entries ≡ self.old.entries }
-        ensures next_unique { self.new.next_unique ≡ self.old.next_unique }
-        ensures uniques { self.new.uniques ≡ self.old.uniques }
-        ensures files { self.new.files ≡ self.old.files }
-        ensures directories { self.new.directories ≡ self.old.directories }
+        ensures rest { OnlyReaches self.old self.new }
         ensures device { devices result ≡ 0 }
     {
         let entry_at = match address_below(self.entries, node.address, self.at) {
@@ -387,19 +367,11 @@ impl<'a> Walk<'a> {
         requires below { entry_at < self.old.at }
         requires within { entry_at < next_of (D.journal drive.old) }
         requires known { IsTrue (D.honest drive.old) → IsKnown (held (D.journal drive.old)) known.old }
-        ensures entry { IfOk result (λ body. IsTrue (D.honest drive.new) → HasFileEntry (take self.old.at (held (D.journal drive.old))) entry_at node.now body) }
-        ensures extent { IfOk result (λ body. IfSome body.extent (LiesBelow self.old.at)) }
+        ensures body { IfOk result (IsBodyRead (D.honest drive.new) (take self.old.at (held (D.journal drive.old))) self.old.at entry_at node.now) }
         ensures refused { IfErr result (λ fault. IsTrue (D.honest drive.new) → IsBodyRefused (take self.old.at (held (D.journal drive.old))) self.old entry_at node.now fault) }
-        ensures drawn { OnOk result (IsAssigned self.old.next_unique node.now.address node.now.unique) }
-        ensures uniques { OnOk result (InsertsNumber (uniques_in self.old) node.now.unique (uniques_in self.new)) }
-        ensures at { self.new.at ≡ self.old.at }
-        ensures entries { self.new.entries ≡ self.old.entries }
-        ensures next_unique { self.new.next_unique ≡ self.old.next_unique }
-        ensures reached { self.new.reached ≡ self.old.reached }
-        ensures files { self.new.files ≡ self.old.files }
-        ensures directories { self.new.directories ≡ self.old.directories }
-        ensures known { IsTrue (D.honest drive.new) → IsKnown (held (D.journal drive.new)) known.new }
-        ensures reads { ReadsOnly D.Drive (devices result) drive.old drive.new }
+        ensures unique { OnOk result (TakesUnique self.old node.now self.new) }
+        ensures rest { OnlySeesUniques self.old self.new }
+        ensures reads { ReadsAndKnows D.Drive (devices result) drive.old drive.new known.new }
     {
         let place = EntryPlace {
             at: entry_at,
@@ -428,12 +400,7 @@ impl<'a> Walk<'a> {
         ensures uniques { IfOk result (λ is. IsTrue is → InsertsNumber (uniques_in self.old) node.now.unique (uniques_in self.new)) }
         ensures only { IfOk result (λ is. IsAssigned self.old.next_unique node.now.address node.now.unique → uniques_in self.old node.now.unique ≡ false → IsTrue is) }
         ensures memory { IfErr result (λ fault. fault ≡ Memory) }
-        ensures at { self.new.at ≡ self.old.at }
-        ensures entries { self.new.entries ≡ self.old.entries }
-        ensures next_unique { self.new.next_unique ≡ self.old.next_unique }
-        ensures reached { self.new.reached ≡ self.old.reached }
-        ensures files { self.new.files ≡ self.old.files }
-        ensures directories { self.new.directories ≡ self.old.directories }
+        ensures rest { OnlySeesUniques self.old self.new }
         ensures device { devices result ≡ 0 }
     {
         if node.address == ROOT_ADDRESS {
@@ -465,8 +432,7 @@ fn read_names<D: Drive>(
     ensures names { IfOk result (λ names. IsTrue (D.honest drive.new) → HasListing (held (D.journal drive.old)) above links extent names.dir) }
     ensures seen { IfOk result (λ names. IsTrue (D.honest drive.new) → AreSeen (held (D.journal drive.old)) names.dir.entries.entries names.files) }
     ensures refused { IfErr result (λ fault. IsTrue (D.honest drive.new) → IsNamesRefused (held (D.journal drive.old)) above links extent fault) }
-    ensures known { IsTrue (D.honest drive.new) → IsKnown (held (D.journal drive.new)) known.new }
-    ensures reads { ReadsOnly D.Drive (devices result) drive.old drive.new }
+    ensures reads { ReadsAndKnows D.Drive (devices result) drive.old drive.new known.new }
 {
     let names = known.directory(alloc, drive, extent)?;
     if names.dir.parent != above {

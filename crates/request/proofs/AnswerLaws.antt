@@ -88,8 +88,8 @@ names_in : ℕ → List ℕ → List Listed
 names_in zero bytes = []
 names_in (suc n) bytes =
     let len : ℕ = from_le_bytes w16 (take 2 (drop 1 bytes)) in
-    let behind : List ℕ = drop 3 bytes in
-    record { kind = kind_named (get_or bytes 0 0); name = take len behind } ∷ names_in n (drop len behind)
+    let after : List ℕ = drop 3 bytes in
+    record { kind = kind_named (get_or bytes 0 0); name = take len after } ∷ names_in n (drop len after)
 
 names_in_again : (names : List Listed) → All IsNamed names → names_in (length names) (flat_map listed_field names) ≡ names
 unfolding names_in

@@ -21,9 +21,9 @@ length_of_frame payload rest lt = from_le_bytes-to_le_bytes_4 (length payload) l
 pub same_frames : (p q x y : List ℕ) → length p < 2 ^ 32 → length q < 2 ^ 32 → frame p ++ x ≡ frame q ++ y → (p ≡ q) × (x ≡ y)
 same_frames p q x y p-fits q-fits e =
     let lengths : length p ≡ length q = sym (length_of_frame p x p-fits) ∙ ap length_at e ∙ length_of_frame q y q-fits in
-    let behind : p ++ x ≡ q ++ y = ap (drop 4) e in
-    let fronts : p ≡ take (length q) (q ++ y) = sym (take-append_seam p x) ∙ ap (take (length p)) behind ∙ ap (λ (k : ℕ). take k (q ++ y)) lengths in
-    let rests : x ≡ drop (length q) (q ++ y) = sym (drop-append_seam p x) ∙ ap (drop (length p)) behind ∙ ap (λ (k : ℕ). drop k (q ++ y)) lengths in
+    let later : p ++ x ≡ q ++ y = ap (drop 4) e in
+    let fronts : p ≡ take (length q) (q ++ y) = sym (take-append_seam p x) ∙ ap (take (length p)) later ∙ ap (λ (k : ℕ). take k (q ++ y)) lengths in
+    let rests : x ≡ drop (length q) (q ++ y) = sym (drop-append_seam p x) ∙ ap (drop (length p)) later ∙ ap (λ (k : ℕ). drop k (q ++ y)) lengths in
     (fronts ∙ take-append_seam q y, rests ∙ drop-append_seam q y)
 
 -- what is known of bytes that begin with a frame
@@ -129,8 +129,8 @@ pub skipped : (failed : Bool) (taken : ℕ) (bytes waiting payload : List ℕ) (
 skipped true taken bytes waiting payload reader is held b message after t = absurd (subst (λ (r : Option (List ℕ)). TakesMessage r message after) (sym is) t)
 skipped false taken bytes waiting payload reader is held b message after t =
     let used = 4 + length payload in
-    let behind : drop (taken + used) bytes ≡ drop used waiting = sym (drop-drop used taken bytes) ∙ ap (drop used) (sym (subst (λ (r : Option (List ℕ)). MatchOption r (waiting ≡ []) (λ bs. waiting ≡ bs)) (sym is) held)) in
-    ap (λ (rest : List ℕ). Some rest) behind
+    let later : drop (taken + used) bytes ≡ drop used waiting = sym (drop-drop used taken bytes) ∙ ap (drop used) (sym (subst (λ (r : Option (List ℕ)). MatchOption r (waiting ≡ []) (λ bs. waiting ≡ bs)) (sym is) held)) in
+    ap (λ (rest : List ℕ). Some rest) later
     ∙ taken_once reader (Some (drop used waiting)) after NoMemory message (begins_held reader waiting payload (drop used waiting) NoMemory held b tt) t
 
 pub one_reading : (messages others : List Message) (bytes : List ℕ) (reader other : Option (List ℕ)) → MessagesAre bytes messages reader → IsIdle reader → MessagesAre bytes others other → IsIdle other

@@ -26,8 +26,8 @@ tail_is x y xs ys e = cc
 onto_steps : (x : ℕ) (xs : List ℕ) (pieces : List (List ℕ)) → flat_map step_text pieces ≡ 47 ∷ xs → flat_map step_text (onto_first x pieces) ≡ 47 ∷ x ∷ xs
 onto_steps x xs [] e = absurd cc
 onto_steps x xs (piece ∷ pieces) e =
-    let behind : piece ++ flat_map step_text pieces ≡ xs = tail_is 47 47 _ xs (sym (flat_map-cons step_text piece pieces) ∙ e) in
-    flat_map-cons step_text (x ∷ piece) pieces ∙ ap (λ (l : List ℕ). 47 ∷ x ∷ l) behind
+    let after : piece ++ flat_map step_text pieces ≡ xs = tail_is 47 47 _ xs (sym (flat_map-cons step_text piece pieces) ∙ e) in
+    flat_map-cons step_text (x ∷ piece) pieces ∙ ap (λ (l : List ℕ). 47 ∷ x ∷ l) after
 
 -- the parts, each after a slash, are the text after a slash
 pub steps_of_parts : (text : List ℕ) → flat_map step_text (parts text) ≡ 47 ∷ text
@@ -51,11 +51,11 @@ parts_of_steps name [] text good e =
     subst (λ (t : List ℕ). parts t ≡ name ∷ []) alone (slice_split_none (λ b. eqb b 47) name (no_slash name (All-head IsName name [] good)))
 parts_of_steps name (next ∷ names) text good e =
     let others = All-tail IsName name (next ∷ names) good in
-    let behind : List ℕ = next ++ flat_map step_text names in
-    let steps : flat_map step_text (next ∷ names) ≡ 47 ∷ behind = flat_map-cons step_text next names in
-    let whole : name ++ (47 ∷ behind) ≡ text = ap (λ (l : List ℕ). name ++ l) (sym steps) ∙ tail_is 47 47 _ text (sym (flat_map-cons step_text name (next ∷ names)) ∙ e) in
-    let first = slice_split_at (λ b. eqb b 47) name 47 behind (no_slash name (All-head IsName name (next ∷ names) good)) refl in
-    subst (λ (t : List ℕ). parts t ≡ name ∷ next ∷ names) whole (first ∙ ap (λ (ns : List (List ℕ)). name ∷ ns) (parts_of_steps next names behind others steps))
+    let after : List ℕ = next ++ flat_map step_text names in
+    let steps : flat_map step_text (next ∷ names) ≡ 47 ∷ after = flat_map-cons step_text next names in
+    let whole : name ++ (47 ∷ after) ≡ text = ap (λ (l : List ℕ). name ++ l) (sym steps) ∙ tail_is 47 47 _ text (sym (flat_map-cons step_text name (next ∷ names)) ∙ e) in
+    let first = slice_split_at (λ b. eqb b 47) name 47 after (no_slash name (All-head IsName name (next ∷ names) good)) refl in
+    subst (λ (t : List ℕ). parts t ≡ name ∷ next ∷ names) whole (first ∙ ap (λ (ns : List (List ℕ)). name ∷ ns) (parts_of_steps next names after others steps))
 
 begins_with_slash : (path : List (List ℕ)) → (rest : List ℕ) × (path_text path ≡ 47 ∷ rest)
 begins_with_slash [] = ([], refl)

@@ -7,6 +7,7 @@ use Rattle.std.proofs.lemmas.List.{take_at, drop_at, take-append-drop, length-ap
 use Rattle.std.proofs.lemmas.List.Concat.{flat_map-cons}
 use Rattle.std.specs.Prelude.{All}
 use Rattle.std.proofs.lemmas.List.Elements.{All-nil, All-cons, All-head, All-tail}
+use Rattle.limits.specs.declared.TheConstants.{FILE_BYTES}
 use Rattle.osta.specs.Name.{IsName}
 use Rattle.request.specs.declared.message.Cause.TheVariants as cause
 use Rattle.request.specs.Spelling.{name_field, path_field, data_field}
@@ -77,25 +78,25 @@ pub path_again : (path : List (List ℕ)) (rest : List ℕ) → IsPath path → 
 unfolding path_at
 path_again path rest good = names_again path rest good.names
 
-pub data_takes : (bytes : List ℕ) (x : List ℕ × List ℕ) → IsBytes bytes → data_at bytes ≡ Ok x → Takes bytes (data_field x.0) x.1 × (length x.0 ≤ 1048576)
+pub data_takes : (bytes : List ℕ) (x : List ℕ × List ℕ) → IsBytes bytes → data_at bytes ≡ Ok x → Takes bytes (data_field x.0) x.1 × (length x.0 ≤ FILE_BYTES)
 unfolding data_at
 data_takes bytes x fits e =
-    let b = bind_ok (number_at w32 bytes) (λ n. cond (ltb 1048576 n.0) (Err cause.Extra) (cond (ltb (length n.1) n.0) (Err cause.Short) (Ok (take n.0 n.1, drop n.0 n.1)))) x e in
+    let b = bind_ok (number_at w32 bytes) (λ n. cond (ltb FILE_BYTES n.0) (Err cause.Extra) (cond (ltb (length n.1) n.0) (Err cause.Short) (Ok (take n.0 n.1, drop n.0 n.1)))) x e in
     let n = b.0 in
     let t = number_takes w32 (2 ^ 32) wide32 bytes n.0 n.1 fits b.1 in
-    let f = guard_passed (ltb 1048576 n.0) cause.Extra (cond (ltb (length n.1) n.0) (Err cause.Short) (Ok (take n.0 n.1, drop n.0 n.1))) x b.2 in
+    let f = guard_passed (ltb FILE_BYTES n.0) cause.Extra (cond (ltb (length n.1) n.0) (Err cause.Short) (Ok (take n.0 n.1, drop n.0 n.1))) x b.2 in
     let g = guard_passed (ltb (length n.1) n.0) cause.Short (Ok (take n.0 n.1, drop n.0 n.1)) x f.1 in
-    let few : n.0 ≤ 1048576 = ltb-false _ _ f.0 in
+    let few : n.0 ≤ FILE_BYTES = ltb-false _ _ f.0 in
     let long : n.0 ≤ length n.1 = ltb-false _ _ g.0 in
     let len : length (take n.0 n.1) ≡ n.0 = omega (arith, length-take n.0 n.1) in
     let second : Takes n.1 (take n.0 n.1) (drop n.0 n.1) = record { parts = sym (take-append-drop n.0 n.1); rest_fits = IsBytes-drop n.0 n.1 t.0.rest_fits } in
     let both = Takes-then bytes (to_le_bytes w32 n.0) n.1 (take n.0 n.1) (drop n.0 n.1) t.0 second in
     let whole : Takes bytes (data_field (take n.0 n.1)) (drop n.0 n.1) = subst (λ (k : ℕ). Takes bytes (to_le_bytes w32 k ++ take n.0 n.1) (drop n.0 n.1)) (sym len) both in
-    subst (λ (p : List ℕ × List ℕ). Takes bytes (data_field p.0) p.1 × (length p.0 ≤ 1048576)) (ok_is (take n.0 n.1, drop n.0 n.1) x g.1) (whole, omega arith)
+    subst (λ (p : List ℕ × List ℕ). Takes bytes (data_field p.0) p.1 × (length p.0 ≤ FILE_BYTES)) (ok_is (take n.0 n.1, drop n.0 n.1) x g.1) (whole, omega arith)
 
-pub data_again : (bytes rest : List ℕ) → length bytes ≤ 1048576 → data_at (data_field bytes ++ rest) ≡ Ok (bytes, rest)
+pub data_again : (bytes rest : List ℕ) → length bytes ≤ FILE_BYTES → data_at (data_field bytes ++ rest) ≡ Ok (bytes, rest)
 unfolding data_at
 data_again bytes rest few =
-    let within : ltb 1048576 (length bytes) ≡ false = le-ltb _ _ few in
+    let within : ltb FILE_BYTES (length bytes) ≡ false = le-ltb _ _ few in
     let long : ltb (length (bytes ++ rest)) (length bytes) ≡ false = le-ltb _ _ (omega (arith, length-append bytes rest)) in
     rw (number_again w32 (2 ^ 32) wide32 (length bytes) (bytes ++ rest) (omega arith), within, long, take_at bytes rest (length bytes) refl, drop_at bytes rest (length bytes) refl) refl

@@ -4,6 +4,7 @@ use Rattle.std.specs.Prelude.{IfSome}
 use Rattle.std.specs.Int.{w64, to_le_bytes}
 use Rattle.std.proofs.lemmas.Bool.{eqb-true, ltb-true, lt-ltb, ne_eqb}
 use Rattle.std.proofs.lemmas.List.{append-nil, nil_from_length}
+use Rattle.limits.specs.declared.TheConstants.{MOMENT_LIMIT}
 use Rattle.request.specs.declared.message.Cause.{Cause}
 use Rattle.request.specs.declared.message.Cause.TheVariants as cause
 use Rattle.request.specs.declared.message.Op.{Op}
@@ -63,16 +64,16 @@ number_above_zero_again : (n : ℕ) (rest : List ℕ) → n < 2 ^ 64 → 0 < n �
 unfolding number_above_zero_at
 number_above_zero_again n rest fits above = rw (number_again w64 (2 ^ 64) wide64 n rest fits, not_zero n above) refl
 
-moment_takes : (bytes : List ℕ) (x : ℕ × List ℕ) → IsBytes bytes → moment_at bytes ≡ Ok x → TakesNumber bytes x × (x.0 < 4102444800000000)
+moment_takes : (bytes : List ℕ) (x : ℕ × List ℕ) → IsBytes bytes → moment_at bytes ≡ Ok x → TakesNumber bytes x × (x.0 < MOMENT_LIMIT)
 unfolding moment_at
 moment_takes bytes x fits e =
-    let b = bind_ok (number_at w64 bytes) (λ n. cond (ltb n.0 4102444800000000) (Ok n) (Err cause.Moment)) x e in
-    let g = guard_met (ltb b.0.0 4102444800000000) cause.Moment (Ok b.0) x b.2 in
-    subst (λ (y : ℕ × List ℕ). TakesNumber bytes y × (y.0 < 4102444800000000)) (ok_is b.0 x g.1) (taken_number bytes b.0 fits b.1, ltb-true _ _ g.0)
+    let b = bind_ok (number_at w64 bytes) (λ n. cond (ltb n.0 MOMENT_LIMIT) (Ok n) (Err cause.Moment)) x e in
+    let g = guard_met (ltb b.0.0 MOMENT_LIMIT) cause.Moment (Ok b.0) x b.2 in
+    subst (λ (y : ℕ × List ℕ). TakesNumber bytes y × (y.0 < MOMENT_LIMIT)) (ok_is b.0 x g.1) (taken_number bytes b.0 fits b.1, ltb-true _ _ g.0)
 
-moment_again : (n : ℕ) (rest : List ℕ) → n < 4102444800000000 → moment_at (to_le_bytes w64 n ++ rest) ≡ Ok (n, rest)
+moment_again : (n : ℕ) (rest : List ℕ) → n < MOMENT_LIMIT → moment_at (to_le_bytes w64 n ++ rest) ≡ Ok (n, rest)
 unfolding moment_at
-moment_again n rest lt = rw (number_again w64 (2 ^ 64) wide64 n rest (omega arith), lt-ltb n 4102444800000000 lt) refl
+moment_again n rest lt = rw (number_again w64 (2 ^ 64) wide64 n rest (omega arith), lt-ltb n MOMENT_LIMIT lt) refl
 
 -- ---- operations
 

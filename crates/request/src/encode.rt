@@ -1,6 +1,6 @@
 //! Writing answers as frames.
 
-ghost use Rattle.limits.specs.declared.TheConstants.{DIRECTORY_NAMES};
+ghost use Rattle.limits.specs.declared.TheConstants.{DIRECTORY_NAMES, FILE_BYTES};
 ghost use Rattle.std.specs.Prelude.{◌≡◌, ◌≤◌, ◌<◌, ◌+◌, ◌*◌, ◌^◌, ◌++◌, length, OnOk, OnErr};
 ghost use Rattle.std.specs.Int.{w16, w32, w64, to_le_bytes};
 ghost use Rattle.std.specs.List.{flat_map};
@@ -109,7 +109,7 @@ fn put_body(answer: &Answer, out: &mut Vec<u8>) -> Result<(), AllocError>
 }
 
 fn put_data(bytes: &[u8], out: &mut Vec<u8>) -> Result<(), AllocError>
-    requires { length bytes.now ≤ 1048576 }
+    requires { length bytes.now ≤ FILE_BYTES }
     ensures ok { OnOk result (out.new.items ≡ out.old.items ++ data_field bytes.now) }
     ensures err { OnErr result (KeepsFront out.old.items out.new.items) }
 {

@@ -1,5 +1,6 @@
 //! What a client sends: requests that change the tree, and queries that read it.
 
+ghost use Rattle.limits.specs.declared.TheConstants.{FILE_BYTES, MOMENT_LIMIT};
 ghost use Rattle.std.specs.Prelude.{◌<◌, ◌≤◌, ◌≡◌, ◌≢◌, List, ℕ, length, vec_len, IfOk, IsOk};
 
 use crate::path::Path;
@@ -17,13 +18,13 @@ impl Model for FileData {
 
     ghost view = { λ d. d.bytes.items };
 
-    ghost invariant = { λ d. vec_len d.bytes ≤ 1048576 };
+    ghost invariant = { λ d. vec_len d.bytes ≤ FILE_BYTES };
 }
 
 impl FileData {
     /// The bytes of a file, without copying them.
     pub fn new(bytes: Vec<u8>) -> FileData
-        requires { vec_len bytes ≤ 1048576 }
+        requires { vec_len bytes ≤ FILE_BYTES }
         ensures { result ≡ bytes.items }
     {
         FileData { bytes }
@@ -32,13 +33,13 @@ impl FileData {
     /// The bytes.
     pub fn as_slice(&self) -> &[u8]
         ensures bytes { result.now ≡ self.now }
-        ensures few { length result.now ≤ 1048576 }
+        ensures few { length result.now ≤ FILE_BYTES }
     {
         self.bytes.as_slice()
     }
 }
 
-/// The bytes that a request gives a file, at most 1,048,576, where its payload has them.
+/// The bytes that a request gives a file, at most `limits::FILE_BYTES`, where its payload has them.
 #[derive(Debug, Drop)]
 pub struct FileSlice<'a> {
     bytes: &'a [u8],
@@ -49,13 +50,13 @@ impl<'a> Model for FileSlice<'a> {
 
     ghost view = { λ s. s.bytes.now };
 
-    ghost invariant = { λ s. length s.bytes.now ≤ 1048576 };
+    ghost invariant = { λ s. length s.bytes.now ≤ FILE_BYTES };
 }
 
 impl<'a> FileSlice<'a> {
     /// The bytes of a file, where they are.
     pub fn new(bytes: &'a [u8]) -> FileSlice<'a>
-        requires { length bytes.now ≤ 1048576 }
+        requires { length bytes.now ≤ FILE_BYTES }
         ensures { result ≡ bytes.now }
     {
         FileSlice { bytes }
@@ -64,7 +65,7 @@ impl<'a> FileSlice<'a> {
     /// The bytes.
     pub fn as_slice(&self) -> &'a [u8]
         ensures bytes { result.now ≡ self.now }
-        ensures few { length result.now ≤ 1048576 }
+        ensures few { length result.now ≤ FILE_BYTES }
     {
         self.bytes
     }
@@ -95,7 +96,7 @@ pub struct Request<'a> {
     pub op: Op<'a>,
     pub ghost client_above_zero: { 0 < client },
     pub ghost number_above_zero: { 0 < number },
-    pub ghost moment_in_range: { moment < 4102444800000000 },
+    pub ghost moment_in_range: { moment < MOMENT_LIMIT },
 }
 
 /// A question about the tree.

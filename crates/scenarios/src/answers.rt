@@ -95,13 +95,13 @@ fn tell_names(body: &[u8], out: &mut String) -> Result<(), Trouble> {
         };
         let [kind, low, high] = *head;
         let length = usize::from(u16::from_le_bytes([low, high]));
-        let (name, behind) = later.split_at(later.len().min(length));
+        let (name, after) = later.split_at(later.len().min(length));
         let letter = if kind == 0 { 'f' } else { 'd' };
         write!(out, " {letter} ")?;
         for byte in name {
             out.push(char::from(*byte))?;
         }
-        rest = behind;
+        rest = after;
     }
     if !rest.is_empty() {
         out.push_str(" and bytes ")?;

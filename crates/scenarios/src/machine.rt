@@ -5,17 +5,16 @@ ghost use Rattle.drive.specs.MemDrive.{journal_of, capacity_of};
 ghost use Rattle.store.specs.Agrees.{IsStoreOn};
 ghost use Rattle.engine.specs.Situation.{IsReady, situation};
 
-use crate::streams::{Pieces, Room};
+use crate::streams::Pieces;
 use crate::trouble::Trouble;
 use drive::{Block, Drive, Fault, MemDrive, Scheduled};
 use engine::{Delivery, Engine, ServeFault, run, serve};
+use limits::MOMENT_LIMIT;
 use request::{Answer, Message, Query, Request, encode_answer, read_payload};
 use std::alloc::Global;
 use std::marker::Model;
 use store::{Commit, Due, Snapshot, Store, StoreFault, format};
-
-/// Above the last moment that has a timestamp.
-const MOMENT_LIMIT: u64 = 4_102_444_800_000_000;
+use words::Room;
 
 /// How many calls of the drive `Machine::burn` makes.
 const CALLS_TO_BURN: u64 = 2;
@@ -253,8 +252,8 @@ impl Machine {
 }
 
 /// What is left of a block that lies so far after those that are whole, or among them.
-fn left_of(block: &Block, behind: Option<usize>, choices: &[bool]) -> Option<Block> {
-    let Some(place) = behind else {
+fn left_of(block: &Block, after: Option<usize>, choices: &[bool]) -> Option<Block> {
+    let Some(place) = after else {
         return Some(*block);
     };
     match choices.get(place) {

@@ -4,14 +4,14 @@ use crate::answers::told;
 use crate::beside::{Beside, sessions_text};
 use crate::machine::Machine;
 use crate::steps::{BesideStep, Look, MediumStep, Step, Stream};
-use crate::streams::{Pieces, Room};
+use crate::streams::Pieces;
 use crate::trouble::Trouble;
 use ecma::crc;
 use engine::Delivery;
 use std::alloc::Global;
 use std::fmt::Write;
 use store::Snapshot;
-use words::show_bytes;
+use words::{Room, show_bytes};
 
 /// A medium that is kept under a name.
 #[derive(Drop)]
@@ -185,8 +185,8 @@ impl Player {
             .journal()
             .get(block)
             .ok_or(Trouble::Line("no such block"))?;
-        let (_, behind) = bytes.split_at(from.min(2048));
-        let (shown, _) = behind.split_at(count.min(behind.len()));
+        let (_, after) = bytes.split_at(from.min(2048));
+        let (shown, _) = after.split_at(count.min(after.len()));
         show_bytes(shown, text)?;
         Ok(())
     }

@@ -276,10 +276,10 @@ impl<'s> Stage<'s> {
         let mut expanded = String::new(self.alloc);
         let mut rest = text;
         for _ in 0..text.len() {
-            let Some((before, behind)) = rest.split_once("{") else {
+            let Some((before, opened)) = rest.split_once("{") else {
                 break;
             };
-            let (inner, after) = behind
+            let (inner, after) = opened
                 .split_once("}")
                 .ok_or(Trouble::Line("no end of a brace"))?;
             expanded.push_str(before)?;

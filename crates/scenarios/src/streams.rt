@@ -1,7 +1,7 @@
 //! Streams that come in pieces, and that fail.
 
 use std::io;
-use std::io::{Error, ErrorKind, Read, Write};
+use std::io::{Error, ErrorKind, Read};
 
 /// A reader that gives its first piece, then the rest in pieces of a size, and then fails.
 #[derive(Drop)]
@@ -26,27 +26,5 @@ impl Read for Pieces<'_> {
         buf[..count].copy_from_slice(now);
         self.first = later;
         Ok(count)
-    }
-}
-
-/// A writer that has room for so many bytes.
-#[derive(Drop)]
-pub struct Room {
-    pub bytes: Vec<u8>,
-    pub left: usize,
-}
-
-impl Write for Room {
-    fn write(&mut self, buf: &[u8]) -> io::Result<usize> {
-        let count = buf.len().min(self.left);
-        if count == 0 || self.bytes.extend_from_slice(&buf[..count]).is_err() {
-            return Err(Error::from(ErrorKind::Other));
-        }
-        self.left -= count;
-        Ok(count)
-    }
-
-    fn flush(&mut self) -> io::Result<()> {
-        Ok(())
     }
 }

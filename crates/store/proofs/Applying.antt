@@ -1,6 +1,6 @@
 -- What becomes of a new request, by where its commit ends.
 use Rattle.std.proofs.Common.{◌≡◌, ◌⊎◌, inl, inr, ℕ, ◌+◌, ◌<◌, ◌≤◌, true, false, List, [], ◌∷◌, ◌++◌, length, refl, sym, ap, subst, subst₂, ◌∙◌, arith, append_assoc, append-nil}
-use Rattle.std.specs.Prelude.{Result, Ok, Err, IfOk, IfErr, OnOk, OnErr, is_err}
+use Rattle.std.specs.Prelude.{Result, Ok, Err, IfOk, IfErr, is_err}
 use Rattle.std.proofs.lemmas.Bool.{false≢true}
 use Rattle.std.proofs.lemmas.List.{take_all}
 use Rattle.drive.specs.Journal.{AddsPrefix, Event, held, next_of, written}
@@ -38,7 +38,7 @@ use Rattle.table_update.specs.Commits.{IsPart, IsWholeCommit}
 use Rattle.planning.specs.Needs.{change_need}
 use Rattle.table_update.specs.NextTable.{begun}
 use Rattle.planning.specs.Plan.{IsPlan, node_list, plan_blocks, table_data}
-use Rattle.store.specs.Putting.{IsPlanOf}
+use Rattle.store.specs.Putting.{BreaksPlan, IsPlanOf, KeepsPlan}
 use Rattle.store.specs.Sessions.{reply_said}
 use Rattle.lookup.specs.Shows.{graph_below}
 use Rattle.table_update.proofs.Committed.{commits_are_part, commits_are_whole, tables_stand}
@@ -66,7 +66,7 @@ module _ (capacity volume : ℕ) (J : List Event) (S : State) (store : Store) (k
     writes_are = kept ∙ sym (append-nil W);
     front = (0, omega arith, same ∙ sym (append-nil J));
     whole = λ ok. same ∙ sym (append-nil J);
-    torn = λ left behind none there. inl (subst (λ (K : List Event). Advances udf capacity volume J S K S) (sym (there ∙ ap (λ (bs : List Block). J ++ written (length J) bs) none ∙ append-nil J)) stays);
+    torn = λ left afterwards none there. inl (subst (λ (K : List Event). Advances udf capacity volume J S K S) (sym (there ∙ ap (λ (bs : List Block). J ++ written (length J) bs) none ∙ append-nil J)) stays);
   }
 
   -- the drive failed before anything was written, or memory was short
@@ -130,37 +130,36 @@ module _ (capacity volume : ℕ) (J : List Event) (S : State) (store : Store) (k
 
       -- what its writes leave, and what a power loss leaves of them
       pub withstands : {D : Type 0} {drive : Ghosts D} (result : Result told.Reply StoreFault) (d e : D) (W : List (List Block)) → drive.writes d ≡ W → SendsAlone drive (node_list plan ++ table_data plan.table) plan.table.entry (is_err result) d e
-          → drive.journal d ≡ J → OnOk result (drive.journal e ≡ drive.journal d ++ written (next_of (drive.journal d)) (plan_blocks plan))
-          → OnErr result (AddsPrefix (drive.journal d) (next_of (drive.journal d)) (plan_blocks plan) (drive.journal e)) → IfErr result (λ refusal. refusal ≡ fault.Device)
+          → drive.journal d ≡ J → (old now : Store) → IfOk result (KeepsPlan plan (drive.journal d) (drive.journal e) old now) → IfErr result (BreaksPlan plan (drive.journal d) (drive.journal e) old now)
           → CommitSurvivesPowerLoss capacity volume J S (model_request r) W (devices result) (drive.journal e) (drive.writes e)
-      withstands {D} {drive} result d e W kept sends same all some device = record {
+      withstands {D} {drive} result d e W kept sends same old now all broken = record {
         added = sends.added;
         others = sends.others;
         writes_are = sends.writes ∙ ap (λ (ws : List (List Block)). ws ++ sends.added) kept;
-        front = front_of result (subst₂ (λ (L : List Event) (bs : List Block). OnOk result (drive.journal e ≡ L ++ written (next_of L) bs)) same planned_is all)
-            (subst₂ (λ (L : List Event) (bs : List Block). OnErr result (AddsPrefix L (next_of L) bs (drive.journal e))) same planned_is some);
-        whole = λ ok. whole_of result ok device sends.whole (subst (λ (L : List Event). OnOk result (drive.journal e ≡ L ++ written (next_of L) (plan_blocks plan))) same all);
-        torn = λ left behind cut there.
-            elim (torn_advances udf capacity volume exact bounded distinct J behind S (model_request r) blocks plan.table.entry knows.once knows.stands plans (sends.added ++ sends.others) left sends.alone
+        front = front_of result (subst (λ (L : List Event). IfOk result (KeepsPlan plan L (drive.journal e) old now)) same all) (subst (λ (L : List Event). IfErr result (BreaksPlan plan L (drive.journal e) old now)) same broken);
+        whole = λ ok. whole_of result ok (subst (λ (L : List Event). IfOk result (KeepsPlan plan L (drive.journal e) old now)) same all) (subst (λ (L : List Event). IfErr result (BreaksPlan plan L (drive.journal e) old now)) same broken) sends.whole;
+        torn = λ left afterwards cut there.
+            elim (torn_advances udf capacity volume exact bounded distinct J afterwards S (model_request r) blocks plan.table.entry knows.once knows.stands plans (sends.added ++ sends.others) left sends.alone
             (left_more sends.added sends.others left cut) there) [ inl stood ↦ inl stood | inr done ↦ inr done.1 ];
       }
         where
           planned_is : plan_blocks plan ≡ joined (sends.added ++ sends.others)
           planned_is = all_is ∙ sym (joined_writes blocks plan.table.entry (sends.added ++ sends.others) sends.alone)
 
-          front_of : (answer : Result told.Reply StoreFault) → OnOk answer (drive.journal e ≡ J ++ written (next_of J) (joined (sends.added ++ sends.others)))
-              → OnErr answer (AddsPrefix J (next_of J) (joined (sends.added ++ sends.others)) (drive.journal e)) → AddsPrefix J (length J) (joined (sends.added ++ sends.others)) (drive.journal e)
+          front_of : (answer : Result told.Reply StoreFault) → IfOk answer (KeepsPlan plan J (drive.journal e) old now) → IfErr answer (BreaksPlan plan J (drive.journal e) old now)
+              → AddsPrefix J (length J) (joined (sends.added ++ sends.others)) (drive.journal e)
           front_of (Ok reply) done part =
-              subst (λ (L : List Event). AddsPrefix J (length J) (joined (sends.added ++ sends.others)) L) (sym (done ∙ ap (λ (n : ℕ). J ++ written n (joined (sends.added ++ sends.others))) next))
+              subst (λ (L : List Event). AddsPrefix J (length J) (joined (sends.added ++ sends.others)) L) (sym (done.journal ∙ (λ i. J ++ written (next i) (planned_is i))))
               (front_whole J (length J) (joined (sends.added ++ sends.others)))
-          front_of (Err refusal) done part = subst (λ (n : ℕ). AddsPrefix J n (joined (sends.added ++ sends.others)) (drive.journal e)) next part
+          front_of (Err refusal) done part =
+              subst₂ (λ (n : ℕ) (bs : List Block). AddsPrefix J n bs (drive.journal e)) next planned_is part.front
 
-          whole_of : (answer : Result told.Reply StoreFault) → devices answer ≡ 0 → IfErr answer (λ refusal. refusal ≡ fault.Device) → (is_err answer ≡ false → sends.others ≡ [])
-              → OnOk answer (drive.journal e ≡ J ++ written (next_of J) (plan_blocks plan)) → drive.journal e ≡ J ++ written (length J) (joined sends.added)
-          whole_of (Ok reply) ok failed none done =
+          whole_of : (answer : Result told.Reply StoreFault) → devices answer ≡ 0 → IfOk answer (KeepsPlan plan J (drive.journal e) old now) → IfErr answer (BreaksPlan plan J (drive.journal e) old now)
+              → (is_err answer ≡ false → sends.others ≡ []) → drive.journal e ≡ J ++ written (length J) (joined sends.added)
+          whole_of (Ok reply) ok done part none =
               let every : plan_blocks plan ≡ joined sends.added = planned_is ∙ ap (λ (ws : List (List Block)). joined (sends.added ++ ws)) (none refl) ∙ ap joined (append-nil sends.added) in
-              done ∙ (λ i. J ++ written (next i) (every i))
-          whole_of (Err refusal) ok failed none done = let bad : 1 ≡ 0 = ap failures_of (sym failed) ∙ ok in absurd (omega (arith, bad))
+              done.journal ∙ (λ i. J ++ written (next i) (every i))
+          whole_of (Err refusal) ok done part none = let bad : 1 ≡ 0 = ap failures_of (sym part.device) ∙ ok in absurd (omega (arith, bad))
 
       -- all is written
       module _ (J' : List Event) (whole_is : J' ≡ J ++ written (next_of J) (plan_blocks plan)) where
@@ -205,10 +204,9 @@ module _ (capacity volume : ℕ) (J : List Event) (S : State) (store : Store) (k
             reply_planned = λ i. record { code = (ap code_number makes.code ∙ does.code_is) i; commit = (makes.commit ∙ ap (λ (n : ℕ). n + 1) (commits capacity volume J S store knows)) i }
 
       -- by what the commit answered
-      pub applies : (result : Result told.Reply StoreFault) (K J' : List Event) (now : Store) → K ≡ J → IfOk result (λ reply. reply ≡ plan.reply) → OnOk result (now.vat_icb_address ≡ plan.table.at) → OnOk result (now.vat ≡ plan.table.vat)
-          → OnOk result (J' ≡ K ++ written (next_of K) (plan_blocks plan)) → OnErr result (AddsPrefix K (next_of K) (plan_blocks plan) J') → IfErr result (λ refusal. refusal ≡ fault.Device)
-          → now.is_stopped ≡ is_err result → now.capacity ≡ store.capacity → AreKept J' now.directories → Applies capacity volume J S (model_request r) result J' now
-      applies (Ok reply) K J' now same said at vat written_is front device stops size kept =
-          done J' (written_is ∙ ap (λ (L : List Event). L ++ written (next_of L) (plan_blocks plan)) same) reply now said at vat size kept
-      applies (Err refusal) K J' now same said at vat written_is front device stops size kept =
-          inl (device, stopped J' now stops (subst (λ (L : List Event). AddsPrefix L (next_of L) (plan_blocks plan) J') same front))
+      pub applies : (result : Result told.Reply StoreFault) (K J' : List Event) (old now : Store) → K ≡ J → IfOk result (KeepsPlan plan K J' old now) → IfErr result (BreaksPlan plan K J' old now) → old.capacity ≡ store.capacity → AreKept J' now.directories
+          → Applies capacity volume J S (model_request r) result J' now
+      applies (Ok reply) K J' old now same all broken size kept =
+          done J' (all.journal ∙ ap (λ (L : List Event). L ++ written (next_of L) (plan_blocks plan)) same) reply now all.reply_is all.at all.vat (all.volume ∙ size) kept
+      applies (Err refusal) K J' old now same all broken size kept =
+          inl (broken.device, stopped J' now broken.stopped (subst (λ (L : List Event). AddsPrefix L (next_of L) (plan_blocks plan) J') same broken.front))

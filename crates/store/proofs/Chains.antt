@@ -139,14 +139,14 @@ module _ (capacity volume : ℕ) (M : Medium) where
       let count : steps + suc rest ≡ suc steps + rest = omega arith in
       subst (λ (n : ℕ). StoodAt from n S) count (stood_along from steps at (suc rest) S leads (step_back at to rest S before stood))
 
-  pub stands_behind : (from steps to rest : ℕ) (S : model.State) (N : Medium) → ChainLeads M from steps to → EndsAt M from N → RecoveredBefore udf (steps + rest) capacity volume N S
+  pub stands_after : (from steps to rest : ℕ) (S : model.State) (N : Medium) → ChainLeads M from steps to → EndsAt M from N → RecoveredBefore udf (steps + rest) capacity volume N S
       → (N' : Medium) × EndsAt M to N' × RecoveredBefore udf rest capacity volume N' S
-  stands_behind from zero to rest S N same ends stood =
+  stands_after from zero to rest S N same ends stood =
       let none : 0 + rest ≡ rest = omega arith in
       (N, subst (λ (n : ℕ). EndsAt M n N) same ends, subst (λ (k : ℕ). RecoveredBefore udf k capacity volume N S) none stood)
-  stands_behind from (suc steps) to rest S N (at, leads, before) ends stood =
+  stands_after from (suc steps) to rest S N (at, leads, before) ends stood =
       let count : suc steps + rest ≡ steps + suc rest = omega arith in
-      let there = stands_behind from steps at (suc rest) S N leads ends (subst (λ (n : ℕ). RecoveredBefore udf n capacity volume N S) count stood) in
+      let there = stands_after from steps at (suc rest) S N leads ends (subst (λ (n : ℕ). RecoveredBefore udf n capacity volume N S) count stood) in
       step_on at to rest S there.0 there.1 before there.2
 
   -- ---- what is reported at an address
@@ -175,11 +175,6 @@ module _ (capacity volume : ℕ) (M : Medium) where
 -- ---- how many steps
 
 module _ (M : Medium) where
-  -- where a chain begins there is a table
-  pub first_there : (from steps to : ℕ) (t : Table) → ChainLeads M from steps to → HasTableAt M to t → (u : Table) × HasTableAt M from u
-  first_there from zero to t same has = (t, subst (λ (n : ℕ). HasTableAt M n t) (sym same) has)
-  first_there from (suc steps) to t (at, leads, before) has = first_there from steps at before.0 leads before.1
-
   -- each step is one commit less
   pub count_along : (from steps to : ℕ) (t u : Table) → ChainLeads M from steps to → HasTableAt M to t → HasTableAt M from u → t.commits + steps ≡ u.commits
   count_along from zero to t u same has first =

@@ -50,9 +50,9 @@ pub next_below : (link : Option ℕ) (number at : ℕ) → IfSome link (λ n. n 
 next_below None number at less below = tt
 next_below (Some n) number at less below = omega (arith, less, below)
 
-pub next_behind : (link : Option ℕ) (number : ℕ) → IfSome link (λ n. n < number) → IfSome link (λ n. n + 257 < number + 257)
-next_behind None number less = tt
-next_behind (Some n) number less = omega (arith, less)
+pub next_later : (link : Option ℕ) (number : ℕ) → IfSome link (λ n. n < number) → IfSome link (λ n. n + 257 < number + 257)
+next_later None number less = tt
+next_later (Some n) number less = omega (arith, less)
 
 -- one step of the chain
 pub one_before : (M : List (List ℕ)) (at number : ℕ) (t u : Table) → HasTableAt M at t → t.previous ≡ Some number → HasTableAt M (number + 257) u → u.commits + 1 ≡ t.commits

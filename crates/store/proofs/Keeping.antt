@@ -61,12 +61,12 @@ part_there : (n c : ℕ) (xs ys zs : List Block) → length xs ≡ n → length 
 part_there n c xs ys zs at long = ap (λ (bs : List Block). take c bs) (drop_at xs (ys ++ zs) n at) ∙ take_at ys zs c long
 
 module _ (J J' : List Event) (once : Once J) where
-  lies_written : (before blocks : List Block) (entry : Block) (behind : List Block) → J' ≡ J ++ written (next_of J) (before ++ (blocks ++ entry ∷ behind)) → (placed : Placed) (content : Content)
+  lies_written : (before blocks : List Block) (entry : Block) (afterwards : List Block) → J' ≡ J ++ written (next_of J) (before ++ (blocks ++ entry ∷ afterwards)) → (placed : Placed) (content : Content)
       → placed.extent.first + 257 ≡ next_of J + length before → length blocks ≡ div_ceil placed.extent.size 2048 → IsDirectory content.dir.parent content.dir.entries.entries placed.extent.first placed.extent.size blocks
       → placed.at.number ≡ placed.extent.first + length blocks → SaysPlace placed.at.address placed.extent placed.moment entry → LiesThere J' placed content
-  lies_written before blocks entry behind is placed content at long directory number says =
+  lies_written before blocks entry afterwards is placed content at long directory number says =
       let extent = placed.extent in
-      let rest = entry ∷ behind in
+      let rest = entry ∷ afterwards in
       let all = before ++ (blocks ++ rest) in
       let count = div_ceil extent.size 2048 in
       let start : length (held J ++ before) ≡ extent.first + 257 = omega (arith, length-append (held J) before, length-held J, at) in
@@ -84,19 +84,19 @@ module _ (J J' : List Event) (once : Once J) where
         is = subst (λ (bs : List Block). IsDirectory content.dir.parent content.dir.entries.entries extent.first extent.size bs) (sym found) directory;
       }
 
-  all_lie : (ps : List PlacedDirectory) (before behind : List Block) (from : ℕ) → J' ≡ J ++ written (next_of J) (before ++ (directories_list ps ++ behind)) → from + 257 ≡ next_of J + length before → AreLaid from ps
+  all_lie : (ps : List PlacedDirectory) (before afterwards : List Block) (from : ℕ) → J' ≡ J ++ written (next_of J) (before ++ (directories_list ps ++ afterwards)) → from + 257 ≡ next_of J + length before → AreLaid from ps
       → All (λ (p : PlacedDirectory). LiesThere J' (placed_of p) p.directory.content) ps
-  all_lie [] before behind from is at laid k d lt = absurd (omega (arith, lt))
-  all_lie (p ∷ ps) before behind from is at laid zero d lt =
-      let rest = directories_list ps ++ behind in
-      let same : (directory_list p ++ directories_list ps) ++ behind ≡ directory_data p ++ (p.entry ∷ rest) =
-      append_assoc (directory_list p) (directories_list ps) behind ∙ append_assoc (directory_data p) (p.entry ∷ []) rest in
+  all_lie [] before afterwards from is at laid k d lt = absurd (omega (arith, lt))
+  all_lie (p ∷ ps) before afterwards from is at laid zero d lt =
+      let rest = directories_list ps ++ afterwards in
+      let same : (directory_list p ++ directories_list ps) ++ afterwards ≡ directory_data p ++ (p.entry ∷ rest) =
+      append_assoc (directory_list p) (directories_list ps) afterwards ∙ append_assoc (directory_data p) (p.entry ∷ []) rest in
       lies_written before (directory_data p) p.entry rest (is ∙ ap (λ (bs : List Block). J ++ written (next_of J) (before ++ bs)) same) (placed_of p) p.directory.content (omega (arith, at, laid.0.first)) laid.0.blocks laid.0.is
       (omega (arith, laid.0.number, laid.0.first)) laid.0.says
-  all_lie (p ∷ ps) before behind from is at laid (suc k) d lt =
-      let same : before ++ ((directory_list p ++ directories_list ps) ++ behind) ≡ (before ++ directory_list p) ++ (directories_list ps ++ behind) =
-      ap (λ (bs : List Block). before ++ bs) (append_assoc (directory_list p) (directories_list ps) behind) ∙ sym (append_assoc before (directory_list p) (directories_list ps ++ behind)) in
-      all_lie ps (before ++ directory_list p) behind (from + length (directory_list p)) (is ∙ ap (λ (bs : List Block). J ++ written (next_of J) bs) same) (omega (arith, at, length-append before (directory_list p))) laid.1 k d (omega (arith, lt))
+  all_lie (p ∷ ps) before afterwards from is at laid (suc k) d lt =
+      let same : before ++ ((directory_list p ++ directories_list ps) ++ afterwards) ≡ (before ++ directory_list p) ++ (directories_list ps ++ afterwards) =
+      ap (λ (bs : List Block). before ++ bs) (append_assoc (directory_list p) (directories_list ps) afterwards) ∙ sym (append_assoc before (directory_list p) (directories_list ps ++ afterwards)) in
+      all_lie ps (before ++ directory_list p) afterwards (from + length (directory_list p)) (is ∙ ap (λ (bs : List Block). J ++ written (next_of J) bs) same) (omega (arith, at, length-append before (directory_list p))) laid.1 k d (omega (arith, lt))
 
   -- the directories of a plan lie there once its blocks are written
   pub plan_lies : (capacity : ℕ) (plan : Plan) → IsPlan (next_of J) capacity plan → J' ≡ J ++ written (next_of J) (plan_blocks plan) → All (λ (p : PlacedDirectory). LiesThere J' (placed_of p) p.directory.content) plan.directories.items

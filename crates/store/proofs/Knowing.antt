@@ -2,6 +2,7 @@
 use Rattle.std.proofs.Common.{◌≡◌, ℕ, ◌+◌, ◌-◌, ◌≤◌, Bool, List, ◌++◌, length, map, sym, ap, subst, ◌∙◌, arith, length-append}
 use Rattle.std.specs.Prelude.{Option, IsTrue}
 use Rattle.std.specs.FinMap.{len}
+use Rattle.limits.specs.declared.TheConstants.{NODES}
 use Rattle.drive.specs.Journal.{Event, held, next_of}
 use Rattle.drive.proofs.Once.{next_once}
 use Rattle.model.specs.Addresses.{free_address}
@@ -73,7 +74,7 @@ module _ (capacity volume : ℕ) (J : List Event) (S : State) (store : Store) (k
   pub nodes : store.vat.files + store.vat.directories ≡ len S.tree
   nodes = omega (arith, ap (λ (t : Table_). t.files) knows.table, ap (λ (t : Table_). t.directories) knows.table, knows.stands.tells.files, knows.stands.tells.directories, len_both S.tree)
 
-  pub few : store.vat.files + store.vat.directories ≤ 4096
+  pub few : store.vat.files + store.vat.directories ≤ NODES
   few =
       let most = bounded.nodes knows.stands.tells.table _ _ knows.stands.tells.has.is in
       omega (arith, ap (λ (t : Table_). t.files) knows.table, ap (λ (t : Table_). t.directories) knows.table, most.0, most.1)
@@ -146,8 +147,8 @@ module _ (capacity volume : ℕ) (J : List Event) (S : State) (store : Store) (k
       pub table_is : view plan.table.vat ≡ next_table knows.stands.at r.client r.number (code_of (model_operation r.op) S.tree) change.made (plan_written plan) change.removed (view store.vat)
       table_is = makes.table ∙ (λ i. next_table (knows.at i) r.client r.number (does.code_is i) change.made (plan_written plan) change.removed (view store.vat))
 
-      behind : IsTableBehind (held J) request (next_table knows.stands.at r.client r.number (code_of (model_operation r.op) S.tree) change.made (plan_written plan) change.removed (view store.vat)) (node_list plan) plan.table.bytes.items plan.table.first (table_data plan.table) plan.table.entry
-      behind =
+      afterwards : IsTableBehind (held J) request (next_table knows.stands.at r.client r.number (code_of (model_operation r.op) S.tree) change.made (plan_written plan) change.removed (view store.vat)) (node_list plan) plan.table.bytes.items plan.table.first (table_data plan.table) plan.table.entry
+      afterwards =
           let number : plan.table.at - 257 ≡ length (held J) + length planned_blocks - 257 = omega (arith, at_is) in
           let spelled_there = subst (λ (t : Table). IsTableAt (plan.table.at - 257) t plan.table.bytes.items) table_is is.table.spelled in
           let entry_there = subst (λ (m : ℕ). udf.IsEntry (record { kind = TableEntry; moment = m; links = 0; identity = 0; size = length plan.table.bytes.items; place = Extent plan.table.first }) plan.table.entry (plan.table.at - 257)) makes.moment is.table.mark in
@@ -160,11 +161,11 @@ module _ (capacity volume : ℕ) (J : List Event) (S : State) (store : Store) (k
       pub planned : IsPlanned udf capacity volume (held J) S knows.stands request planned_blocks plan.table.entry
       planned =
           pieces_are_planned capacity volume (held J) S knows.stands request nodes_written (gone_of change) (plan_written plan) change.made change.removed (view store.vat) knows.table planned_changes
-          (node_list plan) writes plan.table.bytes.items plan.table.first (table_data plan.table) plan.table.entry behind
+          (node_list plan) writes plan.table.bytes.items plan.table.first (table_data plan.table) plan.table.entry afterwards
 
       pub planned_table : planned.table ≡ model_table (view plan.table.vat)
       unfolding planned
       planned_table =
           pieces_table capacity volume (held J) S knows.stands request nodes_written (gone_of change) (plan_written plan) change.made change.removed (view store.vat) knows.table planned_changes
-          (node_list plan) writes plan.table.bytes.items plan.table.first (table_data plan.table) plan.table.entry behind
+          (node_list plan) writes plan.table.bytes.items plan.table.first (table_data plan.table) plan.table.entry afterwards
           ∙ ap model_table (sym table_is)

@@ -3,7 +3,7 @@ use Rattle.std.proofs.Common.{◌≡◌, ℕ, suc, ◌+◌, ◌-◌, ◌<◌, �
 use Rattle.std.specs.Prelude.{slice_get}
 use Rattle.drive.specs.Journal.{Event, held, next_of}
 use Rattle.durability.specs.Formats.{Table_}
-use Rattle.durability.specs.Volume.{LastTable, RecoveredTo, RecoveredBefore}
+use Rattle.durability.specs.Volume.{RecoveredTo, RecoveredBefore}
 use Rattle.durability.specs.Volume as volumes
 use Rattle.model.specs.Graph.{MakesTree}
 use Rattle.model.specs.Session as model
@@ -12,7 +12,7 @@ use Rattle.udf.specs.Udf.{udf}
 use Rattle.vat.specs.Table.{Table, view}
 use Rattle.vat.specs.declared.table.Vat.{Vat}
 use Rattle.recover.specs.declared.fault.StoreFault.{StoreFault}
-use Rattle.recover.specs.declared.fault.StoreFault.TheVariants.{Device, Memory, NoCommit, Damaged}
+use Rattle.recover.specs.declared.fault.StoreFault.TheVariants.{Device, Memory, Damaged}
 use Rattle.recover.specs.declared.state.State.{State}
 use Rattle.recover.specs.State.{IsShown, IsStateRefused}
 use Rattle.recover.specs.Tables.{HasTableAt}
@@ -22,7 +22,7 @@ use Rattle.store.specs.Calls.{IsOpenOn}
 use Rattle.store.specs.History.{IsTableOf, IsWayRefused}
 use Rattle.store.specs.Past.{IsPast, IsPastRefused}
 use Rattle.lookup.specs.Shows.{graph_below}
-use Rattle.store.proofs.Chains.{EndsAt, count_along, goes_back, last_in, last_is, shown_stood, stands_behind, stood_along, stood_told}
+use Rattle.store.proofs.Chains.{EndsAt, count_along, goes_back, last_in, last_is, shown_stood, stands_after, stood_along, stood_told}
 use Rattle.store.proofs.Knowing.{commits}
 use Rattle.store.proofs.Opening.{one_volume}
 
@@ -98,7 +98,7 @@ module _ (capacity volume : ℕ) (J : List Event) (T : model.State) (store : Sto
     state_refused Memory r = tt
     state_refused (Damaged b c) r = λ S past.
         let steps : past.1 ≡ found.steps + 0 = omega (arith, steps_past k S past, steps_found) in
-        let there = stands_behind capacity volume (held J) store.vat_icb_address found.steps at 0 S (held J) found.leads ends_here (subst (λ (n : ℕ). RecoveredBefore udf n capacity volume (held J) S) steps past.3) in
+        let there = stands_after capacity volume (held J) store.vat_icb_address found.steps at 0 S (held J) found.leads ends_here (subst (λ (n : ℕ). RecoveredBefore udf n capacity volume (held J) S) steps past.3) in
         let is = stood_told capacity volume (held J) at (view vat) S there.0 found.table there.1 there.2 in
         r volume there.2.block S is.0 is.1
     state_refused _ r = absurd r
@@ -112,11 +112,8 @@ module _ (capacity volume : ℕ) (J : List Event) (T : model.State) (store : Sto
       let more = breaks.more in
       let count = count_along (held J) store.vat_icb_address breaks.steps breaks.at breaks.table table_here.0 breaks.leads breaks.there table_here.1 in
       let steps : past.1 ≡ breaks.steps + suc (past.1 - (breaks.steps + 1)) = omega (arith, count, more, commits_here, steps_past k S past) in
-      let there = stands_behind capacity volume (held J) store.vat_icb_address breaks.steps breaks.at (suc (past.1 - (breaks.steps + 1))) S (held J) breaks.leads ends_here
+      let there = stands_after capacity volume (held J) store.vat_icb_address breaks.steps breaks.at (suc (past.1 - (breaks.steps + 1))) S (held J) breaks.leads ends_here
       (subst (λ (n : ℕ). RecoveredBefore udf n capacity volume (held J) S) steps past.3) in
       let on = goes_back capacity volume (held J) breaks.at (past.1 - (breaks.steps + 1)) S there.0 there.1 breaks.table breaks.there there.2 in
       breaks.none on.0 on.1
   way_refused k le _ r = absurd r
-
-  pub fewer_commits : (k : ℕ) → store.vat.sessions.commits < k → IsPastRefused capacity volume (held J) T.commits k NoCommit
-  fewer_commits k less = omega (arith, less, commits capacity volume J T store knows)

@@ -1,7 +1,6 @@
 -- What a query is answered of the state that a store knows, and what the store knows afterwards.
-use Rattle.std.proofs.Common.{◌≡◌, ◌⊎◌, inl, inr, ℕ, Bool, false, List}
-use Rattle.std.specs.Prelude.{IfOk, IfErr, IsTrue, Option, Some, None, Result, Ok, Err}
-use Rattle.drive.specs.Journal.{Event, Once}
+use Rattle.std.proofs.Common.{◌≡◌, ◌⊎◌, inl, inr, ℕ, List}
+use Rattle.std.specs.Prelude.{IfOk, IfErr, Option, Some, None, Result, Ok, Err}
 use Rattle.model.specs.Tree.{Content, Node, Path, Tree}
 use Rattle.model.specs.Tree.Content.{File, Directory}
 use Rattle.model.specs.Session.{State}
@@ -11,14 +10,9 @@ use Rattle.durability.specs.Runs.Query.{Get, List_, Stat}
 use Rattle.recover.specs.declared.fault.StoreFault.{StoreFault}
 use Rattle.request.specs.declared.answer.Listed.{Listed}
 use Rattle.request.specs.declared.answer.NodeStatus.{NodeStatus}
-use Rattle.store.specs.declared.store.Store.{Store}
 use Rattle.lookup.specs.Asked.{is_directory, said_names}
-use Rattle.lookup.specs.Cache.{AreKept}
-use Rattle.store.specs.Calls.{GetRefuses, Gets, IsOpenOn, ListRefuses, Lists, StatRefuses, Stats}
+use Rattle.store.specs.Calls.{GetRefuses, Gets, ListRefuses, Lists, StatRefuses, Stats}
 use Rattle.lookup.specs.Queries.{IsQueryRefused}
-use Rattle.store.specs.Agrees.{SameVolume}
-use Rattle.lookup.specs.Shows.{HasNodesOf}
-use Rattle.store.proofs.Knowing.{knows_again, shows}
 
 -- ---- the answers that each query has
 
@@ -80,28 +74,3 @@ stats S path (Err fault) is refused = by refused
     by (inr (inl other)) = absurd (shown_elsewhere _ (inl other.1))
     by (inr (inr (inl other))) = absurd (shown_elsewhere _ (inr other.1))
     by (inr (inr (inr short))) = inl short
-
--- ---- by what a query's contract says
-
-module _ (capacity volume : ℕ) (J J' : List Event) (S : State) (h : Bool) (old new : Store) (knows : IsOpenOn capacity volume J S old) (honest : IsTrue h) where
-  -- what was known is known
-  pub still_known : SameVolume old new → J' ≡ J → (IsTrue h → AreKept J old.directories → AreKept J new.directories) → IsOpenOn capacity volume J' S new
-  still_known same journal kept = knows_again capacity volume J S old knows J' new journal same.at same.vat same.capacity (kept honest knows.kept)
-
-  shown_tree : HasNodesOf h J old.directories old.vat_icb_address old.vat.entries.items S.tree
-  shown_tree = shows capacity volume J S old knows h honest
-
-  pub get_known : (path : Path) (result : Result (List ℕ) StoreFault) → old.is_stopped ≡ false
-      → ((tree : Tree) → HasNodesOf h J old.directories old.vat_icb_address old.vat.entries.items tree → IfOk result (λ bytes. told tree (Get path) ≡ runs.Answer.Data bytes))
-      → ((tree : Tree) → HasNodesOf h J old.directories old.vat_icb_address old.vat.entries.items tree → old.is_stopped ≡ false → IfErr result (IsQueryRefused (told tree (Get path)))) → Gets S path result
-  get_known path result going is refused = gets S path result (is S.tree shown_tree) (refused S.tree shown_tree going)
-
-  pub list_known : (path : Path) (result : Result (List Listed) StoreFault) → old.is_stopped ≡ false
-      → ((tree : Tree) → HasNodesOf h J old.directories old.vat_icb_address old.vat.entries.items tree → IfOk result (λ names. told tree (List_ path) ≡ runs.Answer.Names (said_names names)))
-      → ((tree : Tree) → HasNodesOf h J old.directories old.vat_icb_address old.vat.entries.items tree → old.is_stopped ≡ false → IfErr result (IsQueryRefused (told tree (List_ path)))) → Lists S path result
-  list_known path result going is refused = lists S path result (is S.tree shown_tree) (refused S.tree shown_tree going)
-
-  pub stat_known : (path : Path) (result : Result NodeStatus StoreFault) → old.is_stopped ≡ false
-      → ((tree : Tree) → Once J → HasNodesOf h J old.directories old.vat_icb_address old.vat.entries.items tree → IfOk result (λ status. told tree (Stat path) ≡ runs.Answer.NodeIs (is_directory status.kind) status.moment status.size))
-      → ((tree : Tree) → HasNodesOf h J old.directories old.vat_icb_address old.vat.entries.items tree → old.is_stopped ≡ false → IfErr result (IsQueryRefused (told tree (Stat path)))) → Stats S path result
-  stat_known path result going is refused = stats S path result (is S.tree knows.once shown_tree) (refused S.tree shown_tree going)

@@ -48,48 +48,48 @@ Opens capacity volume journal S (Err refusal) = IsShortage refusal
 -- ---- a new request
 
 -- It was committed, with its own reply, in no more blocks than it may need, and there was room for as many.
-pub record IsCommitDone (capacity volume : ℕ) (before : List Event) (S : State) (request : Request) (reply : told.Reply) (behind : List Event) (store : Store) : Type 0 where
+pub record IsCommitDone (capacity volume : ℕ) (before : List Event) (S : State) (request : Request) (reply : told.Reply) (afterwards : List Event) (store : Store) : Type 0 where
   pub reply_is : reply_said reply ≡ reply_to S request
-  pub advances : Advances udf capacity volume before S behind (after_one S request)
-  pub some : length before < length behind
-  pub few : length behind ≤ length before + need spelled S request
+  pub advances : Advances udf capacity volume before S afterwards (after_one S request)
+  pub some : length before < length afterwards
+  pub few : length afterwards ≤ length before + need spelled S request
   pub room : length before + need spelled S request ≤ volume
-  pub knows : IsStillOpenOn capacity volume behind (after_one S request) store
+  pub knows : IsStillOpenOn capacity volume afterwards (after_one S request) store
 
 -- The drive failed: a prefix of its blocks may be written, and the request committed where all are.
-pub record IsFailed (capacity volume : ℕ) (before : List Event) (S : State) (request : Request) (behind : List Event) (store : Store) : Type 0 where
+pub record IsFailed (capacity volume : ℕ) (before : List Event) (S : State) (request : Request) (afterwards : List Event) (store : Store) : Type 0 where
   pub done : List Request
-  pub whether : (done ≡ []) ⊎ ((done ≡ request ∷ []) × (length before < length behind))
-  pub advances : Advances udf capacity volume before S behind (after S done)
-  pub few : length behind ≤ length before + need spelled S request
-  pub room : length before < length behind → length before + need spelled S request ≤ volume
-  pub knows : IsStillOpenOn capacity volume behind (after S done) store
+  pub whether : (done ≡ []) ⊎ ((done ≡ request ∷ []) × (length before < length afterwards))
+  pub advances : Advances udf capacity volume before S afterwards (after S done)
+  pub few : length afterwards ≤ length before + need spelled S request
+  pub room : length before < length afterwards → length before + need spelled S request ≤ volume
+  pub knows : IsStillOpenOn capacity volume afterwards (after S done) store
 
 -- Nothing was written.
-pub record IsLeftUnwritten (capacity volume : ℕ) (before : List Event) (S : State) (behind : List Event) (store : Store) : Type 0 where
-  pub journal : behind ≡ before
-  pub knows : IsStillOpenOn capacity volume behind S store
+pub record IsLeftUnwritten (capacity volume : ℕ) (before : List Event) (S : State) (afterwards : List Event) (store : Store) : Type 0 where
+  pub journal : afterwards ≡ before
+  pub knows : IsStillOpenOn capacity volume afterwards S store
 
 abbrev pub RefusesRequest : (capacity volume : ℕ) → List Event → State → Request → StoreFault → List Event → Store → Type 0
-RefusesRequest capacity volume before S request refusal behind store =
-    ((refusal ≡ fault.Device) × IsFailed capacity volume before S request behind store)
-    ⊎ (((refusal ≡ fault.Memory) × IsLeftUnwritten capacity volume before S behind store)
-    ⊎ ((refusal ≡ fault.Full) × IsLeftUnwritten capacity volume before S behind store × (volume < length before + need spelled S request)))
+RefusesRequest capacity volume before S request refusal afterwards store =
+    ((refusal ≡ fault.Device) × IsFailed capacity volume before S request afterwards store)
+    ⊎ (((refusal ≡ fault.Memory) × IsLeftUnwritten capacity volume before S afterwards store)
+    ⊎ ((refusal ≡ fault.Full) × IsLeftUnwritten capacity volume before S afterwards store × (volume < length before + need spelled S request)))
 
 -- what became of a new request at the recovered state
 abbrev pub Applies : (capacity volume : ℕ) → List Event → State → Request → Result told.Reply StoreFault → List Event → Store → Type 0
-Applies capacity volume before S request (Ok reply) behind store = IsCommitDone capacity volume before S request reply behind store
-Applies capacity volume before S request (Err refusal) behind store = RefusesRequest capacity volume before S request refusal behind store
+Applies capacity volume before S request (Ok reply) afterwards store = IsCommitDone capacity volume before S request reply afterwards store
+Applies capacity volume before S request (Err refusal) afterwards store = RefusesRequest capacity volume before S request refusal afterwards store
 
 -- The writes that a call made, and those that it would still have made had none failed. The journal goes on by a prefix of
 -- their blocks, and by all blocks of the writes that were made where none failed. Whatever a power loss leaves of the
 -- writes that were made, the state before the call is recovered, or the one after the request.
-pub record CommitSurvivesPowerLoss (capacity volume : ℕ) (before : List Event) (S : State) (request : Request) (writes : List (List (List ℕ))) (failed : ℕ) (behind : List Event) (later : List (List (List ℕ))) : Type 0 where
+pub record CommitSurvivesPowerLoss (capacity volume : ℕ) (before : List Event) (S : State) (request : Request) (writes : List (List (List ℕ))) (failed : ℕ) (afterwards : List Event) (later : List (List (List ℕ))) : Type 0 where
   pub added : List (List (List ℕ))
   pub others : List (List (List ℕ))
   pub writes_are : later ≡ writes ++ added
-  pub front : AddsPrefix before (length before) (joined (added ++ others)) behind
-  pub whole : failed ≡ 0 → behind ≡ before ++ written (length before) (joined added)
+  pub front : AddsPrefix before (length before) (joined (added ++ others)) afterwards
+  pub whole : failed ≡ 0 → afterwards ≡ before ++ written (length before) (joined added)
   pub torn : (left : List (List ℕ)) (journal : List Event) → IsLeft added left → journal ≡ before ++ written (length before) left
       → Advances udf capacity volume before S journal S ⊎ Advances udf capacity volume before S journal (after_one S request)
 

@@ -5,16 +5,3 @@ pub mod Opened
 pub mod Past
 pub mod Putting
 pub mod Sessions
-pub use Rattle.lookup.specs.Asked
-pub use Rattle.lookup.specs.Queries
-pub use Rattle.lookup.specs.Shows
-pub use Rattle.formatting.specs.NewVolume
-pub use Rattle.planning.specs.Plan
-pub use Rattle.table_update.specs.Below
-pub use Rattle.table_update.specs.Commits
-pub use Rattle.table_update.specs.Full
-pub use Rattle.table_update.specs.Need
-pub use Rattle.table_update.specs.NextTable
-pub use Rattle.table_update.specs.Outside
-pub use Rattle.table_update.specs.Pieces
-pub use Rattle.table_update.specs.TableChange

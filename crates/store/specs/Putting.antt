@@ -1,5 +1,5 @@
 -- What a commit writes to a drive.
-use Rattle.std.specs.Prelude.{◌≡◌, ◌⊎◌, ℕ, ◌+◌, true, List, ◌++◌}
+use Rattle.std.specs.Prelude.{◌≡◌, ◌⊎◌, ℕ, ◌+◌, false, true, List, ◌++◌}
 use Rattle.drive.specs.Journal.{Event, next_of, written, AddsPrefix}
 use Rattle.recover.specs.declared.fault.StoreFault.{StoreFault}
 use Rattle.recover.specs.declared.fault.StoreFault.TheVariants.{Device}
@@ -21,6 +21,24 @@ pub record IsPlanOf (store : Store) (request : Request) (change : Change) (plan 
   pub commit : plan.reply.commit ≡ store.vat.sessions.commits + 1
   pub writings : plan_writings plan ≡ change_writings request.moment change
   pub table : view plan.table.vat ≡ next_table store.vat_icb_address request.client request.number (code_number change.code) change.made (plan_written plan) change.removed (view store.vat)
+
+-- All blocks of a plan were written after a journal, and the store goes on with the plan's table.
+pub record KeepsPlan (plan : Plan) (J J' : List Event) (before store : Store) (reply : Reply) : Type 0 where
+  pub reply_is : reply ≡ plan.reply
+  pub journal : J' ≡ J ++ written (next_of J) (plan_blocks plan)
+  pub at : store.vat_icb_address ≡ plan.table.at
+  pub vat : store.vat ≡ plan.table.vat
+  pub volume : store.capacity ≡ before.capacity
+  pub going : store.is_stopped ≡ false
+
+-- A write of a plan failed after a prefix of its blocks, and the store is stopped. It keeps the table that it had.
+pub record BreaksPlan (plan : Plan) (J J' : List Event) (before store : Store) (fault : StoreFault) : Type 0 where
+  pub device : fault ≡ Device
+  pub front : AddsPrefix J (next_of J) (plan_blocks plan) J'
+  pub at : store.vat_icb_address ≡ before.vat_icb_address
+  pub vat : store.vat ≡ before.vat
+  pub volume : store.capacity ≡ before.capacity
+  pub stopped : store.is_stopped ≡ true
 
 -- All that was planned was written, and the store keeps the plan's table.
 pub record WritesPlan (before : Store) (request : Request) (capacity : ℕ) (J J' : List Event) (store : Store) (reply : Reply) : Type 0 where

@@ -1,7 +1,7 @@
 //! A commit: what is planned is written, and then kept.
 
 ghost use Rattle.std.specs.Prelude.{◌≡◌, ℕ, ◌+◌, ◌++◌, false, true, Err, is_err, IsTrue, IfOk, IfErr, OnOk, OnErr};
-ghost use Rattle.drive.specs.Journal.{Once, next_of, written, AddsPrefix};
+ghost use Rattle.drive.specs.Journal.{Once, next_of, written};
 ghost use Rattle.drive.specs.Reads.{ReadsAndWrites};
 ghost use Rattle.drive.specs.Sending.{SendsAlone};
 ghost use Rattle.recover.specs.Faults.{devices};
@@ -10,8 +10,8 @@ ghost use Rattle.store.specs.Agrees.{IsStoreOn};
 ghost use Rattle.lookup.specs.Asked.{model_request};
 ghost use Rattle.store.specs.Calls.{Applies, IsOpenOn, CommitSurvivesPowerLoss};
 ghost use Rattle.lookup.specs.Cache.{AreKept};
-ghost use Rattle.planning.specs.Plan.{IsPlan, table_data, node_list, plan_blocks};
-ghost use Rattle.store.specs.Putting.{WritesPlan, IsCommitRefused};
+ghost use Rattle.planning.specs.Plan.{IsPlan, table_data, node_list};
+ghost use Rattle.store.specs.Putting.{BreaksPlan, IsCommitRefused, KeepsPlan, WritesPlan};
 ghost use Rattle.table_update.specs.TableChange.{IsNext};
 ghost use Rattle.recover.specs.declared.fault.StoreFault.TheVariants.{Device, Stopped};
 
@@ -69,17 +69,10 @@ impl Store {
         requires agrees { IsStoreOn (D.journal drive.old) (D.capacity drive.old) self.old }
         requires plan { IsPlan (next_of (D.journal drive.old)) (D.capacity drive.old) plan }
         ensures agrees { IsStoreOn (D.journal drive.new) (D.capacity drive.new) self.new }
-        ensures reply { IfOk result (λ reply. reply ≡ plan.entry.reply) }
-        ensures at { OnOk result (self.new.vat_icb_address ≡ plan.entry.table.at) }
-        ensures vat { OnOk result (self.new.vat ≡ plan.entry.table.vat) }
-        ensures written { OnOk result (D.journal drive.new ≡ D.journal drive.old ++ written (next_of (D.journal drive.old)) (plan_blocks plan.entry)) }
-        ensures front { OnErr result (AddsPrefix (D.journal drive.old) (next_of (D.journal drive.old)) (plan_blocks plan.entry) (D.journal drive.new)) }
-        ensures as_before { OnErr result ((self.new.vat_icb_address ≡ self.old.vat_icb_address) × (self.new.vat ≡ self.old.vat)) }
+        ensures done { IfOk result (KeepsPlan plan.entry (D.journal drive.old) (D.journal drive.new) self.old self.new) }
+        ensures failed { IfErr result (BreaksPlan plan.entry (D.journal drive.old) (D.journal drive.new) self.old self.new) }
         ensures alone { SendsAlone D.Drive (node_list plan.entry ++ table_data plan.entry.table) plan.entry.table.entry (is_err result) drive.old drive.new }
         ensures kept { Once (D.journal drive.old) → AreKept (D.journal drive.old) self.old.directories → AreKept (D.journal drive.new) self.new.directories }
-        ensures stopped { self.new.is_stopped ≡ is_err result }
-        ensures volume { self.new.capacity ≡ self.old.capacity }
-        ensures device { IfErr result (λ fault. fault ≡ Device) }
         ensures follows { ReadsAndWrites D.Drive (devices result) drive.old drive.new }
     {
         let mut plan = plan;

@@ -12,7 +12,7 @@ ghost use Rattle.recover.specs.declared.state.State.{State};
 ghost use Rattle.recover.specs.declared.fault.StoreFault.TheVariants.{NoCommit, Stopped};
 ghost use Rattle.std.proofs.Props.{props};
 ghost use Rattle.store.specs.Agrees.{IsStoreOn};
-ghost use Rattle.table_update.specs.Below.{AreBelow};
+ghost use Rattle.recover.specs.Below.{AreBelow};
 ghost use Rattle.store.specs.Calls.{IsOpenOn};
 ghost use Rattle.store.specs.History.{IsChecked, IsHistory, IsHistoryRefused, IsTableOf, IsUnchecked, IsWayRefused, told_of};
 ghost use Rattle.store.specs.Past.{AllRecovered, IsCheckRefused, IsPast, IsPastRefused};
@@ -20,10 +20,10 @@ ghost use Rattle.store.specs.Past.{AllRecovered, IsCheckRefused, IsPast, IsPastR
 use crate::queries::nodes_of;
 use crate::store::Store;
 use drive::Drive;
+use limits::PARTITION_START;
 use lookup::Lookup;
 use recover::{
-    PARTITION_START, ReadCache, State, StoreFault, cause, damaged, linked, state_at, state_sharing,
-    table_at,
+    ReadCache, State, StoreFault, cause, damaged, linked, state_at, state_sharing, table_at,
 };
 use request::{FileData, Listing, NodeStatus, Path};
 use std::alloc::Global;

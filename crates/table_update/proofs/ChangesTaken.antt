@@ -4,6 +4,7 @@ use Rattle.std.specs.Prelude.{Option, Some, None, if◌then◌else◌}
 use Rattle.std.specs.FinMap.{get, len}
 use Rattle.std.proofs.lemmas.Bool.{false≢true}
 use Rattle.std.proofs.lemmas.Option.{slice_get_within, slice_get-get_or}
+use Rattle.limits.specs.declared.TheConstants.{NODES}
 use Rattle.dir.specs.declared.entry.Kind.{Kind}
 use Rattle.dir.specs.declared.entry.Kind.TheVariants.{File, Directory}
 use Rattle.model.specs.Tree.{Path, Tree, Content, parent_of, found_directory, is_directory_at, directories_of, files_of}
@@ -27,8 +28,8 @@ use Rattle.udf.specs.Words.{name_kind}
 use Rattle.udf.proofs.Formats.{exact, distinct}
 use Rattle.vat.specs.Table.{Table}
 use Rattle.table_update.specs.declared.node.NewNode.{NewNode}
-use Rattle.table_update.specs.declared.node.Node.{Node}
-use Rattle.table_update.specs.Below.{IsUsed}
+use Rattle.recover.specs.declared.node.Node.{Node}
+use Rattle.recover.specs.Below.{IsUsed}
 use Rattle.table_update.specs.TableChange.{with_node, with_number, with_nodes, committed, HasNode, IsFree, IsRemovable}
 use Rattle.table_update.specs.NextTable.{made_by, RemovesNode, ChangesVolume, AreUsed, AreTaken, ChangesAreTaken}
 use Rattle.table_update.proofs.EntryChanges.{entry_there}
@@ -108,7 +109,7 @@ module _ (capacity volume : ℕ) (medium : Medium) (S : State) (stands : Recover
   used_found : (path : Path) (f : Found stored path) → IsUsed f.address t.entries
   used_found path f = used_stored f.address f.stored f.is
 
-  vacant_free : len S.tree < 4096 → IsFree vacant t.entries
+  vacant_free : len S.tree < NODES → IsFree vacant t.entries
   vacant_free few = go (below_or_at vacant (length t.entries) low)
     where
       unused_there : (e : Option ℕ) → slice_get t.entries vacant ≡ Some e → slice_get t.entries vacant ≡ Some None
@@ -124,7 +125,7 @@ module _ (capacity volume : ℕ) (medium : Medium) (S : State) (stands : Recover
           inr (end, omega (arith, end, size, full, count_used capacity volume medium S stands r t is, few))
 
   -- a node is made
-  addition_taken : (path : Path) (content : Content) (kind : Kind) (nodes : List Writing) (written : List Written) → len S.tree < 4096 → map (λ w. w.address) written ≡ map (λ n. n.address) nodes
+  addition_taken : (path : Path) (content : Content) (kind : Kind) (nodes : List Writing) (written : List Written) → len S.tree < NODES → map (λ w. w.address) written ≡ map (λ n. n.address) nodes
       → PlansAddition stored vacant path content r.moment S.next_identity nodes → AreTaken (Some (record { kind = kind; address = vacant })) written None base
   addition_taken path content kind nodes written few addresses plan = record {
     free = vacant_free few;
@@ -193,7 +194,7 @@ module _ (capacity volume : ℕ) (medium : Medium) (S : State) (stands : Recover
         used = used_in_turn written (plan.above.address ∷ []) turns t.entries all;
         there = subst (IsRemovable node.kind node.address) (sym (placed_alone written base))
             (record {
-              behind = omega (arith, address, not_root path plan.node (may_remove path S.tree e).named);
+              afterwards = omega (arith, address, not_root path plan.node (may_remove path S.tree e).named);
               used = stays_used written (plan.above.address ∷ []) turns node.address t.entries all there;
               counted = kind_counted path e node.kind kind (all_entries written t.entries);
             });

@@ -2,6 +2,7 @@
 use Rattle.std.proofs.Common.{◌≡◌, ◌⊎◌, inl, inr, ℕ, suc, ◌+◌, ◌<◌, ◌≤◌, List, [], ◌∷◌, ◌++◌, length, refl, sym, ap, ◌∙◌, subst, arith, append_assoc, length-append}
 use Rattle.std.proofs.lemmas.List.{take_at}
 use Rattle.std.proofs.lemmas.Option.{slice_get_within}
+use Rattle.limits.specs.declared.TheConstants.{PARTITION_START}
 use Rattle.drive.specs.Journal.{Event, held, Once, AddsPrefix, written}
 use Rattle.drive.proofs.Fronts.{front_whole, front_keeps, front_once, front_grows, held_write}
 use Rattle.model.specs.Session.{State, Request, after_one}
@@ -66,12 +67,12 @@ module _ (capacity volume : ℕ) (J K : List Event) (S : State) (r : Request) (b
       go (inr goes) = record { done = r ∷ []; whether = inr (refl, omega (arith, goes.0, some_all)); advances = goes.1; few = few }
 
 pub commits_are_whole : CommitsAreWhole
-commits_are_whole capacity volume before behind S r blocks mark once stands plan is =
-    let w = whole capacity volume before behind S r blocks mark once stands plan is in
+commits_are_whole capacity volume before afterwards S r blocks mark once stands plan is =
+    let w = whole capacity volume before afterwards S r blocks mark once stands plan is in
     record { advances = w.0; some = w.1; few = w.2 }
 
 pub commits_are_part : CommitsArePart
-commits_are_part capacity volume before behind S r blocks mark once stands plan front = part capacity volume before behind S r blocks mark once stands plan front
+commits_are_part capacity volume before afterwards S r blocks mark once stands plan front = part capacity volume before afterwards S r blocks mark once stands plan front
 
 -- ---- the table after a whole commit
 
@@ -88,7 +89,7 @@ module _ (capacity volume : ℕ) (B : Medium) (S : State) (r : Request) (blocks 
   size : length (B ++ blocks) ≡ length B + length blocks
   size = length-append B blocks
 
-  low : 257 ≤ length B
+  low : PARTITION_START ≤ length B
   low = omega (arith, within udf B stands.at stands.block stands.last, stands.last.is.0)
 
   last : IsLast udf M mark_at mark

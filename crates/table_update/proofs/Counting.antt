@@ -5,6 +5,7 @@ use Rattle.std.specs.Int.{div_ceil}
 use Rattle.std.proofs.lemmas.List.{take_more}
 use Rattle.std.proofs.lemmas.List.Sums.{sum_by-cons}
 use Rattle.std.proofs.lemmas.List.Elements.{All-head, All-tail}
+use Rattle.limits.specs.declared.TheConstants.{BLOCK_BYTES}
 use Rattle.model.specs.Tree.{Name}
 use Rattle.durability.specs.Formats.{identifier_size, identifiers_size}
 use Rattle.durability.specs.Volume.{blocks_for}
@@ -43,6 +44,6 @@ names_are_short (name ∷ names) all =
 pub files_are_counted : FilesAreCounted
 files_are_counted bytes = go (nat_lt 1872 (length bytes))
   where
-    go : (b : Bool) → 2 * div_ceil (length (cond b bytes [])) 2048 + 1 ≡ 2 * cond b (blocks_for (length bytes)) 0 + 1
+    go : (b : Bool) → 2 * div_ceil (length (cond b bytes [])) BLOCK_BYTES + 1 ≡ 2 * cond b (blocks_for (length bytes)) 0 + 1
     go true = refl
     go false = refl

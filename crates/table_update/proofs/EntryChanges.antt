@@ -5,6 +5,7 @@ use Rattle.std.proofs.lemmas.Option.{slice_get_within, get_or_from_slice_get, sl
 use Rattle.std.proofs.lemmas.List.{length-take-le, take_all, drop_all, set_split, get_or_at}
 use Rattle.std.proofs.lemmas.List.Elements.{All-append, All-cons, All-take, All-drop}
 use Rattle.std.proofs.lemmas.List.Sums.{sum_by-set, sum_by-append}
+use Rattle.limits.specs.declared.TheConstants.{ADDRESSES}
 use Rattle.table_update.specs.TableChange.{with_number, IsFree}
 
 -- in the place of the one that is there
@@ -70,10 +71,10 @@ pub count_removed : (xs : List (Option ℕ)) (i old : ℕ) → slice_get xs i �
 count_removed xs i old is = omega (arith, count_set xs i None (Some old) is)
 
 -- what is free is after the root, and no further than after the last
-pub free_within : (xs : List (Option ℕ)) (i : ℕ) → IsFree i xs → length xs ≤ 4097 → (i ≤ length xs) × (max (length xs) (i + 1) ≤ 4097)
+pub free_within : (xs : List (Option ℕ)) (i : ℕ) → IsFree i xs → length xs ≤ ADDRESSES → (i ≤ length xs) × (max (length xs) (i + 1) ≤ ADDRESSES)
 free_within xs i (inl none) many = let lt = slice_get_within xs i None none in (omega arith, omega arith)
 free_within xs i (inr end) many = (omega (arith, end.0), omega (arith, end.0, end.1))
 
-pub not_free : (xs : List (Option ℕ)) (i : ℕ) → length xs ≤ i → (i ≡ length xs → 4097 ≤ i) → IsFree i xs → ⊥
+pub not_free : (xs : List (Option ℕ)) (i : ℕ) → length xs ≤ i → (i ≡ length xs → ADDRESSES ≤ i) → IsFree i xs → ⊥
 not_free xs i past most (inl none) = omega (arith, slice_get_within xs i None none)
 not_free xs i past most (inr end) = omega (arith, most end.0, end.1)

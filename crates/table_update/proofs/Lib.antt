@@ -1,4 +1,3 @@
-pub mod BelowLemmas
 pub mod ChangesTaken
 pub mod Committed
 pub mod Counting

@@ -25,7 +25,7 @@ use Rattle.vat.specs.Version.{record_size}
 use Rattle.vat.specs.Table.{Table}
 use Rattle.vat.proofs.TableReads.{takes_so_many}
 use Rattle.table_update.specs.declared.node.NewNode.{NewNode}
-use Rattle.table_update.specs.declared.node.Node.{Node}
+use Rattle.recover.specs.declared.node.Node.{Node}
 use Rattle.table_update.specs.TableChange.{with_number, committed, with_node, removed}
 use Rattle.table_update.specs.NextTable.{with_made, all_placed, without_gone, begun, next_table, made_by, ChangesVolume, IsLong, NextTablesAreLong, NextTablesAreSized}
 use Rattle.table_update.proofs.EntryChanges.{length-with_entry}
@@ -115,25 +115,25 @@ module _ (capacity volume : ℕ) (medium : Medium) (S : State) (stands : Recover
   abbrev start : Option NewNode → Table
   start made = begun stands.at r.client r.number (code_of r.operation S.tree) made t
 
-  abbrev behind : Operation → Tree
-  behind op = done op r.moment S.next_identity S.tree
+  abbrev afterwards : Operation → Tree
+  afterwards op = done op r.moment S.next_identity S.tree
 
-  entries_long : (op : Operation) (made : Option NewNode) → code_of op S.tree ≡ 0 → made ≡ made_by op vacant → length (start made).entries ≡ max S.table_length (1 + len (behind op))
+  entries_long : (op : Operation) (made : Option NewNode) → code_of op S.tree ≡ 0 → made ≡ made_by op vacant → length (start made).entries ≡ max S.table_length (1 + len (afterwards op))
   entries_long (Create path bytes) made e m =
       let c = counted (Create path bytes) r.moment S.next_identity S.tree stands.tells.tree e in
-      ap (λ (x : Option NewNode). length (start x).entries) m ∙ longer (behind (Create path bytes)) (omega (arith, c.files, c.directories, len_both S.tree, len_both (behind (Create path bytes))))
+      ap (λ (x : Option NewNode). length (start x).entries) m ∙ longer (afterwards (Create path bytes)) (omega (arith, c.files, c.directories, len_both S.tree, len_both (afterwards (Create path bytes))))
   entries_long (MakeDir path) made e m =
       let c = counted (MakeDir path) r.moment S.next_identity S.tree stands.tells.tree e in
-      ap (λ (x : Option NewNode). length (start x).entries) m ∙ longer (behind (MakeDir path)) (omega (arith, c.files, c.directories, len_both S.tree, len_both (behind (MakeDir path))))
+      ap (λ (x : Option NewNode). length (start x).entries) m ∙ longer (afterwards (MakeDir path)) (omega (arith, c.files, c.directories, len_both S.tree, len_both (afterwards (MakeDir path))))
   entries_long (Replace path bytes) made e m =
       let c = counted (Replace path bytes) r.moment S.next_identity S.tree stands.tells.tree e in
-      ap (λ (x : Option NewNode). length (start x).entries) m ∙ as_long (behind (Replace path bytes)) (omega (arith, c.files, c.directories, len_both S.tree, len_both (behind (Replace path bytes))))
+      ap (λ (x : Option NewNode). length (start x).entries) m ∙ as_long (afterwards (Replace path bytes)) (omega (arith, c.files, c.directories, len_both S.tree, len_both (afterwards (Replace path bytes))))
   entries_long (Rename from to) made e m =
       let c = counted (Rename from to) r.moment S.next_identity S.tree stands.tells.tree e in
-      ap (λ (x : Option NewNode). length (start x).entries) m ∙ as_long (behind (Rename from to)) (omega (arith, c.files, c.directories, len_both S.tree, len_both (behind (Rename from to))))
+      ap (λ (x : Option NewNode). length (start x).entries) m ∙ as_long (afterwards (Rename from to)) (omega (arith, c.files, c.directories, len_both S.tree, len_both (afterwards (Rename from to))))
   entries_long (Remove path) made e m =
       let c = counted (Remove path) r.moment S.next_identity S.tree stands.tells.tree e in
-      ap (λ (x : Option NewNode). length (start x).entries) m ∙ as_long (behind (Remove path)) (omega (arith, c.files, c.directories, len_both S.tree, len_both (behind (Remove path))))
+      ap (λ (x : Option NewNode). length (start x).entries) m ∙ as_long (afterwards (Remove path)) (omega (arith, c.files, c.directories, len_both S.tree, len_both (afterwards (Remove path))))
 
   made_records : (made : Option NewNode) (u : Table) → (with_made made u).records ≡ u.records
   made_records None u = refl
@@ -157,7 +157,7 @@ module _ (capacity volume : ℕ) (medium : Medium) (S : State) (stands : Recover
       by_tree tree same size = size ∙ ap (λ (x : Tree). max S.table_length (1 + len x)) (sym same)
 
       when_done : code_of r.operation S.tree ≡ 0 → length (start made).entries ≡ (after_one S r).table_length
-      when_done e = by_tree (behind r.operation) (tree_done r.operation r.moment S.next_identity S.tree e) (entries_long r.operation made e (h.done e).1)
+      when_done e = by_tree (afterwards r.operation) (tree_done r.operation r.moment S.next_identity S.tree e) (entries_long r.operation made e (h.done e).1)
 
       when_refused : (code_of r.operation S.tree ≡ 0 → ⊥) → length (start made).entries ≡ (after_one S r).table_length
       when_refused other =

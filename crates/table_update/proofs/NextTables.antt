@@ -4,6 +4,7 @@ use Rattle.std.specs.Prelude.{Option, Some, None, if◌then◌else◌}
 use Rattle.std.proofs.lemmas.Bool.{ne_eqb}
 use Rattle.std.proofs.lemmas.List.{length-take-le}
 use Rattle.std.proofs.lemmas.Option.{slice_get_within}
+use Rattle.limits.specs.declared.TheConstants.{PARTITION_START}
 use Rattle.dir.specs.declared.entry.Kind.{Kind}
 use Rattle.dir.specs.declared.entry.Kind.TheVariants.{File, Directory}
 use Rattle.model.specs.Tree.{Path, Tree, parent_of, files_of, directories_of, is_directory_at}
@@ -27,7 +28,7 @@ use Rattle.udf.specs.Words.{name_kind}
 use Rattle.udf.proofs.Formats.{exact}
 use Rattle.vat.specs.Table.{Table}
 use Rattle.table_update.specs.declared.node.NewNode.{NewNode}
-use Rattle.table_update.specs.declared.node.Node.{Node}
+use Rattle.recover.specs.declared.node.Node.{Node}
 use Rattle.table_update.specs.TableChange.{with_number, with_nodes, committed, with_node, removed}
 use Rattle.table_update.specs.NextTable.{next_table, made_by, RemovesNode, ChangesVolume, planned_table, NextTablesFollow}
 use Rattle.table_update.proofs.SaidRecords.{said_with_reply}
@@ -66,7 +67,7 @@ module _ (S : State) (r : Request) (at : ℕ) (t : Table) (commits : t.commits �
   abbrev asked : Tree → ℕ → List Written → List ℕ → Table_
   asked tree next written unused = record {
     label = t.label;
-    previous = Some (at - 257);
+    previous = Some (at - PARTITION_START);
     files = files_of tree;
     directories = directories_of tree;
     next_identity = next;
@@ -80,7 +81,7 @@ module _ (S : State) (r : Request) (at : ℕ) (t : Table) (commits : t.commits �
       → model_table (with_nodes files directories next entries base) ≡ asked tree after written unused
   closing tree files directories next after entries written unused f d n e = λ i. record {
     label = t.label;
-    previous = Some (at - 257);
+    previous = Some (at - PARTITION_START);
     files = f i;
     directories = d i;
     next_identity = n i;
@@ -179,8 +180,8 @@ module _ (capacity volume : ℕ) (medium : Medium) (S : State) (stands : Recover
   abbrev made_table : Option NewNode → List Written → Option Node → Table_
   made_table made written taken = model_table (next_table stands.at r.client r.number (code_of r.operation S.tree) made written taken t)
 
-  abbrev behind : Operation → Tree
-  behind op = done op r.moment S.next_identity S.tree
+  abbrev afterwards : Operation → Tree
+  afterwards op = done op r.moment S.next_identity S.tree
 
   -- the same node made and gone
   by_these : (made made' : Option NewNode) (taken taken' : Option Node) (written : List Written) (u : Table_) → made ≡ made' → taken ≡ taken' → made_table made' written taken' ≡ u → made_table made written taken ≡ u
@@ -193,11 +194,11 @@ module _ (capacity volume : ℕ) (medium : Medium) (S : State) (stands : Recover
   addresses_by written nodes these e same = e ∙ ap (λ (ns : List Writing). map (λ n. n.address) ns) same
 
   -- where no node is made and none goes
-  plain : (op : Operation) (nodes : List Writing) (unused : List ℕ) (written : List Written) → code_of op S.tree ≡ 0 → files_of (behind op) ≡ files_of S.tree → directories_of (behind op) ≡ directories_of S.tree
+  plain : (op : Operation) (nodes : List Writing) (unused : List ℕ) (written : List Written) → code_of op S.tree ≡ 0 → files_of (afterwards op) ≡ files_of S.tree → directories_of (afterwards op) ≡ directories_of S.tree
       → map (λ w. w.address) written ≡ map (λ n. n.address) nodes → unused ≡ [] → AreWithin (length t.entries) (map (λ n. n.address) nodes)
-      → made_table None written None ≡ wanted (behind op) S.next_identity written unused
+      → made_table None written None ≡ wanted (afterwards op) S.next_identity written unused
   plain op nodes unused written e f d addresses none all =
-      plainly S r stands.at t commits records (behind op) written unused (files ∙ sym f) (directories ∙ sym d) next_is
+      plainly S r stands.at t commits records (afterwards op) written unused (files ∙ sym f) (directories ∙ sym d) next_is
       (unused_none written unused (all_entries written t.entries) none (entries_written written (map (λ n. n.address) nodes) addresses t.entries all))
 
   move_within : (from to : Path) (nodes : List Writing) → PlansMove graph from to r.moment nodes → AreWithin (length t.entries) (map (λ n. n.address) nodes)
@@ -217,16 +218,16 @@ module _ (capacity volume : ℕ) (medium : Medium) (S : State) (stands : Recover
 
   follows : (op : Operation) (nodes : List Writing) (unused : List ℕ) (written : List Written) (made : Option NewNode) (taken : Option Node) → code_of op S.tree ≡ 0
       → map (λ w. w.address) written ≡ map (λ n. n.address) nodes → Plans graph free op r.moment S.next_identity nodes unused → made ≡ made_by op free → RemovesNode op S.tree unused taken
-      → made_table made written taken ≡ wanted (behind op) (drawn (draws_identity op) S.next_identity) written unused
+      → made_table made written taken ≡ wanted (afterwards op) (drawn (draws_identity op) S.next_identity) written unused
   follows (Create path bytes) nodes unused written made taken e addresses (plan, none) m g =
       let c = counted (Create path bytes) r.moment S.next_identity S.tree stands.tells.tree e in
       by_these made _ taken None written _ m g
-      (with_file S r stands.at t commits records (behind (Create path bytes)) free written unused (omega (arith, c.files, files)) (omega (arith, c.directories, directories)) (omega (arith, next_is))
+      (with_file S r stands.at t commits records (afterwards (Create path bytes)) free written unused (omega (arith, c.files, files)) (omega (arith, c.directories, directories)) (omega (arith, next_is))
       (unused_none written unused _ none (entries_made written free (plan.above.address ∷ []) (addresses_by written nodes _ addresses plan.nodes_are) t.entries free_within (within (parent_of path) plan.above, tt))))
   follows (MakeDir path) nodes unused written made taken e addresses (plan, none) m g =
       let c = counted (MakeDir path) r.moment S.next_identity S.tree stands.tells.tree e in
       by_these made _ taken None written _ m g
-      (with_directory S r stands.at t commits records (behind (MakeDir path)) free written unused (omega (arith, c.files, files)) (omega (arith, c.directories, directories)) (omega (arith, next_is))
+      (with_directory S r stands.at t commits records (afterwards (MakeDir path)) free written unused (omega (arith, c.files, files)) (omega (arith, c.directories, directories)) (omega (arith, next_is))
       (unused_none written unused _ none (entries_made written free (plan.above.address ∷ []) (addresses_by written nodes _ addresses plan.nodes_are) t.entries free_within (within (parent_of path) plan.above, tt))))
   follows (Replace path bytes) nodes unused written made taken e addresses (plan, none) m g =
       let c = counted (Replace path bytes) r.moment S.next_identity S.tree stands.tells.tree e in
@@ -243,8 +244,8 @@ module _ (capacity volume : ℕ) (medium : Medium) (S : State) (stands : Recover
       let same : plan.node.address ≡ node.address = head_same (sym plan.gone_is ∙ u) in
       let there : node.address < length t.entries = omega (arith, within path plan.node, same) in
       by_these made None taken (Some node) written _ m g
-      (without_node S r stands.at t commits records (behind (Remove path)) (is_directory_at S.tree path) node written unused kind
-      (removed_files (is_directory_at S.tree path) (files_of (behind (Remove path))) c.files) (c.directories ∙ sum_zero directories) next_is
+      (without_node S r stands.at t commits records (afterwards (Remove path)) (is_directory_at S.tree path) node written unused kind
+      (removed_files (is_directory_at S.tree path) (files_of (afterwards (Remove path))) c.files) (c.directories ∙ sum_zero directories) next_is
       (entries_unused written (plan.above.address ∷ []) (addresses_by written nodes _ addresses plan.nodes_are) t.entries node.address there (within (parent_of path) plan.above, tt)
       ((λ same_address. apart_above path plan.above plan.node may.named (same ∙ same_address)), tt) ∙ ap (λ (us : List ℕ). entries_after t.entries written us) (sym u)))
     where
@@ -278,7 +279,7 @@ module _ (capacity volume : ℕ) (medium : Medium) (S : State) (stands : Recover
       when_done e =
           let d = h.done e in
           follows r.operation nodes unused written made taken e h.addresses d.0 d.1 d.2
-          ∙ as_planned (behind r.operation) (drawn (draws_identity r.operation) S.next_identity) written unused (tree_done r.operation r.moment S.next_identity S.tree e) (next_done S r e)
+          ∙ as_planned (afterwards r.operation) (drawn (draws_identity r.operation) S.next_identity) written unused (tree_done r.operation r.moment S.next_identity S.tree e) (next_done S r e)
 
       when_refused : (code_of r.operation S.tree ≡ 0 → ⊥) → made_table made written taken ≡ planned written unused
       when_refused other =

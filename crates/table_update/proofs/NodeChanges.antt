@@ -3,16 +3,17 @@ use Rattle.std.proofs.Common.{◌≡◌, ℕ, ◌+◌, ◌-◌, ◌^◌, ◌<◌
 use Rattle.std.specs.Prelude.{Option, Some, None, IfSome, IsTrue, is_some, slice_get, All, count_by, if◌then◌else◌}
 use Rattle.std.proofs.lemmas.Bool.{eqb-true, eqb-false, false≢true}
 use Rattle.std.proofs.lemmas.Option.{slice_get_within}
+use Rattle.limits.specs.declared.TheConstants.{ADDRESSES, PARTITION_START}
 use Rattle.vat.specs.Entry.{unused}
 use Rattle.vat.specs.Table.{Table, FitsTable}
-use Rattle.table_update.specs.Below.{AreBelow, IsUsed}
+use Rattle.recover.specs.Below.{AreBelow, IsUsed}
 use Rattle.table_update.specs.TableChange.{with_number, with_nodes, IsFree}
 use Rattle.table_update.proofs.EntryChanges.{length-with_entry, All-with_entry, entry_there, entry_other, count_added, count_placed, count_removed, free_within}
 
 -- entries of a table, so many of which are used
 record AreEntries (used : ℕ) (xs : List (Option ℕ)) : Type 0 where
   few : 2 ≤ length xs
-  many : length xs ≤ 4097
+  many : length xs ≤ ADDRESSES
   numbers : All (λ e. IfSome e (λ n. n < unused)) xs
   file_set : IsUsed 0 xs
   root : IsUsed 1 xs
@@ -75,7 +76,7 @@ as_many used xs i number are small is =
     }
 
 one_less : (used less : ℕ) (xs : List (Option ℕ)) (i : ℕ) → AreEntries used xs → used ≡ less + 1 → 2 ≤ i → IsUsed i xs → AreEntries less (with_number i None xs)
-one_less used less xs i are next behind is =
+one_less used less xs i are next afterwards is =
     let lt = slice_get_within xs i (Some is.0) is.1 in
     let le : i ≤ length xs = omega arith in
     let long = length-with_entry xs i None le in
@@ -110,23 +111,23 @@ module _ (t : Table) (fits : FitsTable t) (i : ℕ) (ys : List (Option ℕ)) whe
         go false u e = subst (AreEntries (1 + (t.files + t.directories))) (sym e) (entries_of t fits)
 
   pub fits_removed_file : 2 ≤ i → 0 < t.files → IsUsed i t.entries → ys ≡ with_number i None t.entries → FitsTable (with_nodes (t.files - 1) t.directories t.next_unique ys t)
-  fits_removed_file behind some used is =
+  fits_removed_file afterwards some used is =
       fits_with t (t.files - 1) t.directories t.next_unique ys fits fits.next_unique fits.next_unique_fits
-      (subst (AreEntries (1 + (t.files - 1 + t.directories))) (sym is) (one_less (1 + (t.files + t.directories)) (1 + (t.files - 1 + t.directories)) t.entries i (entries_of t fits) (omega arith) behind used))
+      (subst (AreEntries (1 + (t.files - 1 + t.directories))) (sym is) (one_less (1 + (t.files + t.directories)) (1 + (t.files - 1 + t.directories)) t.entries i (entries_of t fits) (omega arith) afterwards used))
 
   pub fits_removed_directory : 2 ≤ i → 1 < t.directories → IsUsed i t.entries → ys ≡ with_number i None t.entries → FitsTable (with_nodes t.files (t.directories - 1) t.next_unique ys t)
-  fits_removed_directory behind some used is =
+  fits_removed_directory afterwards some used is =
       fits_with t t.files (t.directories - 1) t.next_unique ys fits fits.next_unique fits.next_unique_fits
-      (subst (AreEntries (1 + (t.files + (t.directories - 1)))) (sym is) (one_less (1 + (t.files + t.directories)) (1 + (t.files + (t.directories - 1))) t.entries i (entries_of t fits) (omega arith) behind used))
+      (subst (AreEntries (1 + (t.files + (t.directories - 1)))) (sym is) (one_less (1 + (t.files + t.directories)) (1 + (t.files + (t.directories - 1))) t.entries i (entries_of t fits) (omega arith) afterwards used))
 
 -- what a test that was passed leaves
 pub when_true : (b : Bool) (xs ys zs : List (Option ℕ)) → b ≡ true → zs ≡ (if b then xs else ys) → zs ≡ xs
 when_true true xs ys zs e is = is
 when_true false xs ys zs e is = absurd (false≢true e)
 
-pub below_with : (at i : ℕ) (e : Option ℕ) (xs ys : List (Option ℕ)) → ys ≡ with_number i e xs → IfSome e (λ n. n + 257 < at) → AreBelow at xs → AreBelow at ys
-below_with at i e xs ys is one all = subst (AreBelow at) (sym is) (All-with_entry (λ x. IfSome x (λ n. n + 257 < at)) xs i e one all)
+pub below_with : (at i : ℕ) (e : Option ℕ) (xs ys : List (Option ℕ)) → ys ≡ with_number i e xs → IfSome e (λ n. n + PARTITION_START < at) → AreBelow at xs → AreBelow at ys
+below_with at i e xs ys is one all = subst (AreBelow at) (sym is) (All-with_entry (λ x. IfSome x (λ n. n + PARTITION_START < at)) xs i e one all)
 
-pub below_if : (b : Bool) (at i : ℕ) (e : Option ℕ) (xs ys : List (Option ℕ)) → ys ≡ (if b then with_number i e xs else xs) → IfSome e (λ n. n + 257 < at) → AreBelow at xs → AreBelow at ys
+pub below_if : (b : Bool) (at i : ℕ) (e : Option ℕ) (xs ys : List (Option ℕ)) → ys ≡ (if b then with_number i e xs else xs) → IfSome e (λ n. n + PARTITION_START < at) → AreBelow at xs → AreBelow at ys
 below_if true at i e xs ys is one all = below_with at i e xs ys is one all
 below_if false at i e xs ys is one all = subst (AreBelow at) (sym is) all

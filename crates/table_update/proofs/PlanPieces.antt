@@ -11,7 +11,7 @@ use Rattle.udf.specs.Udf.{udf}
 use Rattle.udf.proofs.Said.{tables_agree}
 use Rattle.vat.specs.Table.{Table}
 use Rattle.table_update.specs.declared.node.NewNode.{NewNode}
-use Rattle.table_update.specs.declared.node.Node.{Node}
+use Rattle.recover.specs.declared.node.Node.{Node}
 use Rattle.table_update.specs.NextTable.{ChangesVolume, next_table}
 use Rattle.table_update.specs.Pieces.{IsTableBehind, NodesAreWritten, PiecesArePlanned}
 use Rattle.table_update.proofs.NextTables.{next_tables_follow}
@@ -23,7 +23,7 @@ nodes_are_written (node ∷ nodes) from blocks written (first, others, number, r
     ap (λ (ws : List Written). map (λ v. v.address) ws) w ∙ ap (λ (ns : List ℕ). node.address ∷ ns) (nodes_are_written nodes (from + length first) others rest all)
 
 pub pieces_are_planned : PiecesArePlanned
-pieces_are_planned capacity volume medium S stands r nodes unused written made taken t is h node_blocks writes bytes first table_blocks mark behind = record {
+pieces_are_planned capacity volume medium S stands r nodes unused written made taken t is h node_blocks writes bytes first table_blocks mark afterwards = record {
   nodes = nodes;
   gone = unused;
   done = λ e. (h.done e).0;
@@ -34,19 +34,19 @@ pieces_are_planned capacity volume medium S stands r nodes unused written made t
   table = model_table (next_table stands.at r.client r.number (code_of r.operation S.tree) made written taken t);
   table_is = next_tables_follow capacity volume medium S stands r nodes unused written made taken t is h;
   bytes = bytes;
-  size = next_tables_are_sized stands.at r.client r.number (code_of r.operation S.tree) made written taken t bytes behind.spelled.table;
+  size = next_tables_are_sized stands.at r.client r.number (code_of r.operation S.tree) made written taken t bytes afterwards.spelled.table;
   first = first;
   table_blocks = table_blocks;
-  placed = behind.placed;
+  placed = afterwards.placed;
   blocks_are = refl;
-  spelled = tables_agree (next_table stands.at r.client r.number (code_of r.operation S.tree) made written taken t) (length medium + length (node_blocks ++ table_blocks) - partition_start) bytes behind.spelled;
-  mark_is = behind.entry;
+  spelled = tables_agree (next_table stands.at r.client r.number (code_of r.operation S.tree) made written taken t) (length medium + length (node_blocks ++ table_blocks) - partition_start) bytes afterwards.spelled;
+  mark_is = afterwards.entry;
 }
 
 -- whose table is the one that the changes make
 pub pieces_table : (capacity volume : ℕ) (medium : Medium) (S : State) (stands : RecoversTo udf capacity volume medium S) (r : Request) (nodes : List Writing) (unused : List ℕ) (written : List Written) (made : Option NewNode) (taken : Option Node) (t : Table)
     → (is : model_table t ≡ stands.tells.table) (h : ChangesVolume capacity volume medium S stands r nodes unused written made taken) (node_blocks : List Block) (writes : WritesNodes udf nodes (length medium - partition_start) node_blocks written)
-    → (bytes : List ℕ) (first : ℕ) (table_blocks : List Block) (mark : Block) (behind : IsTableBehind medium r (next_table stands.at r.client r.number (code_of r.operation S.tree) made written taken t) node_blocks bytes first table_blocks mark)
-    → (pieces_are_planned capacity volume medium S stands r nodes unused written made taken t is h node_blocks writes bytes first table_blocks mark behind).table ≡ model_table (next_table stands.at r.client r.number (code_of r.operation S.tree) made written taken t)
+    → (bytes : List ℕ) (first : ℕ) (table_blocks : List Block) (mark : Block) (afterwards : IsTableBehind medium r (next_table stands.at r.client r.number (code_of r.operation S.tree) made written taken t) node_blocks bytes first table_blocks mark)
+    → (pieces_are_planned capacity volume medium S stands r nodes unused written made taken t is h node_blocks writes bytes first table_blocks mark afterwards).table ≡ model_table (next_table stands.at r.client r.number (code_of r.operation S.tree) made written taken t)
 unfolding pieces_are_planned
-pieces_table capacity volume medium S stands r nodes unused written made taken t is h node_blocks writes bytes first table_blocks mark behind = refl
+pieces_table capacity volume medium S stands r nodes unused written made taken t is h node_blocks writes bytes first table_blocks mark afterwards = refl

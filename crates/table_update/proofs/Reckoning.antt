@@ -15,7 +15,7 @@ use Rattle.durability.proofs.Planned.{zero_or, tree_done}
 use Rattle.udf.specs.Udf.{udf, spelled}
 use Rattle.udf.proofs.Formats.{exact, bounded, distinct, short}
 use Rattle.table_update.specs.declared.node.NewNode.{NewNode}
-use Rattle.table_update.specs.declared.node.Node.{Node}
+use Rattle.recover.specs.declared.node.Node.{Node}
 use Rattle.table_update.specs.NextTable.{ChangesVolume}
 use Rattle.table_update.specs.Need.{most_for_bytes, most_for_directories, HasNames, AreDirectories, AreOf, NeedIsComputed}
 use Rattle.table_update.proofs.NextSizes.{next_tables_are_long}

@@ -7,6 +7,7 @@ use Rattle.std.proofs.lemmas.List.{length-take, length-map, length_push, get_or-
 use Rattle.std.proofs.lemmas.List.Elements.{All-head, All-tail, All-map, All-push, All-weaker}
 use Rattle.std.proofs.lemmas.List.Folds.{list_any_none, list_any_at}
 use Rattle.std.proofs.lemmas.List.Quantifiers.{all_pairs_push}
+use Rattle.limits.specs.declared.TheConstants.{PARTITION_START}
 use Rattle.vat.specs.declared.record.Record.{Record}
 use Rattle.vat.specs.declared.record.Reply.{Reply}
 use Rattle.vat.specs.declared.table.Version.{Version}
@@ -83,9 +84,9 @@ module _ (client number : ℕ) (reply : Reply) where
   one_answered (x ∷ rs) (suc i) r pairs lt is same =
       let there : (get_or rs i r).client ≡ client = ap (λ (y : Record). y.client) (sym is) ∙ same in
       let apart : x.client ≢ client = λ e. pairs 0 (suc i) r (omega arith) (omega arith) (e ∙ sym there) in
-      let behind : AllPairs Apart rs = λ j k d before within. pairs (suc j) (suc k) d (omega arith) (omega arith) in
+      let afterwards : AllPairs Apart rs = λ j k d before within. pairs (suc j) (suc k) d (omega arith) (omega arith) in
       ap (λ (y : Record). y ∷ set rs i (once r)) (sym (as_it_was x apart))
-      ∙ ap (λ (ys : List Record). table_record_answered_if client number reply x ∷ ys) (one_answered rs i r behind (omega arith) is same)
+      ∙ ap (λ (ys : List Record). table_record_answered_if client number reply x ∷ ys) (one_answered rs i r afterwards (omega arith) is same)
 
   known : (rs : List Record) (i : ℕ) (d : Record) → i < length rs → (get_or rs i d).client ≡ client → list_any test rs ≡ true
   known rs i d lt same = list_any_at test rs i d lt (eq-eqb (get_or rs i d).client client same)
@@ -175,8 +176,8 @@ module _ (client number : ℕ) (reply : Reply) where
 -- the next table has a spelling
 pub fits_committed : (at client number code : ℕ) (t : Table) (rs : List Record) → FitsTable t → 261 ≤ at → at < 2 ^ 32 → code ≤ 10 → 0 < client → client < 2 ^ 64 → 0 < number → number < 2 ^ 64
     → t.commits + 1 < 2 ^ 32 → IsNext client number t.records → rs ≡ table_with_reply client number (record { code = code; commit = t.commits + 1 }) t.records
-    → FitsTable (record { label = t.label; previous = Some (at - 257); files = t.files; directories = t.directories; version = Two; next_unique = t.next_unique; commits = t.commits + 1; records = rs; entries = t.entries })
-fits_committed at client number code t rs fits behind small known some client_fits first number_fits count next is =
+    → FitsTable (record { label = t.label; previous = Some (at - PARTITION_START); files = t.files; directories = t.directories; version = Two; next_unique = t.next_unique; commits = t.commits + 1; records = rs; entries = t.entries })
+fits_committed at client number code t rs fits afterwards small known some client_fits first number_fits count next is =
     let kept : Keeps (t.commits + 1) rs =
     subst (Keeps (t.commits + 1)) (sym is)
     (kept_records client number (record { code = code; commit = t.commits + 1 }) t.version t.commits known refl some client_fits first number_fits t.records fits.clients fits.records fits.distinct next) in

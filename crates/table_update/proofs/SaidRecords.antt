@@ -34,13 +34,13 @@ module _ (client number : ℕ) (reply : Reply) where
   some_client [] = refl
   some_client (r ∷ rs) = ap (λ (b : Bool). (r.client == client) || b) (some_client rs)
 
-  abbrev behind : List Record → Bool → List ClientRecord
-  behind rs b = cond b (map (model.answered_if client number (said_reply reply)) (map model_record rs)) (map model_record rs ++ record { client = client; latest = number; replies = said_reply reply ∷ [] } ∷ [])
+  abbrev afterwards : List Record → Bool → List ClientRecord
+  afterwards rs b = cond b (map (model.answered_if client number (said_reply reply)) (map model_record rs)) (map model_record rs ++ record { client = client; latest = number; replies = said_reply reply ∷ [] } ∷ [])
 
   -- as the model keeps it
   pub said_with_reply : (rs : List Record) → map model_record (table_with_reply client number reply rs) ≡ model.with_reply client number (said_reply reply) (map model_record rs)
-  said_with_reply rs = go (list_any (λ r. r.client == client) rs) ∙ ap (behind rs) (some_client rs)
+  said_with_reply rs = go (list_any (λ r. r.client == client) rs) ∙ ap (afterwards rs) (some_client rs)
     where
-      go : (b : Bool) → map model_record (cond b (map (table_record_answered_if client number reply) rs) (rs ++ first_record client number reply ∷ [])) ≡ behind rs b
+      go : (b : Bool) → map model_record (cond b (map (table_record_answered_if client number reply) rs) (rs ++ first_record client number reply ∷ [])) ≡ afterwards rs b
       go true = all_answered rs
       go false = pushed rs (first_record client number reply)

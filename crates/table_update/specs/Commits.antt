@@ -10,27 +10,27 @@ use Rattle.durability.specs.Journal.{Advances}
 use Rattle.udf.specs.Udf.{udf, spelled}
 
 -- The request is committed, in no more blocks than it may need.
-pub record IsWholeCommit (capacity volume : ℕ) (before : List Event) (S : State) (request : Request) (behind : List Event) : Type 0 where
-  pub advances : Advances udf capacity volume before S behind (after_one S request)
-  pub some : length before < length behind
-  pub few : length behind ≤ length before + need spelled S request
+pub record IsWholeCommit (capacity volume : ℕ) (before : List Event) (S : State) (request : Request) (afterwards : List Event) : Type 0 where
+  pub advances : Advances udf capacity volume before S afterwards (after_one S request)
+  pub some : length before < length afterwards
+  pub few : length afterwards ≤ length before + need spelled S request
 
 abbrev pub CommitsAreWhole : Type 0
 CommitsAreWhole =
-    (capacity volume : ℕ) (before behind : List Event) (S : State) (request : Request) (blocks : List Block) (mark : Block) → Once before → (stands : RecoversTo udf capacity volume (held before) S)
-    → IsPlanned udf capacity volume (held before) S stands request blocks mark → behind ≡ before ++ written (length before) (blocks ++ mark ∷ []) → IsWholeCommit capacity volume before S request behind
+    (capacity volume : ℕ) (before afterwards : List Event) (S : State) (request : Request) (blocks : List Block) (mark : Block) → Once before → (stands : RecoversTo udf capacity volume (held before) S)
+    → IsPlanned udf capacity volume (held before) S stands request blocks mark → afterwards ≡ before ++ written (length before) (blocks ++ mark ∷ []) → IsWholeCommit capacity volume before S request afterwards
 
 -- The request is committed or not.
-pub record IsPart (capacity volume : ℕ) (before : List Event) (S : State) (request : Request) (behind : List Event) : Type 0 where
+pub record IsPart (capacity volume : ℕ) (before : List Event) (S : State) (request : Request) (afterwards : List Event) : Type 0 where
   pub done : List Request
-  pub whether : (done ≡ []) ⊎ ((done ≡ request ∷ []) × (length before < length behind))
-  pub advances : Advances udf capacity volume before S behind (after S done)
-  pub few : length behind ≤ length before + need spelled S request
+  pub whether : (done ≡ []) ⊎ ((done ≡ request ∷ []) × (length before < length afterwards))
+  pub advances : Advances udf capacity volume before S afterwards (after S done)
+  pub few : length afterwards ≤ length before + need spelled S request
 
 abbrev pub CommitsArePart : Type 0
 CommitsArePart =
-    (capacity volume : ℕ) (before behind : List Event) (S : State) (request : Request) (blocks : List Block) (mark : Block) → Once before → (stands : RecoversTo udf capacity volume (held before) S)
-    → IsPlanned udf capacity volume (held before) S stands request blocks mark → AddsPrefix before (length before) (blocks ++ mark ∷ []) behind → IsPart capacity volume before S request behind
+    (capacity volume : ℕ) (before afterwards : List Event) (S : State) (request : Request) (blocks : List Block) (mark : Block) → Once before → (stands : RecoversTo udf capacity volume (held before) S)
+    → IsPlanned udf capacity volume (held before) S stands request blocks mark → AddsPrefix before (length before) (blocks ++ mark ∷ []) afterwards → IsPart capacity volume before S request afterwards
 
 -- after a whole commit the table is the plan's, and its entry the last block
 abbrev pub TablesRecover : Type 0

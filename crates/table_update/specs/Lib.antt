@@ -1,4 +1,3 @@
-pub mod Below
 pub mod Commits
 pub mod Full
 pub mod Need

@@ -15,7 +15,7 @@ use Rattle.udf.specs.Udf.{udf, spelled}
 use Rattle.udf.specs.Said.{model_table}
 use Rattle.vat.specs.Table.{Table}
 use Rattle.table_update.specs.declared.node.NewNode.{NewNode}
-use Rattle.table_update.specs.declared.node.Node.{Node}
+use Rattle.recover.specs.declared.node.Node.{Node}
 use Rattle.table_update.specs.NextTable.{ChangesVolume, begun}
 use Rattle.table_update.specs.Outside.{outside}
 

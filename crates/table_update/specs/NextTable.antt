@@ -15,8 +15,8 @@ use Rattle.udf.specs.Udf.{udf}
 use Rattle.udf.specs.Said.{model_table}
 use Rattle.vat.specs.Table.{Table, IsTable}
 use Rattle.table_update.specs.declared.node.NewNode.{NewNode}
-use Rattle.table_update.specs.declared.node.Node.{Node}
-use Rattle.table_update.specs.Below.{IsUsed}
+use Rattle.recover.specs.declared.node.Node.{Node}
+use Rattle.recover.specs.Below.{IsUsed}
 use Rattle.table_update.specs.TableChange.{with_node, committed, placed, removed, with_number, IsFree, IsRemovable}
 
 -- with a node that is made, and placed later

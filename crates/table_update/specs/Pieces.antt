@@ -11,7 +11,7 @@ use Rattle.udf.specs.Udf.{udf}
 use Rattle.udf.specs.Said.{model_table}
 use Rattle.vat.specs.Table.{Table, IsTableAt}
 use Rattle.table_update.specs.declared.node.NewNode.{NewNode}
-use Rattle.table_update.specs.declared.node.Node.{Node}
+use Rattle.recover.specs.declared.node.Node.{Node}
 use Rattle.table_update.specs.NextTable.{ChangesVolume, next_table}
 
 -- entries are written for the nodes, in their order

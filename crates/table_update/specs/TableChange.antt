@@ -7,8 +7,10 @@ use Rattle.dir.specs.declared.entry.Kind.TheVariants.{File, Directory}
 use Rattle.vat.specs.declared.record.Record.{Record}
 use Rattle.vat.specs.declared.record.Reply.{Reply}
 use Rattle.vat.specs.declared.table.Version.TheVariants.{Two}
-use Rattle.vat.specs.Table.{Table}
-use Rattle.table_update.specs.Below.{IsUsed}
+use Rattle.vat.specs.declared.table.Vat.{Vat}
+use Rattle.vat.specs.Table.{Table, view}
+use Rattle.recover.specs.Below.{IsUsed}
+use Rattle.table_update.specs.Needs.{table_need}
 
 -- the record of a client that was answered once more
 abbrev pub table_record_answered : ℕ → Reply → Record → Record
@@ -32,6 +34,13 @@ table_with_reply client number reply records =
 pub record IsNext (client number : ℕ) (records : List Record) : Type 0 where
   pub known : All (λ r. r.client ≡ client → number ≡ r.latest + 1) records
   pub unknown : All (λ r. r.client ≢ client) records → (number ≡ 1) × (length records < CLIENTS)
+
+-- it is answered with a code that may be kept
+pub record AnswersNext (client number code : ℕ) (records : List Record) : Type 0 where
+  pub greatest : code ≤ 10
+  pub some_client : 0 < client
+  pub some_number : 0 < number
+  pub next : IsNext client number records
 
 -- the table of the next commit, which answered a client's request, where the entry of the table before is at an address
 abbrev pub committed : ℕ → ℕ → ℕ → ℕ → Table → Table
@@ -84,7 +93,7 @@ HasNode Directory t = 1 < t.directories
 
 -- an address after the root's leads to a node, and one of that kind is counted
 pub record IsRemovable (kind : Kind) (address : ℕ) (t : Table) : Type 0 where
-  pub behind : 2 ≤ address
+  pub afterwards : 2 ≤ address
   pub used : IsUsed address t.entries
   pub counted : HasNode kind t
 
@@ -92,3 +101,10 @@ pub record IsRemovable (kind : Kind) (address : ℕ) (t : Table) : Type 0 where
 abbrev pub removed : Kind → ℕ → Table → Table
 removed File address t = with_nodes (t.files - 1) t.directories t.next_unique (with_number address None t.entries) t
 removed Directory address t = with_nodes t.files (t.directories - 1) t.next_unique (with_number address None t.entries) t
+
+-- nothing but the nodes of the table changes, and it may need as many blocks
+pub record OnlyNodesChange (old new : Vat) : Type 0 where
+  pub previous : new.previous ≡ old.previous
+  pub commits : new.sessions.commits ≡ old.sessions.commits
+  pub unique : new.sessions.next_unique ≡ old.sessions.next_unique
+  pub need : table_need (view new) ≡ table_need (view old)

@@ -12,5 +12,5 @@ mod node;
 mod table;
 
 pub use laws::{commits_are_planned, need_is_reckoned, next_tables_follow, pieces_are_planned};
-pub use node::{NewNode, Node, ROOT};
+pub use node::NewNode;
 pub use table::{add_node, copied, keep_reply, place_node, remove_node};

@@ -1,38 +1,6 @@
-//! Nodes, as directories name them and as requests make them.
-
-ghost use Rattle.std.specs.Prelude.{◌≡◌};
-ghost use Rattle.udf.specs.Said.{names_directory};
+//! Nodes, as requests make them.
 
 use dir::Kind;
-use recover::ROOT_ADDRESS;
-
-/// A node, as the directory above it names it.
-#[derive(Clone, Copy, Debug)]
-pub struct Node {
-    pub kind: Kind,
-    /// The virtual address of its entry.
-    pub address: u32,
-    pub unique: u32,
-}
-
-impl Node {
-    /// Whether the node is a directory.
-    pub fn is_directory(self) -> bool
-        ensures { result ≡ names_directory self.kind }
-    {
-        match self.kind {
-            Kind::File => false,
-            Kind::Directory => true,
-        }
-    }
-}
-
-/// The root, which nothing names.
-pub const ROOT: Node = Node {
-    kind: Kind::Directory,
-    address: ROOT_ADDRESS,
-    unique: 0,
-};
 
 /// A node that is made.
 #[derive(Clone, Copy, Debug)]

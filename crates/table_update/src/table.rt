@@ -1,12 +1,9 @@
 //! The table that a commit writes: the one before, with the reply and the nodes.
 
 ghost use Rattle.limits.specs.declared.TheConstants.{PARTITION_START};
-ghost use Rattle.std.specs.Prelude.{◌≡◌, ◌≢◌, ◌+◌, ◌^◌, ◌<◌, ◌≤◌, ◌↔◌, ℕ, length, slice_index_or, Some, IsTrue, IfOk, IfErr, IfSome, IfNone, All, AllPairs, if◌then◌else◌, false};
-ghost use Rattle.recover.specs.Faults.{devices};
-ghost use Rattle.recover.specs.declared.fault.StoreFault.TheVariants.{Memory};
-ghost use Rattle.table_update.specs.Below.{AreBelow, IsUsed};
-ghost use Rattle.table_update.specs.Full.{is_full};
-ghost use Rattle.table_update.specs.Needs.{table_need};
+ghost use Rattle.std.specs.Prelude.{◌≡◌, ◌≢◌, ◌+◌, ◌^◌, ◌<◌, ◌≤◌, ◌↔◌, ℕ, length, slice_index_or, Some, IsTrue, IfOk, IfSome, IfNone, All, AllPairs, if◌then◌else◌, false};
+ghost use Rattle.recover.specs.Below.{AreBelow, IsUsed};
+ghost use Rattle.table_update.specs.Full.{OnlyMemoryIsShort};
 ghost use Rattle.table_update.specs.TableChange as spec;
 ghost use Rattle.vat.specs.declared.record.Record.{Record};
 ghost use Rattle.vat.specs.Table.{FitsTable, view};
@@ -20,9 +17,7 @@ use vat::{Record, Replies, Reply, Sessions, Vat, Version};
 /// A copy of a table.
 pub fn copied(alloc: Global, vat: &Vat) -> Result<Vat, StoreFault>
     ensures same { IfOk result (λ copy. view copy ≡ view vat.now) }
-    ensures full { is_full result ≡ false }
-    ensures failures { devices result ≡ 0 }
-    ensures memory { IfErr result (λ fault. fault ≡ Memory) }
+    ensures short { OnlyMemoryIsShort result }
 {
     let records = Vec::from_slice(alloc, &vat.sessions.records)?;
     // A commit that makes a node adds an entry.
@@ -65,9 +60,7 @@ fn answer(
 ) -> Result<(), StoreFault>
     requires { AllPairs (λ a b. a.client ≢ b.client) records.old.items }
     ensures kept { IfOk result (λ _. records.new.items ≡ spec.table_with_reply client number reply records.old.items) }
-    ensures full { is_full result ≡ false }
-    ensures failures { devices result ≡ 0 }
-    ensures memory { IfErr result (λ fault. fault ≡ Memory) }
+    ensures short { OnlyMemoryIsShort result }
 {
     match place_of(records, client) {
         Some(i) => {
@@ -100,17 +93,12 @@ pub fn keep_reply(
     code: u16,
 ) -> Result<(), StoreFault>
     requires fits { FitsTable (view vat.old) }
-    requires behind { 261 ≤ at }
-    requires code { code ≤ 10 }
-    requires client { 0 < client }
-    requires number { 0 < number }
+    requires afterwards { 261 ≤ at }
     requires count { vat.old.sessions.commits + 1 < 2 ^ 32 }
-    requires next { spec.IsNext client number vat.old.sessions.records.items }
+    requires answers { spec.AnswersNext client number code vat.old.sessions.records.items }
     ensures kept { IfOk result (λ _. view vat.new ≡ spec.committed at client number code (view vat.old)) }
     ensures fits { IfOk result (λ _. FitsTable (view vat.new)) }
-    ensures full { is_full result ≡ false }
-    ensures failures { devices result ≡ 0 }
-    ensures memory { IfErr result (λ fault. fault ≡ Memory) }
+    ensures short { OnlyMemoryIsShort result }
 {
     let commit = vat.sessions.commits + 1;
     answer(
@@ -129,9 +117,7 @@ pub fn keep_reply(
 fn take_entry(entries: &mut Vec<Option<u32>>, address: u32, number: u32) -> Result<bool, StoreFault>
     ensures free { IfOk result (λ taken. IsTrue taken ↔ spec.IsFree address entries.old.items) }
     ensures entry { IfOk result (λ taken. entries.new.items ≡ (if taken then spec.with_number address (Some number) entries.old.items else entries.old.items)) }
-    ensures full { is_full result ≡ false }
-    ensures failures { devices result ≡ 0 }
-    ensures memory { IfErr result (λ fault. fault ≡ Memory) }
+    ensures short { OnlyMemoryIsShort result }
 {
     let place = address as usize;
     if place < entries.len() {
@@ -176,9 +162,7 @@ pub fn add_node(vat: &mut Vat, kind: Kind, address: u32, number: u32) -> Result<
     ensures table { IfOk result (λ made. view vat.new ≡ (if made then spec.with_node kind address number (view vat.old) else view vat.old)) }
     ensures fits { IfOk result (λ _. FitsTable (view vat.new)) }
     ensures below { IfOk result (λ _. (at : ℕ) → number + PARTITION_START < at → AreBelow at vat.old.entries.items → AreBelow at vat.new.entries.items) }
-    ensures full { is_full result ≡ false }
-    ensures failures { devices result ≡ 0 }
-    ensures memory { IfErr result (λ fault. fault ≡ Memory) }
+    ensures short { OnlyMemoryIsShort result }
 {
     if !take_entry(&mut vat.entries, address, number)? {
         return Ok(false);
@@ -197,10 +181,8 @@ pub fn place_node(vat: &mut Vat, address: u32, number: u32) -> bool
     requires number { number < 0xFFFF_FFFF }
     ensures used { IsTrue result ↔ IsUsed address vat.old.entries.items }
     ensures table { view vat.new ≡ (if result then spec.placed address number (view vat.old) else view vat.old) }
-    ensures need { table_need (view vat.new) ≡ table_need (view vat.old) }
+    ensures stays { spec.OnlyNodesChange vat.old vat.new }
     ensures fits { FitsTable (view vat.new) }
-    ensures commits { vat.new.sessions.commits ≡ vat.old.sessions.commits }
-    ensures unique { vat.new.sessions.next_unique ≡ vat.old.sessions.next_unique }
     ensures below { (at : ℕ) → number + PARTITION_START < at → AreBelow at vat.old.entries.items → AreBelow at vat.new.entries.items }
 {
     set_entry(&mut vat.entries, address, Some(number))
@@ -221,7 +203,7 @@ pub fn remove_node(vat: &mut Vat, kind: Kind, address: u32) -> bool
     requires fits { FitsTable (view vat.old) }
     ensures removed { IsTrue result ↔ spec.IsRemovable kind address (view vat.old) }
     ensures table { view vat.new ≡ (if result then spec.removed kind address (view vat.old) else view vat.old) }
-    ensures need { table_need (view vat.new) ≡ table_need (view vat.old) }
+    ensures stays { spec.OnlyNodesChange vat.old vat.new }
     ensures fits { FitsTable (view vat.new) }
     ensures below { (at : ℕ) → AreBelow at vat.old.entries.items → AreBelow at vat.new.entries.items }
 {

@@ -23,20 +23,20 @@ use Rattle.udf.proofs.Said.{entries_agree, tables_agree}
 
 module _ (capacity volume : ℕ) (label : List ℕ) (moment : ℕ) (front : List Block) (set names root table mark : Block)
     (is : IsNewVolume volume label moment front set names root table mark) (fits : volume ≤ capacity) where
-  abbrev behind : List Block
-  behind = set ∷ names ∷ root ∷ table ∷ []
+  abbrev afterwards : List Block
+  afterwards = set ∷ names ∷ root ∷ table ∷ []
 
   abbrev blocks : List Block
-  blocks = front ++ behind
+  blocks = front ++ afterwards
 
   long : length blocks ≡ 261
-  long = omega (arith, length-append front behind, is.front_is.count)
+  long = omega (arith, length-append front afterwards, is.front_is.count)
 
   -- the blocks from the file set on
-  from_set : drop 257 blocks ≡ behind
-  from_set = drop_at front behind 257 is.front_is.count
+  from_set : drop 257 blocks ≡ afterwards
+  from_set = drop_at front afterwards 257 is.front_is.count
 
-  from_block : (n : ℕ) → drop (257 + n) blocks ≡ drop n behind
+  from_block : (n : ℕ) → drop (257 + n) blocks ≡ drop n afterwards
   from_block n = sym (drop-drop n 257 blocks) ∙ ap (λ (bs : List Block). drop n bs) from_set
 
   -- ---- none of them imitates
@@ -75,8 +75,8 @@ module _ (capacity volume : ℕ) (label : List ℕ) (moment : ℕ) (front : List
   table_none : (at : ℕ) → IsVatIcbAt udf table at → ⊥
   table_none at (low, fields, kind, entry) = omega (arith, table_begins, entry_begins (icb_fields fields) (at - partition_start) table entry)
 
-  behind_none : (at : ℕ) → NoneImitates udf at behind
-  behind_none at = (set_none at, (names_none (suc at), (root_none (suc (suc at)), (table_none (suc (suc (suc at))), tt))))
+  after_none : (at : ℕ) → NoneImitates udf at afterwards
+  after_none at = (set_none at, (names_none (suc at), (root_none (suc (suc at)), (table_none (suc (suc (suc at))), tt))))
 
   -- ---- the table and the root are there
 
@@ -119,7 +119,7 @@ module _ (capacity volume : ℕ) (label : List ℕ) (moment : ℕ) (front : List
     number = 2;
     used = refl;
     block = root;
-    there = get_past front behind 259 2 (omega (arith, is.front_is.count));
+    there = get_past front afterwards 259 2 (omega (arith, is.front_is.count));
     fields = said_fields (root_fields moment);
     entry = root_entry;
     moment = refl;
@@ -131,8 +131,8 @@ module _ (capacity volume : ℕ) (label : List ℕ) (moment : ℕ) (front : List
   is_format : IsFormat udf capacity volume label moment blocks mark
   is_format = record {
     long = long;
-    none = none-append udf 0 front behind low_none (behind_none (0 + length front));
-    front = subst (λ (bs : List Block). udf.IsFront label moment volume bs) (sym (take_at front behind 257 is.front_is.count)) is.front_is;
+    none = none-append udf 0 front afterwards low_none (after_none (0 + length front));
+    front = subst (λ (bs : List Block). udf.IsFront label moment volume bs) (sym (take_at front afterwards 257 is.front_is.count)) is.front_is;
     fits = fits;
     table = model_table (first_table label);
     has = has;
@@ -146,7 +146,7 @@ module _ (capacity volume : ℕ) (label : List ℕ) (moment : ℕ) (front : List
     set_number = 0;
     set_used = refl;
     set_block = set;
-    set_there = get_past front behind 257 0 (omega (arith, is.front_is.count));
+    set_there = get_past front afterwards 257 0 (omega (arith, is.front_is.count));
     set_is = is.set_is;
     root = root_there;
   }

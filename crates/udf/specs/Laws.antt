@@ -64,11 +64,11 @@ PlannedShort =
 -- Whichever prefix of them was written: the journal recovers to the old state, or all of them are there and it recovers to the state after the request.
 abbrev pub CommitAdvances : Type 0
 CommitAdvances =
-    (capacity volume : ℕ) (before behind : List Event) (S : State) (request : Request) (blocks : List Block) (mark : Block) → Once before
+    (capacity volume : ℕ) (before afterwards : List Event) (S : State) (request : Request) (blocks : List Block) (mark : Block) → Once before
     → (stands : RecoversTo udf capacity volume (held before) S) → IsPlanned udf capacity volume (held before) S stands request blocks mark
-    → AddsPrefix before (length before) (blocks ++ mark ∷ []) behind
-    → Advances udf capacity volume before S behind S
-    ⊎ ((length behind ≡ length before + length (blocks ++ mark ∷ [])) × Advances udf capacity volume before S behind (after_one S request))
+    → AddsPrefix before (length before) (blocks ++ mark ∷ []) afterwards
+    → Advances udf capacity volume before S afterwards S
+    ⊎ ((length afterwards ≡ length before + length (blocks ++ mark ∷ [])) × Advances udf capacity volume before S afterwards (after_one S request))
 
 -- ---- a format
 
@@ -88,13 +88,13 @@ FormatRecovers =
 -- a run leaves at each of its prefixes the state after the first of its commits
 abbrev pub RunsHold : Type 0
 RunsHold =
-    (drive volume : ℕ) (S : State) (before behind : Medium) (deliveries : List Delivery) (answers : List Answer) (committed : List Request) (S' : State)
-    → RecoversTo udf drive volume before S → Runs udf (need spelled) drive volume before S deliveries answers committed behind S'
-    → Holds udf (need spelled) drive volume S before behind deliveries answers
+    (drive volume : ℕ) (S : State) (before afterwards : Medium) (deliveries : List Delivery) (answers : List Answer) (committed : List Request) (S' : State)
+    → RecoversTo udf drive volume before S → Runs udf (need spelled) drive volume before S deliveries answers committed afterwards S'
+    → Holds udf (need spelled) drive volume S before afterwards deliveries answers
 
 -- and so on a drive's journal, each address once
 abbrev pub RunsHoldOnJournal : Type 0
 RunsHoldOnJournal =
-    (drive volume : ℕ) (S : State) (before behind : List Event) (deliveries : List Delivery) (answers : List Answer) → Once before → Once behind
-    → take (length before) behind ≡ before → Holds udf (need spelled) drive volume S (held before) (held behind) deliveries answers
-    → HoldsOnJournal udf (need spelled) drive volume S before behind deliveries answers
+    (drive volume : ℕ) (S : State) (before afterwards : List Event) (deliveries : List Delivery) (answers : List Answer) → Once before → Once afterwards
+    → take (length before) afterwards ≡ before → Holds udf (need spelled) drive volume S (held before) (held afterwards) deliveries answers
+    → HoldsOnJournal udf (need spelled) drive volume S before afterwards deliveries answers

@@ -68,10 +68,10 @@ TornCommitShort =
 -- and so on a drive's journal
 abbrev pub TornCommitAdvances : Type 0
 TornCommitAdvances =
-    (capacity volume : ℕ) (before behind : List Event) (S : State) (request : Request) (blocks : List Block) (mark : Block) → Once before
+    (capacity volume : ℕ) (before afterwards : List Event) (S : State) (request : Request) (blocks : List Block) (mark : Block) → Once before
     → (stands : RecoversTo udf capacity volume (held before) S) → IsPlanned udf capacity volume (held before) S stands request blocks mark
-    → (writes : List (List Block)) (left : List Block) → LastIsAlone blocks mark writes → IsLeft writes left → behind ≡ before ++ written (length before) left
-    → Advances udf capacity volume before S behind S ⊎ ((left ≡ blocks ++ mark ∷ []) × Advances udf capacity volume before S behind (after_one S request))
+    → (writes : List (List Block)) (left : List Block) → LastIsAlone blocks mark writes → IsLeft writes left → afterwards ≡ before ++ written (length before) left
+    → Advances udf capacity volume before S afterwards S ⊎ ((left ≡ blocks ++ mark ∷ []) × Advances udf capacity volume before S afterwards (after_one S request))
 
 -- ---- commits in turn
 
@@ -86,19 +86,19 @@ AnsweredEndure =
 -- Of commits in turn, each after whatever is left of those before it, the state after those that are whole is recovered, and no other.
 abbrev pub CommitsEndure : Type 0
 CommitsEndure =
-    (capacity volume : ℕ) (requests : List Request) (medium : Medium) (S : State) (done : List Request) (behind : Medium)
-    → RecoversTo udf capacity volume medium S → AreTried udf capacity volume medium S requests done behind → Endures udf capacity volume medium S done behind
+    (capacity volume : ℕ) (requests : List Request) (medium : Medium) (S : State) (done : List Request) (afterwards : Medium)
+    → RecoversTo udf capacity volume medium S → AreTried udf capacity volume medium S requests done afterwards → Endures udf capacity volume medium S done afterwards
 
 -- In a run it is a delivery that is answered by a fault, so that what holds of runs holds of those with power losses.
 abbrev pub TornCommitRuns : Type 0
 TornCommitRuns =
-    (drive volume : ℕ) (S : State) (before behind : Medium) (deliveries : List Delivery) (answers : List Answer) (committed : List Request) (S' : State)
-    → Runs udf (need spelled) drive volume before S deliveries answers committed behind S'
-    → (stands : RecoversTo udf drive volume behind S') (request : Request) (blocks : List Block) (mark : Block) → IsPlanned udf drive volume behind S' stands request blocks mark
-    → due S' request.client request.number ≡ New → length behind + need spelled S' request ≤ volume
+    (drive volume : ℕ) (S : State) (before afterwards : Medium) (deliveries : List Delivery) (answers : List Answer) (committed : List Request) (S' : State)
+    → Runs udf (need spelled) drive volume before S deliveries answers committed afterwards S'
+    → (stands : RecoversTo udf drive volume afterwards S') (request : Request) (blocks : List Block) (mark : Block) → IsPlanned udf drive volume afterwards S' stands request blocks mark
+    → due S' request.client request.number ≡ New → length afterwards + need spelled S' request ≤ volume
     → (writes : List (List Block)) (left : List Block) → LastIsAlone blocks mark writes → IsLeft writes left
     → (done : List Request) × ((done ≡ []) ⊎ ((done ≡ request ∷ []) × (left ≡ blocks ++ mark ∷ [])))
-    × Runs udf (need spelled) drive volume before S (deliveries ++ Delivered (Asks request) ∷ []) (answers ++ Fault ∷ []) (committed ++ done) (behind ++ left) (after S' done)
+    × Runs udf (need spelled) drive volume before S (deliveries ++ Delivered (Asks request) ∷ []) (answers ++ Fault ∷ []) (committed ++ done) (afterwards ++ left) (after S' done)
 
 -- ---- a format
 

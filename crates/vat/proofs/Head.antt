@@ -46,7 +46,7 @@ pub record ReadsHead (size : ℕ) (label : List ℕ) (previous files directories
   pub count_is : u16_at 186 bytes ≡ count
   pub next_is : u32_at 188 bytes ≡ next
   pub commits_are : u32_at 192 bytes ≡ commits
-  pub behind : drop 196 bytes ≡ rest
+  pub after : drop 196 bytes ≡ rest
   pub long : 196 + length rest ≡ length bytes
 
 pub reads_head : (size : ℕ) (label : List ℕ) (previous files directories version count next commits : ℕ) (rest bytes : List ℕ)
@@ -74,7 +74,7 @@ reads_head size label previous files directories version count next commits rest
       count_is = omega (arith, at 54 186 refl, at 55 187 refl);
       next_is = omega (arith, at 56 188 refl, at 57 189 refl, at 58 190 refl, at 59 191 refl);
       commits_are = omega (arith, at 60 192 refl, at 61 193 refl, at 62 194 refl, at 63 195 refl);
-      behind = tail 64;
+      after = tail 64;
       long = omega (arith, ap length whole, length-append label middle, len);
     }
 
@@ -85,7 +85,7 @@ pub head_again : (size : ℕ) (label : List ℕ) (previous files directories ver
     → bytes ≡ onto (head_parts size label (middle_parts previous files directories version count next commits)) rest
 head_again size label previous files directories version count next commits rest bytes fits len r =
     let long = r.long in
-    let p192 = cut 192 196 (to_le_bytes w32 commits) bytes rest refl (u32_stands 192 bytes commits fits (omega arith) r.commits_are) r.behind in
+    let p192 = cut 192 196 (to_le_bytes w32 commits) bytes rest refl (u32_stands 192 bytes commits fits (omega arith) r.commits_are) r.after in
     let p188 = cut 188 192 (to_le_bytes w32 next) bytes _ refl (u32_stands 188 bytes next fits (omega arith) r.next_is) p192 in
     let p186 = cut 186 188 (to_le_bytes w16 count) bytes _ refl (u16_stands 186 bytes count fits (omega arith) r.count_is) p188 in
     let p184 = cut 184 186 (to_le_bytes w16 version) bytes _ refl (u16_stands 184 bytes version fits (omega arith) r.version_is) p186 in

@@ -58,10 +58,10 @@ rest_is t bytes size fits header long fourth records entries =
 -- the bytes of a record, and the client before them
 pub text_is : (t : Table) (bytes rest : List ℕ) (i : ℕ) (d : Record) → version_at bytes ≡ t.version → AllByRecursion (λ r. length (record_bytes t.version r) ≡ record_size t.version) t.records
     → drop 196 bytes ≡ flat_map (record_bytes t.version) t.records ++ rest → i < length t.records → record_text bytes i ≡ record_bytes t.version (get_or t.records i d)
-text_is t bytes rest i d version sized behind lt =
+text_is t bytes rest i d version sized after lt =
     let size : record_size_at bytes ≡ record_size t.version = ap record_size version in
     let place : drop (record_place bytes i) bytes ≡ drop (record_size t.version * i) (flat_map (record_bytes t.version) t.records ++ rest) =
-    sym (drop-drop (record_size_at bytes * i) 196 bytes) ∙ ap (λ (n : ℕ). drop (n * i) (drop 196 bytes)) size ∙ ap (drop (record_size t.version * i)) behind in
+    sym (drop-drop (record_size_at bytes * i) 196 bytes) ∙ ap (λ (n : ℕ). drop (n * i) (drop 196 bytes)) size ∙ ap (drop (record_size t.version * i)) after in
     ap (λ (n : ℕ). take n (drop (record_place bytes i) bytes)) size ∙ ap (take (record_size t.version)) place
     ∙ piece_at (record_bytes t.version) (record_size t.version) t.records rest i d sized lt
 
@@ -71,9 +71,9 @@ wide Two = omega arith
 
 pub client_is : (t : Table) (bytes rest : List ℕ) (i : ℕ) (d : Record) → version_at bytes ≡ t.version → AllByRecursion (λ r. length (record_bytes t.version r) ≡ record_size t.version) t.records
     → drop 196 bytes ≡ flat_map (record_bytes t.version) t.records ++ rest → (get_or t.records i d).client < 2 ^ 64 → i < length t.records → u64_at (record_place bytes i) bytes ≡ (get_or t.records i d).client
-client_is t bytes rest i d version sized behind fits lt =
+client_is t bytes rest i d version sized after fits lt =
     sym (u64_at-drop (record_place bytes i) bytes) ∙ sym (u64_at-take (record_size_at bytes) (drop (record_place bytes i) bytes) (wide (version_at bytes)))
-    ∙ ap (u64_at 0) (text_is t bytes rest i d version sized behind lt) ∙ client_again t.version (get_or t.records i d) fits
+    ∙ ap (u64_at 0) (text_is t bytes rest i d version sized after lt) ∙ client_again t.version (get_or t.records i d) fits
 
 module _ (icb : ℕ) (t : Table) (bytes : List ℕ) (small : icb < 2 ^ 32) (fits : IsBytes bytes) (header : HasHeader icb bytes) (revisions : HasRevisions bytes) (kept : HasRecords bytes) (clients : HasClients bytes)
     (entries : AreNumbers icb (numbers_at bytes)) (counts : HasCounts bytes) (says : DescribesTable t bytes) where
@@ -114,7 +114,7 @@ module _ (icb : ℕ) (t : Table) (bytes : List ℕ) (small : icb < 2 ^ 32) (fits
         count_is = refl;
         next_is = sym says.next_unique;
         commits_are = sym says.commits;
-        behind = refl;
+        after = refl;
         long = omega (arith, length-drop 196 bytes, header.long);
       } in
       let laid = head_again (u16_at 2 bytes) (dstring 128 t.label) (u32_at 132 bytes) t.files t.directories (u16_at 184 bytes) (count_at bytes) t.next_unique t.commits (drop 196 bytes) bytes fits label_long head in

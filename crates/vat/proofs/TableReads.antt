@@ -5,6 +5,7 @@ use Rattle.std.specs.List.{flat_map, AllByRecursion}
 use Rattle.std.proofs.lemmas.List.{drop-drop, length-map, get_or-map, take_at, drop_at, length-append}
 use Rattle.std.proofs.lemmas.List.Elements.{recursion_from_All}
 use Rattle.std.proofs.lemmas.List.Sums.{count_by-le-length}
+use Rattle.limits.specs.declared.TheConstants.{ADDRESSES}
 use Rattle.ecma.specs.FirstFault.{AllHold}
 use Rattle.ecma.specs.Numbers.{u16_at, u64_at}
 use Rattle.ecma.proofs.Pieces.{concat_onto}
@@ -82,7 +83,7 @@ module _ (icb : ℕ) (t : Table) (bytes : List ℕ) (stands : IsTableAt icb t by
   entries_long : length entries ≡ 4 * length t.entries
   entries_long = length-pieces entry_bytes 4 t.entries (entries_sized t.entries)
 
-  few_nodes : 1 + (t.files + t.directories) ≤ 4097
+  few_nodes : 1 + (t.files + t.directories) ≤ ADDRESSES
   few_nodes = omega (arith, fits.used, fits.many, count_by-le-length is_some t.entries)
 
   pub head : ReadsHead (sessions_size t.version (length t.records)) (dstring 128 t.label) (entry_number t.previous) t.files t.directories (version_number t.version) (length t.records) t.next_unique t.commits (records ++ entries) bytes
@@ -106,7 +107,7 @@ module _ (icb : ℕ) (t : Table) (bytes : List ℕ) (stands : IsTableAt icb t by
   numbers : numbers_at bytes ≡ map entry_number t.entries
   numbers =
       ap words (ap (λ (n : ℕ). drop n bytes) place ∙ sym (drop-drop (record_size t.version * length t.records) 196 bytes)
-      ∙ ap (drop (record_size t.version * length t.records)) head.behind ∙ drop_at records entries (record_size t.version * length t.records) records_long)
+      ∙ ap (drop (record_size t.version * length t.records)) head.after ∙ drop_at records entries (record_size t.version * length t.records) records_long)
       ∙ words_again t.entries below_unused
 
   numbers_long : length (numbers_at bytes) ≡ length t.entries
@@ -123,7 +124,7 @@ module _ (icb : ℕ) (t : Table) (bytes : List ℕ) (stands : IsTableAt icb t by
     kept = kept_there;
     whole = ap (λ (v : Version). flat_map (record_bytes v) t.records) version
         ∙ sym (take_at records entries (record_size t.version * length t.records) records_long)
-        ∙ ap (take (record_size t.version * length t.records)) (sym head.behind)
+        ∙ ap (take (record_size t.version * length t.records)) (sym head.after)
         ∙ ap (λ (n : ℕ). take n (drop 196 bytes)) (sym product);
   }
 
@@ -163,7 +164,7 @@ module _ (icb : ℕ) (t : Table) (bytes : List ℕ) (stands : IsTableAt icb t by
     each = λ i lt.
         let low : i < length t.records = omega (arith, lt, head.count_is) in
         let d : Record = record { client = 0; latest = 0; replies = [] } in
-        let text = text_is t bytes entries i d version sized head.behind low in
+        let text = text_is t bytes entries i d version sized head.after low in
         let is : IsKept (version_at bytes) (commits_at bytes) (get_or t.records i d) =
         subst (λ (v : Version). IsKept v (commits_at bytes) (get_or t.records i d)) (sym version)
         (subst (λ (n : ℕ). IsKept t.version n (get_or t.records i d)) (sym head.commits_are) (fits.records i d low)) in
@@ -176,7 +177,7 @@ module _ (icb : ℕ) (t : Table) (bytes : List ℕ) (stands : IsTableAt icb t by
       let high : j < length t.records = omega (arith, end, head.count_is) in
       let low : i < length t.records = omega arith in
       let here : (k : ℕ) → k < length t.records → u64_at (record_place bytes k) bytes ≡ (get_or t.records k d).client =
-      λ k there. client_is t bytes entries k d version sized head.behind (fits.records k d there).client_fits there in
+      λ k there. client_is t bytes entries k d version sized head.after (fits.records k d there).client_fits there in
       fits.distinct i j d lt high (sym (here i low) ∙ same ∙ here j high)
 
   -- the file set and the root have numbers
@@ -248,7 +249,7 @@ one_table icb here t u bytes a b =
 
 -- ---- bounds
 
-pub nodes_have_entries : (t : Table) → FitsTable t → (1 + (t.files + t.directories) ≤ length t.entries) × (length t.entries ≤ 4097)
+pub nodes_have_entries : (t : Table) → FitsTable t → (1 + (t.files + t.directories) ≤ length t.entries) × (length t.entries ≤ ADDRESSES)
 nodes_have_entries t fits = (omega (arith, fits.used, count_by-le-length is_some t.entries), fits.many)
 
 pub takes_so_many : (t : Table) (bytes : List ℕ) → IsTable t bytes → length bytes ≡ 196 + (record_size t.version * length t.records + 4 * length t.entries)

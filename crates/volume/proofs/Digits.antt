@@ -36,8 +36,8 @@ digits_ascii n = ascii_from (digits n) (digit_ascii (n / 16 ^ 15 % 16) (omega ar
 pub length-label : (n : ℕ) (text : List ℕ) → IsLabel text → 32 ≤ n → length (dstring n text) ≡ n
 length-label n text label room = length-field_of n (compressed text) (omega (arith, label_few text label))
 
-few_behind : (front label : List ℕ) → IsLabel label → length front ≡ 16 → IsAscii front → length (compressed (front ++ label)) < 128
-few_behind front label is sixteen ascii =
+few_later : (front label : List ℕ) → IsLabel label → length front ≡ 16 → IsAscii front → length (compressed (front ++ label)) < 128
+few_later front label is sixteen ascii =
     let field = dstring 32 label in
     let kept = label_field label is in
     let text : compressed (front ++ dstring_text field) ≡ compressed (front ++ label) = ap (λ (x : List ℕ). compressed (front ++ x)) (label_text label is) in
@@ -52,4 +52,4 @@ few_behind front label is sixteen ascii =
     ]
 
 pub length-set : (n : ℕ) (label : List ℕ) → IsLabel label → length (dstring 128 (digits n ++ label)) ≡ 128
-length-set n label is = length-field_of 128 (compressed (digits n ++ label)) (few_behind (digits n) label is refl (digits_ascii n))
+length-set n label is = length-field_of 128 (compressed (digits n ++ label)) (few_later (digits n) label is refl (digits_ascii n))

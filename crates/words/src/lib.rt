@@ -1,12 +1,15 @@
 //! The reader of text files that say what a test does: lines of words, and bytes and numbers as words write them.
 //!
-//! `scenarios` reads its scripts by it, and `vectors` its cases.
+//! `scenarios` reads its scripts by it, and `vectors` its cases. Here too is a writer that fills up, for tests of what is done
+//! where an output fails.
 #![tactic(auto)]
 
 mod bytes;
 mod fault;
 mod lines;
+mod room;
 
 pub use bytes::{number, read_bytes, read_word, show_bytes};
 pub use fault::WordsFault;
 pub use lines::{Line, read_lines};
+pub use room::Room;

@@ -43,7 +43,7 @@ def require_whole(config: Config, catalogue: Catalogue, row: VolumeRow, image: s
     if lacking:
         raise VolumeDiffers(f"{shown(image)}: lacks {len(lacking)} files that the catalogue has of {row.label}: it is an older copy")
     if row.state == CLOSED and print_of_file(image) != Print(row.length or 0, row.sha256 or b""):
-        raise VolumeDiffers(f"{shown(image)}: is not {row.label} as it was closed, by its length or its SHA-256")
+        raise VolumeDiffers(f"{shown(image)}: is not {row.label} as it was closed: its length or SHA-256 differs")
 
 
 def adopt(config: Config, catalogue: Catalogue, claims: Claims, row: VolumeRow, given: Optional[str]) -> VolumeRow:
@@ -57,7 +57,7 @@ def adopt(config: Config, catalogue: Catalogue, claims: Claims, row: VolumeRow, 
         catalogue.save(row)
         return row
     if image is None:
-        raise NotAtHand(f"{row.label}: its image is not at hand: name it")
+        raise NotAtHand(f"{row.label}: its image was not found: name it on the command line")
     require_whole(config, catalogue, row, image)
     target = config.path("closed" if row.state == CLOSED else "open", row.label + ".img")
     if os.path.realpath(image) != os.path.realpath(target):
@@ -90,7 +90,7 @@ def copy_to(image: str, target: str, closed: bool) -> None:
         os.truncate(new, min(length, os.path.getsize(new)))
     sync_file(new)
     if print_of_file(new, fresh=True) != print_of_file(image, most=length):
-        raise VolumeDiffers(f"{shown(new)}: is not what {shown(image)} is: it was written meanwhile, or a disk fails")
+        raise VolumeDiffers(f"{shown(new)}: differs from {shown(image)}: it was written meanwhile, or a disk is failing")
     if closed:
         os.chmod(new, 0o444)
     os.replace(new, target)

@@ -60,7 +60,7 @@ def sound_length(image: str) -> Optional[int]:
     except FileNotFoundError:
         return None
     except ValueError as error:
-        raise VolumeDiffers(f"{shown(tail_note(image))}: says no length: bring the right one back") from error
+        raise VolumeDiffers(f"{shown(tail_note(image))}: has no length in it: bring the right one back") from error
 
 
 def cut_tail(image: str) -> None:
@@ -91,7 +91,7 @@ def locked(image: str) -> int:
         fcntl.flock(descriptor, fcntl.LOCK_EX | fcntl.LOCK_NB)
     except BlockingIOError as error:
         os.close(descriptor)
-        raise VolumeDiffers(f"{shown(image)}: another program writes it") from error
+        raise VolumeDiffers(f"{shown(image)}: another program is writing it") from error
     return descriptor
 
 
@@ -208,7 +208,7 @@ class Batch:
                 self._write_tail(new)
             except OSError as error:
                 told = "the disk has no room" if error.errno in (errno.ENOSPC, errno.EDQUOT) else error.strerror
-                raise ArchiveError(f"{shown(self.image)}: {told}: the last files are not stored: run the command again when that is mended") from error
+                raise ArchiveError(f"{shown(self.image)}: {told}: the last files are not stored: run the command again once that is fixed") from error
         return added
 
     def _require_same_front(self, new: "IO[bytes]", added: int) -> None:
@@ -218,7 +218,7 @@ class Batch:
             count = min(PIECE, self.length - at)
             same = same and os.pread(new.fileno(), count, at) == os.pread(self._descriptor, count, at)
         if not same:
-            raise VolumeDiffers(f"{shown(self.image)}: a block that was there changed in a batch, and nothing of it was kept: see 'udfburn check'")
+            raise VolumeDiffers(f"{shown(self.image)}: an existing block changed during a batch, so the batch was dropped: run 'udfburn check'")
 
     def _write_tail(self, new: "IO[bytes]") -> None:
         write_file(tail_note(self.image), f"{self.length}\n".encode())

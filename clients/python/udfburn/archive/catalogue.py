@@ -17,6 +17,7 @@ from .config import Config
 from .errors import CatalogueError
 from .names import kept_name, name_back
 from .schema import COMMITS, VERSION, statements
+from .trigrams import NameIndex
 
 OPEN, FULL, CLOSING, CLOSED, NEW = "open", "full", "closing", "closed", "new"
 """The states of a volume. NEW has its number and maybe no image yet."""
@@ -109,6 +110,7 @@ class Catalogue:
     def __init__(self, config: Config, make: bool = False):
         self.config = config
         self.base: Base = open_base(config.sqlite(), config.catalogue, make)
+        self.names = NameIndex(self.base)
         self._folders: Dict[str, int] = {}
         try:
             self._open(make)
@@ -128,14 +130,14 @@ class Catalogue:
         """Sees that the tables are those of this archive, and of a version that this program knows."""
         version = self._version()
         if version is None and not make:
-            raise CatalogueError("the catalogue has no tables of an archive: 'udfburn-archive rebuild' makes it again of the volumes")
+            raise CatalogueError("the catalogue has no tables of an archive: 'udfburn-archive rebuild' makes them from the volumes")
         if version is not None and version > VERSION:
-            raise CatalogueError(f"the catalogue has version {version}, and this program knows {VERSION}: use a newer program")
+            raise CatalogueError(f"the catalogue has version {version}, and this program reads up to {VERSION}: use a newer program")
         if version is None or version < VERSION:
             self._migrate()
         self.id, label = self.base.run("SELECT id, label FROM archive")[0]
         if label != self.config.label:
-            raise CatalogueError(f"the catalogue is of the archive {label}, and {self.config.path('archive.toml')} says {self.config.label}")
+            raise CatalogueError(f"the catalogue belongs to the archive {label}, but {self.config.path('archive.toml')} says {self.config.label}")
         if make:
             self._register()
 
@@ -144,14 +146,14 @@ class Catalogue:
         if not self.base.has_table("archive"):
             for name in ("file", "volume", "folder", "copy", "holder"):
                 if self.base.has_table(name):
-                    raise CatalogueError(f"the catalogue's base has a table {name} of another program: take a base of its own")
+                    raise CatalogueError(f"the database has a table {name} of another program: give the archive a database of its own")
             return None
         try:
             rows = self.base.run("SELECT version FROM archive")
         except CatalogueError as error:
-            raise CatalogueError(f"the catalogue's base has a table 'archive' of another program ({error})") from error
+            raise CatalogueError(f"the database has a table 'archive' of another program ({error})") from error
         if len(rows) != 1:
-            raise CatalogueError(f"the catalogue has {len(rows)} archives, and not one")
+            raise CatalogueError(f"the catalogue has {len(rows)} archives instead of one")
         return int(rows[0][0])
 
     def _migrate(self) -> None:
@@ -161,6 +163,8 @@ class Catalogue:
                 version = self._version() or 0
                 for statement in statements(self.base.engine, version, self.base.text, self.base.blob, self.base.serial) if version < VERSION else ():
                     self.base.run(statement)
+                if version in (1, 2):
+                    self.names.remake()
                 if not version:
                     values = (str(uuid.uuid4()), VERSION, self.config.label, 1)
                     self.base.run("INSERT INTO archive (id, version, label, next_volume) VALUES (?, ?, ?, ?)", values)
@@ -221,6 +225,7 @@ class Catalogue:
         with self.base.transaction():
             self._insert(rows)
             self.save(volume)
+        self.names.settle()
 
     def replace(self, volume: VolumeRow, rows: Sequence[Held]) -> None:
         """Has these files in the place of all that the catalogue had of a volume, as one. Rows that stay as they are are not written."""
@@ -242,6 +247,7 @@ class Catalogue:
         self.base.many(KEPT_FILE, kept)
         for table, column in NAMES if self.base.has_names else ():
             self.base.many(KEPT_NAME.format(table=table, column=column), sorted((*name_key(column, row), row.parts) for row in rows))
+        self.names.add(sorted({kept_name(row.path[-1]) for row in rows}))
 
     def _delete(self, rows: Sequence[Held]) -> None:
         self.base.many("DELETE FROM file WHERE id = ?", [(row.id(),) for row in rows])
@@ -249,11 +255,11 @@ class Catalogue:
             self.base.many(f"DELETE FROM {table} WHERE {column} = ? AND path = ? AND id = ?", [name_key(column, row) for row in rows])
 
     def mend_names(self) -> int:
-        """Has the tables of names agree with the files; gives how many rows did not."""
-        if not self.base.has_names:
-            return 0
+        """Has the tables of names agree with the files, and makes their index again; gives how many rows did not agree."""
         with self.base.transaction():
-            return sum(self._mend(table, column) for table, column in NAMES)
+            mended = sum(self._mend(table, column) for table, column in NAMES if self.base.has_names)
+            self.names.remake()
+        return mended
 
     def _mend(self, table: str, column: str) -> int:
         name = "name" if column == "name" else "reverse(name)"

@@ -37,7 +37,7 @@ def chosen(rows: Sequence[VolumeRow], names: Sequence[str], options: Options) ->
         by_label = {row.label: row for row in rows}
         missing = [name for name in names if name not in by_label]
         if missing:
-            raise NotAtHand(f"{missing[0]}: is no volume of this archive")
+            raise NotAtHand(f"{missing[0]}: is not a volume of this archive")
         closed = [by_label[name] for name in names]
     if options.oldest:
         closed.sort(key=lambda row: (row.data_checked if options.data else row.checked) or 0)
@@ -80,7 +80,7 @@ class Checker:
         self.catalogue.save(row._replace(checked=time, data_checked=data, trouble=trouble if row.state == CLOSED else row.trouble))
         if trouble:
             self.failures.append(f"{row.label}: {trouble}: {self._cure(row)}")
-        self.tell.say_step(f"{row.label}: {trouble or 'is as it was'}", did="checked", volume=row.label, trouble=trouble)
+        self.tell.say_step(f"{row.label}: {trouble or 'is intact'}", did="checked", volume=row.label, trouble=trouble)
 
     def _trouble(self, row: VolumeRow, image: str) -> Optional[str]:
         if row.state == CLOSED:
@@ -89,7 +89,7 @@ class Checker:
             except OSError as error:
                 return f"cannot be read: {error.strerror or error}"
             if found.length != row.length:
-                return f"has {found.length} bytes, and had {row.length}"
+                return f"has {found.length} bytes instead of {row.length}"
             if found.sha256 != row.sha256 and not self.options.data:
                 return "has another SHA-256 than when it was closed"
             if not self.options.data:
@@ -142,23 +142,23 @@ class Checker:
         try:
             found = remote_of(copy.remote).look(row.label + ".img")
         except CopyFailed as error:
-            self.failures.append(f"{row.label}: the copy on {copy.remote} cannot be looked at: {error}")
+            self.failures.append(f"{row.label}: the copy on {copy.remote} cannot be checked: {error}")
             return
         trouble = None if found == Print(row.length or 0, row.sha256 or b"") else "is not there" if found is None else "is not as it was closed"
         self.copies += 1
         self.catalogue.save_copy(copy._replace(checked=now(), trouble=trouble))
         if trouble:
             self.failures.append(f"{row.label}: the copy on {copy.remote} {trouble}: 'udfburn-archive repair {row.label}'")
-        self.tell.say_step(f"{row.label} on {copy.remote}: {trouble or 'is as it was'}", did="checked", volume=row.label, remote=copy.remote, trouble=trouble)
+        self.tell.say_step(f"{row.label} on {copy.remote}: {trouble or 'is intact'}", did="checked", volume=row.label, remote=copy.remote, trouble=trouble)
 
     def _cure(self, row: VolumeRow) -> str:
         """From which copy a volume can be repaired."""
         good = [copy.remote for copy in self.catalogue.copies(row.number) if copy.trouble is None]
         if good:
-            return f"'udfburn-archive repair {row.label}' takes it from {good[0]}"
+            return f"'udfburn-archive repair {row.label}' replaces it by the copy on {good[0]}"
         if row.state != CLOSED:
             return f"'udfburn-archive close --without-damaged {row.label}' closes it without what is damaged, and then 'add' stores that again"
-        return "no copy is known: 'udfburn-client salvage' gives what is whole"
+        return "no copy is known: 'udfburn-client salvage' copies out what is intact"
 
 
 class Repairer:
@@ -213,7 +213,7 @@ class Repairer:
         if os.path.lexists(new):
             os.unlink(new)
         told = "; ".join(f"{remote}: {text}" for remote, text in why.items())
-        raise CopyFailed(f"no copy is good ({told or 'none is known'}): 'udfburn-client salvage' gives what is whole")
+        raise CopyFailed(f"no copy is good ({told or 'none is known'}): 'udfburn-client salvage' copies out what is intact")
 
     def _put(self, image: str, new: str) -> None:
         if os.path.lexists(image):

@@ -21,7 +21,7 @@ LONG = """examples:
   udfburn-archive close --archive /srv/archive
   udfburn-archive get /photos/2026 /tmp/back --archive /srv/archive
 
-statuses: 0 all is done, 1 something is not, 2 the words are no command,
+exit status: 0 everything is done, 1 something is not, 2 usage error,
 130 interrupted.
 environment: UDFBURN (the program udfburn), UDFBURN_ARCHIVE (the archive's folder).
 The design is in docs/ARCHIVE.md, the manual page is udfburn-archive(1)."""
@@ -30,7 +30,7 @@ The design is in docs/ARCHIVE.md, the manual page is udfburn-archive(1)."""
 def parser() -> argparse.ArgumentParser:
     """The words of each command."""
     top = argparse.ArgumentParser(
-        prog="udfburn-archive", description="Keeps trees of any size on many UDF volumes, with a catalogue that can be made again of them.",
+        prog="udfburn-archive", description="Keeps trees of any size on many UDF volumes, with a catalogue that can be rebuilt from the volumes alone.",
         epilog=LONG, formatter_class=argparse.RawDescriptionHelpFormatter,
     )
     top.add_argument("--version", action="version", version=f"udfburn-archive {__version__}")
@@ -43,83 +43,83 @@ def parser() -> argparse.ArgumentParser:
 def command(subs: "Subs", name: str, words: str) -> argparse.ArgumentParser:
     """A command that works on an archive."""
     found = subs.add_parser(name, help=words, description=words[0].upper() + words[1:] + ".")
-    found.add_argument("--archive", metavar="DIR", help="the archive's folder; else UDFBURN_ARCHIVE, else the folder of now")
-    found.add_argument("--json", action="store_true", help="a line of JSON for each step, and one at the end")
-    found.add_argument("--quiet", action="store_true", help="errors alone")
+    found.add_argument("--archive", metavar="DIR", help="the archive's folder (default: $UDFBURN_ARCHIVE, or the current folder)")
+    found.add_argument("--json", action="store_true", help="print a line of JSON for each step, and one with the result at the end")
+    found.add_argument("--quiet", action="store_true", help="print nothing but errors")
     return found
 
 
 def add_writers(subs: "Subs") -> None:
     """Commands that change the archive."""
-    init = subs.add_parser("init", help="makes an archive", description="Makes an archive in a folder, which is new or empty.")
-    init.add_argument("dir", metavar="DIR")
-    init.add_argument("--catalogue", metavar="URL", default=None, help="a base of PostgreSQL (postgresql://..); else a SQLite file in the folder")
-    init.add_argument("--capacity", type=int, default=limits.CAPACITY[1], metavar="N", help="blocks of 2,048 bytes of a volume (450000)")
-    init.add_argument("--label", default="ARCHIVE", help="volumes are labelled LABEL-000001 and on")
-    init.add_argument("--copies", nargs="+", default=[], metavar="REMOTE", help="where closed volumes are sent: folders, or remotes of rclone")
-    init.add_argument("--copies-wanted", type=int, metavar="N", help="copies before a source is deleted (all)")
-    init.add_argument("--delete", choices=("acknowledged", "copied"), help="when --delete-source deletes (copied, where there are copies)")
-    init.add_argument("--json", action="store_true", help="JSON")
-    init.add_argument("--quiet", action="store_true", help="errors alone")
+    init = subs.add_parser("init", help="make an archive", description="Make an archive in a new or empty folder.")
+    init.add_argument("dir", metavar="DIR", help="the folder of the archive; made if it is missing")
+    init.add_argument("--catalogue", metavar="URL", default=None, help="a PostgreSQL database, postgresql://HOST/DATABASE (default: a SQLite file in the folder)")
+    init.add_argument("--capacity", type=int, default=limits.CAPACITY[1], metavar="N", help="the size of a volume in blocks of 2,048 bytes, from 512 to 450,000 (default: 450,000)")
+    init.add_argument("--label", default="ARCHIVE", help="the name of the archive; its volumes are called LABEL-000001, LABEL-000002, .. (default: ARCHIVE)")
+    init.add_argument("--copies", nargs="+", default=[], metavar="REMOTE", help="where closed volumes are copied to: absolute paths of folders, or rclone remotes as NAME:PATH")
+    init.add_argument("--copies-wanted", type=int, metavar="N", help="how many remotes must have a volume before its sources are deleted (default: all)")
+    init.add_argument("--delete", choices=("acknowledged", "copied"), help="when --delete-source may delete: once a volume has acknowledged the file, or once that volume is closed and copied (default: copied if there are remotes)")
+    init.add_argument("--json", action="store_true", help="print a line of JSON with the result")
+    init.add_argument("--quiet", action="store_true", help="print nothing but errors")
 
-    add = command(subs, "add", "stores folders and files; the same command again finishes what was interrupted")
-    add.add_argument("folder", nargs="+", metavar="FOLDER")
-    add.add_argument("--at", default="/", metavar="PATH", help="where it is in the archive: one FOLDER becomes PATH; with a slash at its end each gets its own name below (/)")
-    add.add_argument("--delete-source", action="store_true", help="deletes each file once archive.toml lets it")
-    add.add_argument("--each", action="store_true", help="writes each file to the disk before the next one, and not in batches: slower, and takes no memory")
-    add.add_argument("--skip-odd", action="store_true", help="links, pipes, sockets and devices, which are left out, are no failure")
+    add = command(subs, "add", "store folders and files; run it again to finish what was interrupted")
+    add.add_argument("folder", nargs="+", metavar="FOLDER", help="a local folder or file")
+    add.add_argument("--at", default="/", metavar="PATH", help="the path in the archive: a single FOLDER becomes PATH; if PATH ends with a slash, or there are several, each keeps its name below PATH (default: /)")
+    add.add_argument("--delete-source", action="store_true", help="delete each local file, when archive.toml allows it")
+    add.add_argument("--each", action="store_true", help="write each file to the disk before the next one, instead of in batches: slower, and needs no memory for a copy of the volume")
+    add.add_argument("--skip-odd", action="store_true", help="leave out links, pipes, sockets and devices without counting them as failures")
 
-    close = command(subs, "close", "writes the bag's tag files, ends the image, and sends it to each remote")
-    close.add_argument("volume", nargs="*", metavar="VOLUME", help="labels; else all volumes of this folder that have files")
-    close.add_argument("--full", action="store_true", help="only volumes that are full, and copies that are missing")
-    close.add_argument("--without-damaged", action="store_true", help="takes files that are not as they were stored off their volumes first; else these are not closed")
+    close = command(subs, "close", "close volumes: complete the bag, make the image read-only, and copy it to each remote")
+    close.add_argument("volume", nargs="*", metavar="VOLUME", help="labels of volumes (default: all of this folder that have files)")
+    close.add_argument("--full", action="store_true", help="close only full volumes, and make missing copies")
+    close.add_argument("--without-damaged", action="store_true", help="first take damaged files off their volumes; otherwise such a volume is not closed")
 
-    repair = command(subs, "repair", "takes damaged or lost images from good copies, and damaged copies from good images")
-    repair.add_argument("volume", nargs="*", metavar="VOLUME", help="labels; else all in which check found something")
+    repair = command(subs, "repair", "replace damaged or lost images by good copies, and damaged copies by good images")
+    repair.add_argument("volume", nargs="*", metavar="VOLUME", help="labels of volumes (default: all in which check found damage)")
 
-    adopt = command(subs, "adopt", "takes over a volume of another folder of this archive, whose machine is gone")
-    adopt.add_argument("volume", metavar="VOLUME", help="its label")
-    adopt.add_argument("image", nargs="?", metavar="IMAGE", help="its image; else it is looked for in both folders")
+    adopt = command(subs, "adopt", "take over a volume from another folder of this archive whose machine is gone")
+    adopt.add_argument("volume", metavar="VOLUME", help="the label of the volume")
+    adopt.add_argument("image", nargs="?", metavar="IMAGE", help="the image (default: it is looked for in both folders)")
 
-    rebuild = command(subs, "rebuild", "makes the catalogue again of the volumes at hand, and says in what it differs")
-    rebuild.add_argument("image", nargs="*", metavar="IMAGE", help="more images, or folders of images")
-    rebuild.add_argument("--dry-run", action="store_true", help="says in what it differs, and changes nothing")
+    rebuild = command(subs, "rebuild", "rebuild the catalogue from the volumes at hand, and report each difference from the old one")
+    rebuild.add_argument("image", nargs="*", metavar="IMAGE", help="further images, or folders of images")
+    rebuild.add_argument("--dry-run", action="store_true", help="report the differences, and change nothing")
 
 
 def add_readers(subs: "Subs") -> None:
     """Commands that read the archive."""
-    ls = command(subs, "ls", "lists a folder of the archive, or a file")
-    ls.add_argument("path", nargs="?", default="/", metavar="PATH")
-    ls.add_argument("-R", "--recursive", action="store_true", help="all below it")
-    ls.add_argument("-l", "--long", action="store_true", help="with size, moment, SHA-256, volume and commit")
+    ls = command(subs, "ls", "list a folder of the archive, or a file")
+    ls.add_argument("path", nargs="?", default="/", metavar="PATH", help="a folder or a file (default: /)")
+    ls.add_argument("-R", "--recursive", action="store_true", help="also list everything below it")
+    ls.add_argument("-l", "--long", action="store_true", help="also show size, time, SHA-256, volume and commit")
 
-    find = command(subs, "find", "finds files by a pattern of their names, or of their paths where it begins with a slash")
-    find.add_argument("pattern", metavar="PATTERN", help="* is any text, ? a character, [..] one of some; quote it from the shell")
-    find.add_argument("-l", "--long", action="store_true", help="with size, moment, SHA-256, volume and commit")
+    find = command(subs, "find", "find files by name; if the pattern begins with a slash, by path")
+    find.add_argument("pattern", metavar="PATTERN", help="* stands for any text, ? for one character, [..] for one of those listed; quote it for the shell")
+    find.add_argument("-l", "--long", action="store_true", help="also show size, time, SHA-256, volume and commit")
 
-    history = command(subs, "history", "shows all versions of a file, the newest first")
-    history.add_argument("path", metavar="PATH")
+    history = command(subs, "history", "show all versions of a file, the newest first")
+    history.add_argument("path", metavar="PATH", help="a file of the archive")
 
-    where = command(subs, "where", "shows on which volumes a file is, and where these and their copies are")
-    where.add_argument("path", metavar="PATH")
+    where = command(subs, "where", "show which volumes have a file, and where they and their copies are")
+    where.add_argument("path", metavar="PATH", help="a file of the archive")
 
-    get = command(subs, "get", "copies files and folders from the volumes at hand; names the volumes that it lacks")
-    get.add_argument("path", nargs="+", metavar="PATH")
-    get.add_argument("dir", metavar="DIR")
-    get.add_argument("--as-of", metavar="TIME", help="as it was then: a date, or a date and a time, as 2026-11-26T12:00:00Z")
-    get.add_argument("--force", action="store_true", help="replaces files that are there")
+    get = command(subs, "get", "copy files and folders out of the archive, and name the volumes that are needed but not at hand")
+    get.add_argument("path", nargs="+", metavar="PATH", help="a file or folder of the archive")
+    get.add_argument("dir", metavar="DIR", help="the local folder to copy into")
+    get.add_argument("--as-of", metavar="TIME", help="copy what the archive had at that time: a date, or a date and time such as 2026-11-26T12:00:00Z")
+    get.add_argument("--force", action="store_true", help="replace existing local files")
 
-    check = command(subs, "check", "compares closed images with their digests; with --data each file too")
-    check.add_argument("volume", nargs="*", metavar="VOLUME", help="labels; else all closed volumes")
-    check.add_argument("--data", action="store_true", help="each file, also of open volumes that are named")
-    check.add_argument("--remotes", action="store_true", help="the copies on remotes too")
-    check.add_argument("--sample", type=int, metavar="N", help="N volumes at random")
-    check.add_argument("--oldest", action="store_true", help="those that were not looked at for longest: one, or N with --sample")
+    check = command(subs, "check", "compare closed images with their digests, and with --data each file")
+    check.add_argument("volume", nargs="*", metavar="VOLUME", help="labels of volumes (default: all closed ones)")
+    check.add_argument("--data", action="store_true", help="also compare each file; also of open volumes, if they are named")
+    check.add_argument("--remotes", action="store_true", help="also compare the copies on remotes")
+    check.add_argument("--sample", type=int, metavar="N", help="check N volumes, chosen at random")
+    check.add_argument("--oldest", action="store_true", help="check the volume whose last check is longest ago, or N of them with --sample")
 
-    report = command(subs, "report", "writes one static page: the volumes, their media by commits, and a search by path")
-    report.add_argument("out", metavar="OUT.html")
+    report = command(subs, "report", "write a static HTML page: the volumes, a map of each by commit, and a search by path")
+    report.add_argument("out", metavar="OUT.html", help="the page; an earlier one is replaced")
 
-    command(subs, "status", "shows how full each volume is, its copies, and what needs attention")
+    command(subs, "status", "show how full each volume is, its copies, and what needs attention")
 
 
 COMMANDS: Dict[str, str] = {
@@ -139,7 +139,7 @@ def function(name: str) -> Callable[[Any], int]:
 def main(words: Optional[List[str]] = None) -> int:
     """Runs a command, and gives its status."""
     if sys.version_info < (3, 11):
-        print("udfburn-archive: takes Python 3.11 or later", file=sys.stderr)
+        print("udfburn-archive: needs Python 3.11 or later", file=sys.stderr)
         return 1
     try:
         arguments = parser().parse_args(words)
@@ -154,7 +154,7 @@ def main(words: Optional[List[str]] = None) -> int:
         return status
     except BrokenPipeError:
         os.dup2(os.open(os.devnull, os.O_WRONLY), sys.stdout.fileno())
-        print("udfburn-archive: the standard output takes no more", file=sys.stderr)
+        print("udfburn-archive: the standard output is closed", file=sys.stderr)
         return 1
     except OutputFailed as error:
         print(f"udfburn-archive: {error}", file=sys.stderr)
@@ -168,7 +168,7 @@ def run(arguments: argparse.Namespace, tell: Tell) -> int:
     except (BrokenPipeError, OutputFailed):
         raise
     except KeyboardInterrupt:
-        return tell.fail("interrupted: the same command goes on", 130)
+        return tell.fail("interrupted: run the same command again to continue", 130)
     except UsageError as error:
         return tell.fail(error, 2)
     except (UdfburnError, ValueError, OSError) as error:

@@ -85,15 +85,15 @@ class Closer:
             sync_folder(os.path.dirname(target))
             sync_folder(os.path.dirname(source))
         elif not os.path.isfile(target):
-            raise NotAtHand(f"{row.label}: its image is not at hand: bring it back to the folder open of the archive")
+            raise NotAtHand(f"{row.label}: its image is missing: put it back into the folder 'open' of the archive")
         length, digest = sidecar(target)
         found = print_of_file(target, fresh=True)
         if found != Print(length, digest):
-            raise VolumeDiffers(f"{shown(target)}: is not as it was closed, by its length or its SHA-256")
+            raise VolumeDiffers(f"{shown(target)}: is not as it was closed: its length or SHA-256 differs")
         with closing(Contents(target)) as contents:
             closed = contents.closed()
             if closed is None:
-                raise VolumeDiffers(f"{shown(target)}: is among the closed volumes, and its bag was not finished")
+                raise VolumeDiffers(f"{shown(target)}: is among the closed volumes, but its bag was never finished")
         row = row._replace(state=CLOSED, length=length, sha256=digest, closed=closed, checked=now(), data_checked=now(), trouble=None)
         self.catalogue.save(row)
         self._forget_ledger(row)
@@ -220,7 +220,7 @@ class Closer:
             if name in have:
                 continue
             if image is None:
-                self.failures.append(f"{row.label}: is not at hand, and is not sent to {name}")
+                self.failures.append(f"{row.label}: is not at hand, so it was not copied to {name}")
                 continue
             self.tell.working(f"copying {row.label} to {name}")
             try:

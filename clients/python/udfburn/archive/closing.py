@@ -52,14 +52,14 @@ def check(arguments: argparse.Namespace) -> int:
         checker.run(chosen(catalogue.volumes(), arguments.volume, options))
     for label in checker.away:
         if arguments.volume:
-            checker.failures.append(f"{label}: is not at hand: bring it into the folder closed of the archive")
+            checker.failures.append(f"{label}: is not at hand: put its image into the folder 'closed' of the archive")
         else:
-            tell.note(f"{label}: is not at hand, and is not looked at", did="away", volume=label)
-    words = f"looked at {plural(checker.volumes, 'volume', 'volumes')}"
+            tell.note(f"{label}: is not at hand, and was not checked", did="away", volume=label)
+    words = f"checked {plural(checker.volumes, 'volume', 'volumes')}"
     words += f" and {plural(checker.files, 'file', 'files')}" if options.data else ""
     words += f", {plural(checker.copies, 'copy', 'copies')}" if options.remotes else ""
     words += f"; {plural(len(checker.away), 'volume is', 'volumes are')} not at hand" if checker.away else ""
-    words += ": all is as it was" if not checker.failures and checker.volumes + checker.copies else ""
+    words += ": everything is intact" if not checker.failures and checker.volumes + checker.copies else ""
     return ended(
         tell, words, checker.failures, volumes=checker.volumes, files=checker.files, copies=checker.copies, away=checker.away,
     )

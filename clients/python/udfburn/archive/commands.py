@@ -24,7 +24,7 @@ def init(arguments: argparse.Namespace) -> int:
         raise NoArchive(f"{shown(folder)}: is an archive already")
     catalogue = arguments.catalogue or LOCAL
     if arguments.catalogue and not is_url(arguments.catalogue):
-        raise BadConfig(f"{arguments.catalogue}: is no URL of PostgreSQL (postgresql://..)")
+        raise BadConfig(f"{arguments.catalogue}: is not a PostgreSQL URL (postgresql://..)")
     left = [name for name in strange(folder) if not name.startswith(LOCAL)]
     if left:
         raise NoArchive(f"{shown(folder)}: is not empty: it has {shown(left[0])}")
@@ -82,12 +82,12 @@ def rebuild(arguments: argparse.Namespace) -> int:
     for line in summary.failures:
         tell.fail(line)
     for label in summary.lacking:
-        words = f"{label}: there are files or copies of it, and no image at hand: bring it back, and run 'rebuild' again. Until then its files are not known"
+        words = f"{label}: there are copies or other files of it, but its image is not at hand: bring it back, and run 'rebuild' again. Until then its files are unknown"
         tell.note(words, did="lacking", volume=label)
     for label in summary.away:
-        tell.note(f"{label} is not at hand: what the catalogue has of it stays as it is", did="away", volume=label)
+        tell.note(f"{label} is not at hand: what the catalogue says of it stays as it is", did="away", volume=label)
     if summary.names:
-        tell.note(f"{plural(summary.names, 'name', 'names')} in the tables of names differed from the files, and were mended", did="mended", names=summary.names)
+        tell.note(f"{plural(summary.names, 'name', 'names')} in the tables of names differed from the files, and were repaired", did="mended", names=summary.names)
     count = len(summary.differences) + sum(summary.unknown.values())
     found = plural(count, "difference", "differences") if count else "no difference"
     tell.result(

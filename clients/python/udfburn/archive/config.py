@@ -60,7 +60,7 @@ def is_url(catalogue: str) -> bool:
 def check_label(label: str) -> str:
     """The label itself, where volumes can have it with their number."""
     if name_fault(label) is not None or spelled_size(label) != len(label) + 1 or len(label) > LABEL or not label.isprintable():
-        raise BadConfig(f"{label!r}: is no label of an archive: one has 1 to {LABEL} letters of Latin-1 and no slash")
+        raise BadConfig(f"{label!r}: is not a label: use 1 to {LABEL} characters of Latin-1, and no slash")
     return label
 
 
@@ -75,7 +75,7 @@ def check_remote(remote: str) -> str:
         return os.path.normpath(remote)
     name, colon, _ = remote.partition(":")
     if not colon or not name or "/" in name or remote.startswith("-"):
-        raise BadConfig(f"{remote}: is neither the absolute path of a folder nor NAME:PATH of a remote of rclone")
+        raise BadConfig(f"{remote}: is neither the absolute path of a folder nor an rclone remote, NAME:PATH")
     return remote
 
 
@@ -97,7 +97,7 @@ def read(folder: str) -> Config:
         with open(where, "rb") as file:
             table: Dict[str, Any] = tomllib.load(file)
     except FileNotFoundError as error:
-        raise NoArchive(f"{shown(folder)}: is no archive: name one by --archive or UDFBURN_ARCHIVE, or make one by 'udfburn-archive init'") from error
+        raise NoArchive(f"{shown(folder)}: is not an archive: name one with --archive or UDFBURN_ARCHIVE, or make one with 'udfburn-archive init'") from error
     except ValueError as error:
         raise BadConfig(f"{shown(where)}: {error}") from error
     return checked(folder, table, shown(where))
@@ -118,18 +118,18 @@ def checked(folder: str, table: Dict[str, Any], where: str) -> Config:
         raise BadConfig(f"{where}: has unknown fields: {', '.join(unknown)}")
     copies = field(table, "copies", list, where)
     if not all(isinstance(copy, str) for copy in copies) or len(set(copies)) != len(copies):
-        raise BadConfig(f"{where}: copies is no list of different texts")
+        raise BadConfig(f"{where}: copies must be a list of different strings")
     found = Config(
         folder, field(table, "id", str, where), check_label(field(table, "label", str, where)), field(table, "catalogue", str, where),
         field(table, "capacity", int, where), tuple(check_remote(copy) for copy in copies), field(table, "copies_wanted", int, where),
         field(table, "delete", str, where),
     )
     if not limits.CAPACITY[0] <= found.capacity <= limits.CAPACITY[1]:
-        raise BadConfig(f"{where}: capacity is from {limits.CAPACITY[0]} to {limits.CAPACITY[1]} blocks")
+        raise BadConfig(f"{where}: capacity must be from {limits.CAPACITY[0]} to {limits.CAPACITY[1]} blocks")
     if found.delete not in DELETIONS:
-        raise BadConfig(f"{where}: delete is one of {', '.join(DELETIONS)}")
+        raise BadConfig(f"{where}: delete must be one of {', '.join(DELETIONS)}")
     if not 0 <= found.wanted <= len(copies) or (found.delete == "copied" and not found.wanted):
-        raise BadConfig(f"{where}: copies_wanted is from 1 (0 with delete = \"acknowledged\") to the count of copies")
+        raise BadConfig(f"{where}: copies_wanted must be from 1 (0 with delete = \"acknowledged\") to the number of copies")
     return found
 
 

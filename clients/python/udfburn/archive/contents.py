@@ -67,12 +67,12 @@ def read_about(data: bytes, where: str) -> About:
     """What `volume.txt` says, or `VolumeDiffers`."""
     title = data.decode("utf-8", "replace").split("\n", 1)[0]
     if title != TITLE:
-        raise VolumeDiffers(f"{where}: is no volume of an archive that this program knows: {ABOUT} begins with {title[:40]!r}")
+        raise VolumeDiffers(f"{where}: is not a volume of an archive, or not of one that this program knows: {ABOUT} begins with {title[:40]!r}")
     fields = read_fields(data)
     try:
         return About(fields["archive"], fields["label"], int(fields["volume"]))
     except (KeyError, ValueError) as error:
-        raise VolumeDiffers(f"{where}: {ABOUT} lacks its archive, label or volume") from error
+        raise VolumeDiffers(f"{where}: {ABOUT} does not name its archive, label and volume") from error
 
 
 class Contents:
@@ -116,7 +116,7 @@ class Contents:
         self.state: State = self.volume.state()
         self.nodes: Dict[Path, Node] = {node.path: node for node in self.state.walk()}
         if self.state.broken:
-            raise VolumeDiffers(f"{self.image}: is damaged: {len(self.state.broken)} files or folders cannot be read: repair it of a copy, or 'udfburn-client salvage'")
+            raise VolumeDiffers(f"{self.image}: is damaged: {len(self.state.broken)} files or folders cannot be read: repair it from a copy, or use 'udfburn-client salvage'")
         self._runs = sorted((self.commit_of(node), node.moment or 0) for path, node in self.nodes.items() if len(path) == 2 and path[0] == RUNS)
 
     # ---- what it says
@@ -125,7 +125,7 @@ class Contents:
         """Which volume of which archive it is; `VolumeDiffers` where it is none."""
         node = self.nodes.get((ABOUT,))
         if node is None:
-            raise VolumeDiffers(f"{self.image}: is no volume of an archive: it has no {ABOUT}")
+            raise VolumeDiffers(f"{self.image}: is not a volume of an archive: it has no {ABOUT}")
         return read_about(self.bytes_of(node), self.image)
 
     def commit_of(self, node: Node) -> int:
@@ -195,7 +195,7 @@ class Contents:
         try:
             size, first, digest = int(fields["size"]), int(fields["first part"]), bytes.fromhex(fields["sha256"])
         except (KeyError, ValueError) as error:
-            raise VolumeDiffers(f"{self.image}: {text_of(node.path)} is no description of a file in parts") from error
+            raise VolumeDiffers(f"{self.image}: {text_of(node.path)} does not describe a file in parts") from error
         nodes: List[Node] = []
         while first + len(nodes) < part_count(size) and first + len(nodes) in parts:
             nodes.append(parts[first + len(nodes)])

@@ -15,7 +15,7 @@ from .job import Job, find_file, same_parts
 
 
 class Deleter:
-    """Deletes what `archive.toml` lets it: a file that a volume acknowledged, or one of a volume with enough copies."""
+    """Deletes what `archive.toml` allows: a file that a volume acknowledged, or one of a volume with enough copies."""
 
     def __init__(self, config: Config, catalogue: Catalogue):
         self.config, self.catalogue = config, catalogue
@@ -35,7 +35,7 @@ class Deleter:
         """Files that were stored just now: their replies are in the ledger, and the catalogue has them."""
         for job in jobs:
             if self.config.delete == "copied":
-                self._stay("until closed volumes with them are copied: close them, and run the command again")
+                self._stay("until their volumes are closed and copied: run 'close', and then this command again")
             elif not job.in_parts() or is_whole(self._same(job)):
                 self._delete(job.source)
 
@@ -72,7 +72,7 @@ class Deleter:
             shown_there = self._has(source, held, image)
         except VolumeDiffers:
             shown_there = False
-        return None if shown_there else f"since {volume.label} does not show them: check it"
+        return None if shown_there else f"since {volume.label} does not have them as they were stored: check it"
 
     def _volume(self, number: int) -> Tuple[Optional[VolumeRow], int]:
         """A volume, and how many good copies it has."""

@@ -1,4 +1,4 @@
-"""What an archive refuses or fails at. Every message says what to do where something can be done."""
+"""What an archive refuses or fails at. Each message says what to do, if anything can be done."""
 
 from __future__ import annotations
 
@@ -6,11 +6,11 @@ from ..errors import UdfburnError
 
 
 class ArchiveError(UdfburnError):
-    """Anything that an archive refuses."""
+    """Anything that an archive refuses to do."""
 
 
 class NoArchive(ArchiveError):
-    """The folder holds no archive, or something else."""
+    """The folder holds no archive, or holds something else."""
 
 
 class BadConfig(ArchiveError):
@@ -34,7 +34,7 @@ class NotAtHand(ArchiveError):
 
 
 class Lacking(ArchiveError):
-    """Bytes that are not had, and why."""
+    """Bytes that cannot be read, and why."""
 
 
 class VolumeDiffers(ArchiveError):

@@ -1,27 +1,52 @@
 """Finds files by a pattern. A literal beginning or end of it is looked up in order of names or of their ends, where whole paths
-are side by side: so the time follows from what is found, and no hit takes a look-up of its own."""
+are side by side: so the time follows from what is found, and no hit takes a look-up of its own. Text inside of names is looked
+up in an index of three letters in a row (trigrams.py)."""
 
 from __future__ import annotations
 
 from fnmatch import fnmatchcase
 from itertools import groupby
-from typing import Iterator, Tuple
+from typing import Iterator, NamedTuple, Tuple
 
 from ..protocol import Path
 from .base import Row
 from .catalogue import Catalogue, folder_back, versions
 from .names import kept_name, name_back
+from .trigrams import AT_ONCE, batches
 
 WILD = "*?["
+
+FEW = 1000
+"""Rows of a literal beginning or end that are compared before the index is asked."""
 
 ESCAPE = "!"
 """What is before a letter of a LIKE that would be a wildcard."""
 
 
+class Range(NamedTuple):
+    """Rows of a table of names: by which column, and which."""
+
+    column: str
+    where: str
+    values: Tuple[str, ...]
+
+
+LAST = "\U0010ffff"
+"""The last letter. It stands for the byte 0xFF of a name that is not UTF-8."""
+
+
 def after(text: str) -> str:
-    """The least text above all that begin with this one."""
+    """The least text above all that begin with this one, which has other letters than the last one."""
+    text = text.rstrip(LAST)
     code = ord(text[-1]) + 1
-    return text[:-1] + chr(0xE000 if code == 0xD800 else min(code, 0x10FFFF))
+    return text[:-1] + chr(0xE000 if code == 0xD800 else code)
+
+
+def beginning(column: str, text: str) -> Range:
+    """The rows whose column begins with a text."""
+    if not text.strip(LAST):
+        return Range(column, f"{column} >= ?", (text,))
+    return Range(column, f"{column} >= ? AND {column} < ?", (text, after(text)))
 
 
 def literal(pattern: str) -> str:
@@ -61,13 +86,19 @@ def find(catalogue: Catalogue, pattern: str) -> Iterator[Path]:
 
 
 def by_path(catalogue: Catalogue, pattern: str) -> Iterator[Row]:
-    """Folder, name and count of parts of each row by its whole path, in order of the folders."""
+    """Folder, name and count of parts of each row by its whole path."""
     begin = literal(pattern)
     folder, _, name = begin.rpartition("/")
     statement = "SELECT path, name, part_count FROM folder JOIN file ON file.folder = folder.id"
     if begin == pattern:
         # Once for each version of it.
         yield from ((folder, name, held.parts) for held in catalogue.of_path(folder_back(folder) + (name_back(name),)))
+        return
+    _, slash, last = literal_end(pattern).rpartition("/")
+    if slash:
+        # The name is this one, in whichever folder.
+        statement = "SELECT path, name, part_count FROM by_name WHERE name = ? ORDER BY path"
+        yield from (row for row in catalogue.base.stream(statement, (last,)) if fnmatchcase(f"{row[0]}/{row[1]}", pattern))
         return
     for where, values in (("path = ?", (folder,)), ("path >= ? AND path < ?", (begin, after(begin)))):
         for row in catalogue.base.stream(f"{statement} WHERE {where} ORDER BY path, name", values):
@@ -79,19 +110,35 @@ def by_name(catalogue: Catalogue, pattern: str) -> Iterator[Row]:
     """The same of each row by its name."""
     begin, end = literal(pattern), literal_end(pattern)
     if begin == pattern:
-        yield from named(catalogue, "name", "name = ?", (begin,), pattern)
-    elif len(begin) >= len(end) and begin:
-        yield from named(catalogue, "name", "name >= ? AND name < ?", (begin, after(begin)), pattern)
+        yield from named(catalogue, Range("name", "name = ?", (begin,)), pattern)
+        return
+    wanted = Range("name", f"name LIKE ? ESCAPE '{ESCAPE}'", (like(pattern),))
+    if len(begin) >= len(end) and begin:
+        wanted = beginning("name", begin)
     elif end:
-        yield from named(catalogue, "ending", "ending >= ? AND ending < ?", (end[::-1], after(end[::-1])), pattern)
-    else:
-        yield from named(catalogue, "name", f"name LIKE ? ESCAPE '{ESCAPE}'", (like(pattern),), pattern)
+        wanted = beginning("ending", end[::-1])
+    if pattern in (begin + "*", "*" + end) or (begin or end) and is_short(catalogue, wanted):
+        yield from named(catalogue, wanted, pattern)
+        return
+    names = catalogue.names.matching(pattern)
+    if names is None:
+        yield from named(catalogue, wanted, pattern)
+        return
+    for some in batches(names, AT_ONCE):
+        yield from named(catalogue, Range("name", f"name IN ({', '.join('?' * len(some))})", tuple(some)), pattern)
 
 
-def named(catalogue: Catalogue, column: str, where: str, values: Tuple[str, ...], pattern: str) -> Iterator[Row]:
+def is_short(catalogue: Catalogue, wanted: Range) -> bool:
+    """Whether a range has few rows."""
+    statement = f"SELECT count(*) FROM (SELECT 1 FROM by_{wanted.column} WHERE {wanted.where} LIMIT {FEW + 1}) AS few"
+    return int(catalogue.base.run(statement, wanted.values)[0][0]) <= FEW
+
+
+def named(catalogue: Catalogue, wanted: Range, pattern: str) -> Iterator[Row]:
     """Rows in order of their names, or of their ends, that a pattern matches."""
-    statement = f"SELECT path, {column}, part_count FROM by_{column} WHERE {where} ORDER BY {column}, path"
-    for path, name, parts in catalogue.base.stream(statement, values):
+    column = wanted.column
+    statement = f"SELECT path, {column}, part_count FROM by_{column} WHERE {wanted.where} ORDER BY {column}, path"
+    for path, name, parts in catalogue.base.stream(statement, wanted.values):
         name = name if column == "name" else name[::-1]
         if fnmatchcase(name, pattern):
             yield path, name, parts

@@ -135,14 +135,14 @@ class Getter:
                 yield last
                 last = piece
         if count != rows[0].size or whole.digest() != rows[0].sha256:
-            raise VolumeDiffers("its bytes are not those of its SHA-256: run 'check --data', and 'repair'")
+            raise VolumeDiffers("its bytes do not have the SHA-256 in the catalogue: run 'check --data', then 'repair'")
         yield last
 
 
 def require_folder(folder: str) -> None:
     """Sees that files can go into a folder, which is made where it is missing."""
     if os.path.lexists(folder) and not os.path.isdir(folder):
-        raise SourceError(f"{shown(folder)}: is no folder")
+        raise SourceError(f"{shown(folder)}: is not a folder")
 
 
 __all__ = ["Getter", "Lacking", "Summary", "Wanted", "as_of", "require_folder", "wanted"]

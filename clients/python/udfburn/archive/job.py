@@ -165,7 +165,7 @@ def parts_from(source: Source, first: int) -> Generator[bytes, None, None]:
                 data = exactly(descriptor, min(left, limits.FILE))
                 unchanged(source, os.fstat(descriptor))
                 if len(data) != min(left, limits.FILE):
-                    raise SourceChanged(f"{shown(source.local)}: has another size than it says")
+                    raise SourceChanged(f"{shown(source.local)}: its size is not the one that the system reports")
                 left -= len(data)
                 yield data
         finally:

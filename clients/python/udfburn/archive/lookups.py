@@ -112,7 +112,7 @@ def groups_of(catalogue: Catalogue, path: Path) -> List[List[Held]]:
     """The versions of a file, or `Lacking`."""
     found = versions(catalogue.of_path(path))
     if not found:
-        raise Lacking(f"{shown_path(path)}: is no file of the archive: 'find' looks for a name, and 'ls' lists a folder")
+        raise Lacking(f"{shown_path(path)}: is not a file of the archive: 'find' looks for a name, and 'ls' lists a folder")
     return found
 
 

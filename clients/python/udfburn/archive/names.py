@@ -112,7 +112,7 @@ def stored_folder(path: Path) -> Path:
         rest = [name for names in whole[count:] for name in names]
         if len(joined) + len(rest) <= DEPTH:
             return joined + tuple(rest)
-    raise CannotStore(f"{text_of(path)}: is too long a path for a volume, also with its names joined")
+    raise CannotStore(f"{text_of(path)}: the path is too long for a volume, even with its names joined")
 
 
 def tokens_of_path(path: Path) -> List[str]:
@@ -173,7 +173,7 @@ def part_name(index: int) -> Path:
 # ---- paths as texts
 
 LOW, HIGH = 0xDC80, 0x10FF80
-"""Bytes that are no UTF-8 are surrogates in Python, which no base keeps; a base has private characters in their place."""
+"""Bytes that are not UTF-8 are surrogates in Python, which no database keeps; it has private characters in their place."""
 
 KEPT = {LOW + index: HIGH + index for index in range(128)}
 BACK = {HIGH + index: LOW + index for index in range(128)}
@@ -202,7 +202,7 @@ def path_of(text: str) -> Path:
     """The names of a path that users write. Empty names and `.` count for nothing; `..` is refused."""
     names = tuple(name for name in text.split("/") if name not in ("", "."))
     if ".." in names or "\0" in text:
-        raise CannotStore(f"{text}: is no path of an archive")
+        raise CannotStore(f"{text}: is not a path of an archive")
     return names
 
 

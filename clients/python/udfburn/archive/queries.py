@@ -1,4 +1,4 @@
-"""What the commands do that read volumes, or show how they stand."""
+"""The commands that read volumes, or show their state."""
 
 from __future__ import annotations
 
@@ -23,7 +23,7 @@ def moment_of(text: Optional[str]) -> Optional[int]:
     try:
         found = datetime.fromisoformat(text)
     except ValueError as error:
-        raise UsageError(f"{text}: is no time, as 2026-11-26 or 2026-11-26T12:00:00Z") from error
+        raise UsageError(f"{text}: is not a time such as 2026-11-26 or 2026-11-26T12:00:00Z") from error
     if len(text) <= 10:
         found = found.replace(hour=23, minute=59, second=59, microsecond=999_999)
     return int(found.replace(tzinfo=found.tzinfo or timezone.utc).timestamp() * 1_000_000)
@@ -39,7 +39,7 @@ def get(arguments: argparse.Namespace) -> int:
     for line in summary.failures:
         tell.fail(line)
     for label, count in sorted(summary.lacking.items()):
-        tell.fail(f"{label} is not at hand, and has {plural(count, 'file', 'files')} of these: bring it into the folder closed of the archive")
+        tell.fail(f"{label} is not at hand, and has {plural(count, 'file', 'files')} of these: put its image into the folder 'closed' of the archive")
     lacking = sum(summary.lacking.values())
     words = f"got {plural(summary.files, 'file', 'files')}, {size(summary.bytes)}"
     words += f"; {plural(len(summary.failures), 'failure', 'failures')}" if summary.failures else ""
@@ -69,7 +69,7 @@ def status(arguments: argparse.Namespace) -> int:
         for text in line.attention if not arguments.json else ():
             tell.say(f"    ! {text}")
     for path, where in lacking:
-        tell.say(f"    ! {path}: lacks parts (it has those of {where}): add it again", did="incomplete", path=path, volumes=where)
+        tell.say(f"    ! {path}: parts are missing (those on {where} are there): add the file again", did="incomplete", path=path, volumes=where)
     files, left = sum(line.row.files for line in found), room(config)
     words = f"{config.label}: {plural(len(found), 'volume', 'volumes')}, {plural(files, 'file', 'files')}"
     words += f", {size(left)} left on the disk" if left is not None else ""

@@ -86,7 +86,7 @@ def open_or_make(config: Config, tell: Tell) -> Catalogue:
 
 
 def is_broken(path: str) -> bool:
-    """Whether a file is no sound base of SQLite."""
+    """Whether a file is not an intact SQLite database."""
     try:
         base = SqliteBase(path, False)
     except CatalogueError:
@@ -199,7 +199,7 @@ class Rebuilder:
     def _claim(self, image: str) -> None:
         with Contents(image) as contents:
             if (ABOUT,) in contents.nodes and not self.claims.try_volume(contents.about().number):
-                raise Claimed(f"{contents.label}: another process writes it, and it is left out: run 'rebuild' again")
+                raise Claimed(f"{contents.label}: another process is writing it, so it was left out: run 'rebuild' again")
 
     def _one(self, image: str, closed: bool, read: Optional[Read]) -> Optional[int]:
         """Keeps what was read of a volume; gives its number, or None where it holds none of this archive yet."""
@@ -207,7 +207,7 @@ class Rebuilder:
             return None
         about, number = read.about, read.about.number
         if about.label != self.config.label or not self._is_ours(about.archive):
-            raise VolumeDiffers(f"{shown(image)}: is of another archive, {about.label} {about.archive}")
+            raise VolumeDiffers(f"{shown(image)}: belongs to another archive, {about.label} {about.archive}")
         old = self.catalogue.volume(number)
         known = self.catalogue.of_volume(number)
         if old is None and not known:

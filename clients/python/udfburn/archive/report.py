@@ -72,10 +72,10 @@ def write_report(config: Config, catalogue: Catalogue, path: str) -> int:
     path = os.path.abspath(path)
     if os.path.lexists(path):
         if not os.path.isfile(path) or os.path.islink(path):
-            raise SourceError(f"{shown(path)}: is there already, and is no page of this command")
+            raise SourceError(f"{shown(path)}: already exists, and is not a page of this command")
         with open(path, "rb") as file:
             if file.read(len(BEGIN)) not in (b"", BEGIN):
-                raise SourceError(f"{shown(path)}: is there already, and is no page of this command")
+                raise SourceError(f"{shown(path)}: already exists, and is not a page of this command")
     data = page(config, catalogue).encode()
     write_file(path, data)
     return len(data)

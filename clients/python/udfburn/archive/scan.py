@@ -90,10 +90,10 @@ def targets(locals_: Sequence[str], at: str) -> List[Tuple[str, Path]]:
     taken: Set[Path] = set()
     for local, path in found:
         if not path and not os.path.isdir(local):
-            raise UsageError(f"{shown(local)}: is no folder, and cannot become the root of the archive")
+            raise UsageError(f"{shown(local)}: is not a folder, and cannot become the root of the archive")
         above = {path[:depth] for depth in range(len(path) + 1)}
         if above & taken or any(other[: len(path)] == path for other in taken):
-            raise UsageError(f"{text_of(path)}: more than one of the folders would be there, or one inside another: add them one by one")
+            raise UsageError(f"{text_of(path)}: two of the folders would have this path, or one would be inside another: add them one by one")
         taken.add(path)
     return found
 

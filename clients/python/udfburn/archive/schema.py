@@ -2,18 +2,19 @@
 
 `find` takes no look-up for each hit: `by_name` and `by_ending` have names with the whole path of their folder. In SQLite they
 are tables that are their own index. In PostgreSQL, where a table and its index would be two copies, they are views over
-indexes that have all that is asked for; only the folder's path is looked up.
+indexes that have all that is asked for; only the folder's path is looked up. The tables of the third version are those of
+trigrams.py.
 """
 
 from __future__ import annotations
 
 from typing import List
 
-VERSION = 2
+VERSION = 3
 """The version of the tables that this program reads and writes."""
 
 COMMITS = 1 << 18
-"""More than a volume has commits: 450,000 blocks hold at most 224,869 of two blocks each."""
+"""More than a volume has commits: 450,000 blocks hold at most 224,868 of two blocks each."""
 
 FIRST = """
 CREATE TABLE archive (id {text} PRIMARY KEY, version INTEGER NOT NULL, label {text} NOT NULL, next_volume BIGINT NOT NULL);
@@ -68,7 +69,18 @@ CREATE VIEW by_name AS SELECT name, path, file.id, part_count FROM file JOIN fol
 CREATE VIEW by_ending AS SELECT ending, path, file.id, part_count FROM file JOIN folder ON folder.id = folder
 """
 
-MIGRATIONS = {"sqlite": [FIRST, SECOND_SQLITE], "postgresql": [FIRST, SECOND_POSTGRESQL]}
+THIRD = """
+CREATE TABLE name_index (id BIGINT PRIMARY KEY, segments BIGINT NOT NULL);
+INSERT INTO name_index (id, segments) VALUES (1, 0);
+CREATE TABLE recent_names (id {serial}, number BIGINT NOT NULL, names {text} NOT NULL);
+CREATE TABLE indexed_names (block BIGINT PRIMARY KEY, names {bytes} NOT NULL);
+CREATE TABLE trigram (letters {text} NOT NULL, segment BIGINT NOT NULL, entries {bytes} NOT NULL, PRIMARY KEY (letters, segment))
+"""
+
+MIGRATIONS = {
+    "sqlite": [FIRST, SECOND_SQLITE, THIRD.rstrip() + " WITHOUT ROWID"],
+    "postgresql": [FIRST, SECOND_POSTGRESQL, THIRD],
+}
 """The statements of an engine that make version n + 1 of version n, from the empty one on."""
 
 

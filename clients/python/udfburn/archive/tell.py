@@ -65,7 +65,7 @@ class Tell(Progress):
 
 
 def tell_of(arguments: argparse.Namespace) -> Tell:
-    """What the command tells by."""
+    """What the command reports with."""
     tell: Tell = arguments.tell
     return tell
 

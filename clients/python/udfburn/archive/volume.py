@@ -117,7 +117,7 @@ class OpenVolume:
         except WrongVolume as error:
             raise VolumeDiffers(
                 f"{self.image}: is not what its ledger says: it is another copy, or bytes of its last commit have changed, which "
-                f"'check --data {self.row.label}' finds. Bring the right image back; where this one is meant, remove {self.ledger}"
+                f"'check --data {self.row.label}' finds. Bring the right image back; if this one is meant, remove {self.ledger}"
             ) from error
         with closing(Contents(self.image)) as contents:
             self.require_own(contents)
@@ -138,7 +138,7 @@ class OpenVolume:
         """Raises where the image is not this volume."""
         row = self.row
         if (contents.label, contents.formatted, contents.capacity) != (row.label, row.formatted, row.capacity):
-            raise VolumeDiffers(f"{self.image}: is not {row.label}, by its label, the moment of its format or its capacity")
+            raise VolumeDiffers(f"{self.image}: is not {row.label}: its label, moment of format or capacity differs")
         if contents.last_commit < row.last_commit:
             raise VolumeDiffers(
                 f"{self.image}: has {contents.last_commit} commits, and {row.last_commit} were acknowledged: it is an older copy: bring the right one back"

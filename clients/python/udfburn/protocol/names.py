@@ -23,8 +23,8 @@ class NameFault(Enum):
     DOTS = "stands for a directory itself or the one above"
     SLASH = "has a slash"
     NUL = "has a NUL"
-    WIDE = "has a character without a spelling in compressed Unicode"
-    LONG = "takes more than 255 bytes as it is spelled on the medium"
+    WIDE = "has a character that compressed Unicode cannot encode"
+    LONG = "takes more than 255 bytes as it is encoded on the medium"
 
 
 def is_bytes(name: str) -> bool:

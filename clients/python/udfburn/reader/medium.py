@@ -49,7 +49,7 @@ class RescueMap:
                 if status == "+":
                     join(read, int(position, 0), int(position, 0) + int(size, 0))
         except ValueError as error:
-            raise MapError(f"{path}: is no map of ddrescue") from error
+            raise MapError(f"{path}: is not a map of ddrescue") from error
         return RescueMap(read)
 
     def has(self, address: int) -> bool:

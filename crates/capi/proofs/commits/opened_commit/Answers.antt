@@ -6,7 +6,7 @@ use Rattle.store.specs.declared.store.Store.{Store as Kept}
 use Rattle.engine.specs.Situation.{seen_on}
 use Rattle.capi.specs.declared.told.CommitStatus.{CommitStatus}
 use Rattle.capi.specs.Commits.{IsLogRefused, TellsNext}
-use Rattle.capi.proofs.Asking.{holds_same, if_ok, if_err}
+use Rattle.capi.proofs.Asking.{had_none, holds_same, if_ok, if_err}
 use Rattle.capi.proofs.Logging.{in_turn}
 use Rattle.capi.proofs.commits.opened_commit.Goals as goal
 
@@ -46,4 +46,7 @@ returns-in-Ok-clause-holds g c volume S honest at =
     (c.open.ensures.holds volume S (c.commit_before.ensures.honest honest) at)
 
 pub returns-in-Err-clause-refused : goal.returns-in-Err-clause-refused
-returns-in-Err-clause-refused g c = inl (λ volume S honest at. c.in-Err.ensures.short volume S honest at)
+returns-in-Err-clause-refused g c = inl (
+  had_none c.args.engine.now c.open.new.self (λ kept there. (c.in-Err.ensures.stays kept there).0) c.in-Err.ensures.closed,
+  λ volume S honest at. c.in-Err.ensures.short volume S honest at,
+)

@@ -45,7 +45,7 @@ udfburn_core_next_block_spec 𝓤 𝓛 𝓜 𝓡 wired =
     calls_at ! (framed 𝓤 𝓛.H 𝓜 𝓣) G (met 𝓤 𝓛 𝓜 𝓡 (code.calls-capi::calls::next_block 𝓡.env wired)) z
     (and_then ! (get ! refl) (and_then ! (get ! refl) (and_then ! (get ! refl) (no_more !)))) (λ v.
     use1 𝓛 (later (some (λ (u : ℤ). ((‵ (flft (α ∷ []) full_share) ⊛ (‵ (flft κ q) ⊛ (‵ (flft κ' q') ⊛ ‵ ftrue))) ⊛ ‵ (i32.own_val u (v ∷ []))) ⊛
-    some (λ (ws : Session × (ℕ × (List ℕ × Unit {0}))). ‵ (lasts g.ended z.0.0 z.0.3 ws) ⊛ raw (fact 𝓤 (ShowsBlock u ws.1.0 ws.1.1.0 held ws.0)))))) (id⊢ 𝓤 _) $
+    some (λ (ws : Session × (ℕ × (List ℕ × Unit {0}))). ‵ (lasts g.ended z.0.0 z.0.3 ws) ⊛ raw (fact 𝓤 (ShowsBlock u (address.now, block.now) (ws.1.0, ws.1.1.0) held ws.0)))))) (id⊢ 𝓤 _) $
     await ! tt $ pick ! (λ u.
     split ! $ split ! $ split ! $ lft_end ! tt $ move ! (2 ∷ []) $
     peeks ! i32 (Is i32) (shows 𝓛 i32) u (v ∷ []) (λ is. lands_as ! refl refl ((sint_Lawful 𝓛 w32).typed u _ is).0 $
@@ -55,5 +55,5 @@ udfburn_core_next_block_spec 𝓤 𝓛 𝓜 𝓡 wired =
     keep ! (2 ∷ 0 ∷ 3 ∷ 4 ∷ []) $ move ! (1 ∷ []) $
     suffices ! _ (ends_at 𝓛 f.ended stayed c (y (block_ptr b o)) v u (tt, (ws.1.0, (ws.1.1.0, tt))) (tt, (tt, (tt, tt)))) $
     use1 𝓛 (‵ (lies_at the_row full_share (block_ptr b o) ws.0)) (id⊢ 𝓤 _) $
-    fpack ! ((s : Session) × ShowsBlock u ws.1.0 ws.1.1.0 held s) (λ s. lies_at the_row full_share (block_ptr b o) s.0) (ws.0, known) $
+    fpack ! ((s : Session) × ShowsBlock u (address.now, block.now) (ws.1.0, ws.1.1.0) held s) (λ s. lies_at the_row full_share (block_ptr b o) s.0) (ws.0, known) $
     move ! (1 ∷ []) $ nothing ! $ join ! $ move ! (3 ∷ 0 ∷ 2 ∷ []) $ group ! 3 $ done !))))))))))

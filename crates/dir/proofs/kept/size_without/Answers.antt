@@ -4,7 +4,7 @@ use Rattle.std.specs.List.{remove}
 use Rattle.osta.specs.Compressed.{compressed}
 use Rattle.dir.specs.declared.entry.Entry.{Entry}
 use Rattle.dir.specs.Size.{End, end_of_data, next_end, name_sizes}
-use Rattle.dir.proofs.Fronts.{without_before, without_behind}
+use Rattle.dir.proofs.Fronts.{without_before, without_after}
 use Rattle.dir.proofs.Sized.{end_more, full_more}
 use Rattle.dir.proofs.kept.size_without.Goals as goal
 use Rattle.dir.proofs.kept.size_without.Goals.{then-left-index, else-left-index}
@@ -22,7 +22,7 @@ loop-left-preserved c =
           without_before es c.args.index left e (omega (arith, w.if-left-index.true)) (subst (λ (n : ℕ). slice_get es n ≡ Some e) at here)
       | else-left-index w ↦
           let at : c.if-left-index.at ≡ suc left = omega (arith, w.at-is) in
-          without_behind es c.args.index left e (omega (arith, w.if-left-index.false)) (subst (λ (n : ℕ). slice_get es n ≡ Some e) at here)
+          without_after es c.args.index left e (omega (arith, w.if-left-index.false)) (subst (λ (n : ℕ). slice_get es n ≡ Some e) at here)
     ] in
     let long = ap length c.compressed.ensures.value in
     let few : length (compressed e.0) ≤ 255 = omega (arith, c.compressed.ensures.few, long) in

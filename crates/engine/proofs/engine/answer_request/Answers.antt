@@ -1,5 +1,5 @@
 use Rattle.std.proofs.Common.{Ok, Err, refl, sym, inl, inr}
-use Rattle.engine.proofs.Fronts.{behind_refused, open_unwritten}
+use Rattle.engine.proofs.Fronts.{after_refused, open_unwritten}
 use Rattle.engine.proofs.Next.{is_next}
 use Rattle.engine.proofs.Rows.{committed_due, dealt_new}
 use Rattle.engine.proofs.Withstanding.{applied_withstands, new_there, unwritten}
@@ -27,7 +27,7 @@ returns-in-Err g c = record {
   due = committed_due _ _ _ _ c.in-New.ensures (inr (c.refusal.ensures.may, λ going. (open_unwritten _ _ _ _ _ _ _ c.in-Err.ensures.refused going, c.in-Err.ensures.unwritten going)));
   follows = record {
     ready = c.in-Err.ensures.agrees;
-    front = behind_refused _ _ _ _ _ _ _ c.in-Err.ensures.refused;
+    front = after_refused _ _ _ _ _ _ _ c.in-Err.ensures.refused;
     capacity = c.in-Err.ensures.follows.capacity;
     honest = c.in-Err.ensures.follows.honest;
   };

@@ -1,4 +1,5 @@
 use Rattle.std.proofs.Common.{◌≡◌, ◌≤◌, ◌++◌, min, IsTrue, List, ◌∙◌, subst, ap, inr, arith, rules}
+use Rattle.limits.specs.declared.TheConstants.{GREATEST_CAPACITY}
 use Rattle.drive.specs.Journal.{written, AddsPrefix}
 use Rattle.durability.specs.Formats.{Block}
 use Rattle.formatting.specs.NewVolume.{Words, words_of, IsFormatted, IsFormatCutShort, FormatSurvivesPowerLoss}
@@ -11,17 +12,17 @@ returns-in-Ok-write_last_alone-clause-ok g c =
     let capacity = g.D.Drive.capacity c.args.drive.now in
     let before = g.D.Drive.journal c.args.drive.now in
     let between = g.D.Drive.journal c.begun.new.drive in
-    let behind = g.D.Drive.journal c.write_last_alone.new.drive in
+    let afterwards = g.D.Drive.journal c.write_last_alone.new.drive in
     let now = g.D.Drive.honest c.write_last_alone.new.drive in
     let next = rw c.in-Ok-Some.field-0-is at c.in-Ok-Some.ensures.next in
     let seen = rw c.in-Ok-Some.field-0-is at c.in-Ok-Some.ensures.seen in
-    let volume : c.min.result ≡ min capacity 450_000 = c.min.ensures ∙ ap (λ n. min n 450_000) c.capacity-capacity.ensures in
+    let volume : c.min.result ≡ min capacity GREATEST_CAPACITY = c.min.ensures ∙ ap (λ n. min n GREATEST_CAPACITY) c.capacity-capacity.ensures in
     let moment : c.unwrap-moment.result ≡ c.args.moment = search rules in
     let words = same_words (words_of parts) _ _ _ _ _ _ c.in-Ok-parts_of.ensures volume c.in-Ok.ensures.label.0 moment in
     let room : parts.capacity ≤ capacity = omega (arith, ap (λ (w : Words). w.volume) words) in
-    let written : behind ≡ between ++ written c.in-Ok-Some.count c.in-Ok-rest.blocks.items = c.in-Ok-write_last_alone.ensures.ok ∙ ap (λ (bs : List Block). between ++ written c.in-Ok-Some.count bs) c.deref.ensures.value in
-    subst (λ w. IsFormatted capacity w before behind now) words
-    (formatted_is capacity (words_of parts) parts.low parts.high room before between behind (g.D.Drive.honest c.begun.new.drive) now c.in-Ok-Some.count c.in-Ok-rest.blocks.items
+    let written : afterwards ≡ between ++ written c.in-Ok-Some.count c.in-Ok-rest.blocks.items = c.in-Ok-write_last_alone.ensures.ok ∙ ap (λ (bs : List Block). between ++ written c.in-Ok-Some.count bs) c.deref.ensures.value in
+    subst (λ w. IsFormatted capacity w before afterwards now) words
+    (formatted_is capacity (words_of parts) parts.low parts.high room before between afterwards (g.D.Drive.honest c.begun.new.drive) now c.in-Ok-Some.count c.in-Ok-rest.blocks.items
     c.in-Ok-Some.ensures.reads.journal next.0 next.1 seen c.in-Ok-rest.ensures (subst IsTrue c.in-Ok-write_last_alone.ensures.writes.honest) written)
 
 pub returns-clause-err : goal.returns-clause-err
@@ -30,17 +31,17 @@ returns-clause-err g c =
     let capacity = g.D.Drive.capacity c.args.drive.now in
     let before = g.D.Drive.journal c.args.drive.now in
     let between = g.D.Drive.journal c.begun.new.drive in
-    let behind = g.D.Drive.journal c.write_last_alone.new.drive in
+    let afterwards = g.D.Drive.journal c.write_last_alone.new.drive in
     let now = g.D.Drive.honest c.write_last_alone.new.drive in
     let next = rw c.in-Ok-Some.field-0-is at c.in-Ok-Some.ensures.next in
     let seen = rw c.in-Ok-Some.field-0-is at c.in-Ok-Some.ensures.seen in
-    let volume : c.min.result ≡ min capacity 450_000 = c.min.ensures ∙ ap (λ n. min n 450_000) c.capacity-capacity.ensures in
+    let volume : c.min.result ≡ min capacity GREATEST_CAPACITY = c.min.ensures ∙ ap (λ n. min n GREATEST_CAPACITY) c.capacity-capacity.ensures in
     let moment : c.unwrap-moment.result ≡ c.args.moment = search rules in
     let words = same_words (words_of parts) _ _ _ _ _ _ c.in-Ok-parts_of.ensures volume c.in-Ok.ensures.label.0 moment in
     let room : parts.capacity ≤ capacity = omega (arith, ap (λ (w : Words). w.volume) words) in
-    let adds : AddsPrefix between c.in-Ok-Some.count c.in-Ok-rest.blocks.items behind = subst (λ (bs : List Block). AddsPrefix between c.in-Ok-Some.count bs behind) c.deref.ensures.value c.in-Err-write_last_alone.ensures.err in
-    inr (subst (λ w. IsFormatCutShort capacity w before behind now) words
-    (cut_is capacity (words_of parts) parts.low parts.high room before between behind (g.D.Drive.honest c.begun.new.drive) now c.in-Ok-Some.count c.in-Ok-rest.blocks.items
+    let adds : AddsPrefix between c.in-Ok-Some.count c.in-Ok-rest.blocks.items afterwards = subst (λ (bs : List Block). AddsPrefix between c.in-Ok-Some.count bs afterwards) c.deref.ensures.value c.in-Err-write_last_alone.ensures.err in
+    inr (subst (λ w. IsFormatCutShort capacity w before afterwards now) words
+    (cut_is capacity (words_of parts) parts.low parts.high room before between afterwards (g.D.Drive.honest c.begun.new.drive) now c.in-Ok-Some.count c.in-Ok-rest.blocks.items
     c.in-Ok-Some.ensures.reads.journal next.0 next.1 seen c.in-Ok-rest.ensures (subst IsTrue c.in-Err-write_last_alone.ensures.writes.honest) adds))
 
 pub returns-in-Ok-write_last_alone-clause-withstands : goal.returns-in-Ok-write_last_alone-clause-withstands
@@ -52,7 +53,7 @@ returns-in-Ok-write_last_alone-clause-withstands g c =
     let now = g.D.Drive.honest c.write_last_alone.new.drive in
     let next = rw c.in-Ok-Some.field-0-is at c.in-Ok-Some.ensures.next in
     let seen = rw c.in-Ok-Some.field-0-is at c.in-Ok-Some.ensures.seen in
-    let volume : c.min.result ≡ min capacity 450_000 = c.min.ensures ∙ ap (λ n. min n 450_000) c.capacity-capacity.ensures in
+    let volume : c.min.result ≡ min capacity GREATEST_CAPACITY = c.min.ensures ∙ ap (λ n. min n GREATEST_CAPACITY) c.capacity-capacity.ensures in
     let moment : c.unwrap-moment.result ≡ c.args.moment = search rules in
     let words = same_words (words_of parts) _ _ _ _ _ _ c.in-Ok-parts_of.ensures volume c.in-Ok.ensures.label.0 moment in
     let room : parts.capacity ≤ capacity = omega (arith, ap (λ (w : Words). w.volume) words) in
@@ -71,7 +72,7 @@ returns-clause-withstands g c =
     let now = g.D.Drive.honest c.write_last_alone.new.drive in
     let next = rw c.in-Ok-Some.field-0-is at c.in-Ok-Some.ensures.next in
     let seen = rw c.in-Ok-Some.field-0-is at c.in-Ok-Some.ensures.seen in
-    let volume : c.min.result ≡ min capacity 450_000 = c.min.ensures ∙ ap (λ n. min n 450_000) c.capacity-capacity.ensures in
+    let volume : c.min.result ≡ min capacity GREATEST_CAPACITY = c.min.ensures ∙ ap (λ n. min n GREATEST_CAPACITY) c.capacity-capacity.ensures in
     let moment : c.unwrap-moment.result ≡ c.args.moment = search rules in
     let words = same_words (words_of parts) _ _ _ _ _ _ c.in-Ok-parts_of.ensures volume c.in-Ok.ensures.label.0 moment in
     let room : parts.capacity ≤ capacity = omega (arith, ap (λ (w : Words). w.volume) words) in

@@ -7,8 +7,8 @@ use Rattle.icb.proofs.encode.write_entry.Goals as goal
 pub returns : goal.returns
 returns c =
     let e = c.args.entry.now in
-    let behind = c.args.allocation.now in
-    let block : ℕ → ℕ → ℕ → List ℕ = λ (kind rights size : ℕ). descriptor_block 261 c.args.loc (concat (entry_parts kind c.args.flags rights e.links size c.args.blocks c.args.stamp.now e.unique (length behind) behind)) in
+    let after = c.args.allocation.now in
+    let block : ℕ → ℕ → ℕ → List ℕ = λ (kind rights size : ℕ). descriptor_block 261 c.args.loc (concat (entry_parts kind c.args.flags rights e.links size c.args.blocks c.args.stamp.now e.unique (length after) after)) in
     c.write_descriptor.ensures.block
     ∙ ap (λ (kind : ℕ). block kind c.permissions.result c.from.result) c.file_type.ensures
     ∙ ap (λ (rights : ℕ). block (file_type e.kind) rights c.from.result) c.permissions.ensures

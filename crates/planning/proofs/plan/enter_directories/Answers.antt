@@ -7,13 +7,13 @@ use Rattle.udf.specs.Udf.{udf}
 use Rattle.planning.specs.declared.change.NewDirectory.{NewDirectory}
 use Rattle.planning.specs.declared.layout.PlacedDirectory.{PlacedDirectory}
 use Rattle.vat.specs.Table.{Table, view}
-use Rattle.table_update.specs.Below.{IsUsed}
+use Rattle.recover.specs.Below.{IsUsed}
 use Rattle.planning.specs.Needs.{directories_need}
 use Rattle.table_update.specs.NextTable.{all_placed}
 use Rattle.table_update.specs.TableChange.{placed}
 use Rattle.planning.specs.Plan.{AreLaid, directory_list, directories_list, directories_writings, directories_written}
 use Rattle.planning.specs.Writings.{IsProper, directory_writing, new_directories}
-use Rattle.table_update.proofs.BelowLemmas.{below_later}
+use Rattle.recover.proofs.BelowLemmas.{below_later}
 use Rattle.planning.proofs.Names.{all_next, nothing}
 use Rattle.planning.proofs.Plans.{list_push, writings_push, written_push, laid_push, table_push}
 use Rattle.planning.proofs.Taking.{still_all}
@@ -39,22 +39,35 @@ loop-directory-init c =
       table = subst (λ (ps : List PlacedDirectory). view c.args.vat.now ≡ all_placed (directories_written ps) (view c.args.vat.now)) (sym none) refl;
       fits = c.requires.fits;
       below = λ h. h;
-      previous = refl;
-      commits = refl;
-      unique = refl;
+      stays = record { previous = refl; commits = refl; unique = refl; need = refl };
       written = subst (λ (ps : List PlacedDirectory). WritesNodes udf (directories_writings ps) start (directories_list ps) (directories_written ps)) (sym none) (refl, refl);
       laid = subst (λ (ps : List PlacedDirectory). AreLaid start ps) (sym none) tt;
       room = omega (arith, ap directories_need gives.0);
-      need = refl;
       next = subst (λ (ps : List PlacedDirectory). start ≡ start + length (directories_list ps)) (sym none) (omega arith);
       end = refl;
     }
 
-pub returns-clause-writings : goal.returns-clause-writings
-returns-clause-writings c =
+pub returns-clause-enters : goal.returns-clause-enters
+returns-clause-enters c =
+    let so_far = c.loop-directory.invariant in
+    record {
+      table = so_far.table;
+      fits = so_far.fits;
+      written = so_far.written;
+      next = so_far.next;
+      most = omega (arith, so_far.room);
+      below = so_far.below;
+      stays = so_far.stays;
+    }
+
+pub returns-clause-placed : goal.returns-clause-placed
+returns-clause-placed c =
     let ps = c.loop-directory.all.items in
     let none : into_iter_items c.loop-directory.directory-iterator ≡ [] = nothing (into_iter_items c.loop-directory.directory-iterator) (omega (arith, c.loop-directory.invariant.count, c.in-None.ensures.steps.0)) in
-    sym (c.loop-directory.invariant.writings ∙ ap (λ (ds : List NewDirectory). directories_writings ps ++ new_directories ds) none ∙ append-nil (directories_writings ps))
+    record {
+      writings = sym (c.loop-directory.invariant.writings ∙ ap (λ (ds : List NewDirectory). directories_writings ps ++ new_directories ds) none ∙ append-nil (directories_writings ps));
+      laid = c.loop-directory.invariant.laid;
+    }
 
 pub loop-directory-preserved : goal.loop-directory-preserved
 loop-directory-preserved c =
@@ -90,13 +103,15 @@ loop-directory-preserved c =
       table = subst (λ (ps : List PlacedDirectory). view c.place_node.new.vat ≡ all_placed (directories_written ps) (view c.args.vat.now)) pushed (table_push all p (view c.args.vat.now) (view c.loop-directory.vat) (view c.place_node.new.vat) c.loop-directory.invariant.table moved);
       fits = c.place_node.ensures.fits;
       below = λ h. c.place_node.ensures.below (next + 257) number (below_later (now + 257) (next + 257) c.loop-directory.vat.entries.items later (c.loop-directory.invariant.below h));
-      previous = search rules;
-      commits = c.place_node.ensures.commits ∙ c.loop-directory.invariant.commits;
-      unique = c.place_node.ensures.unique ∙ c.loop-directory.invariant.unique;
+      stays = record {
+        previous = c.place_node.ensures.stays.previous ∙ c.loop-directory.invariant.stays.previous;
+        commits = c.place_node.ensures.stays.commits ∙ c.loop-directory.invariant.stays.commits;
+        unique = c.place_node.ensures.stays.unique ∙ c.loop-directory.invariant.stays.unique;
+        need = c.place_node.ensures.stays.need ∙ c.loop-directory.invariant.stays.need;
+      };
       written = subst (λ (ps : List PlacedDirectory). WritesNodes udf (directories_writings ps) start (directories_list ps) (directories_written ps)) pushed (written_push all p start now c.loop-directory.invariant.next c.loop-directory.invariant.written c.place_directory-placed.ensures.written);
       laid = subst (λ (ps : List PlacedDirectory). AreLaid start ps) pushed (laid_push all p start now c.loop-directory.invariant.next c.loop-directory.invariant.laid c.place_directory-placed.ensures.laid);
       room = omega (arith, c.loop-directory.invariant.room, ap directories_need c.in-Some.ensures.steps.0, c.place_directory-placed.ensures.most);
-      need = c.place_node.ensures.need ∙ c.loop-directory.invariant.need;
       next = subst (λ (ps : List PlacedDirectory). next ≡ start + length (directories_list ps)) pushed (omega (arith, ends, c.place_directory-placed.ensures.next, c.loop-directory.invariant.next, ap length (list_push all p), length-append (directories_list all) (directory_list p)));
       end = c.place_directory-placed.ensures.end ∙ c.loop-directory.invariant.end;
     }

@@ -4,9 +4,10 @@ use Rattle.std.specs.Vec.Iter.{into_iter_items, into_iter_len}
 use Rattle.durability.specs.Plan.{WritesNodes}
 use Rattle.udf.specs.Udf.{udf}
 use Rattle.vat.specs.Table.{FitsTable, view}
-use Rattle.table_update.specs.Below.{AreBelow, IsUsed}
+use Rattle.recover.specs.Below.{AreBelow, IsUsed}
+use Rattle.table_update.specs.TableChange.{OnlyNodesChange}
 use Rattle.planning.specs.Plan.{AreLaid, directories_list, directories_writings, directories_written}
-use Rattle.planning.specs.Needs.{table_need, directories_need}
+use Rattle.planning.specs.Needs.{directories_need}
 use Rattle.table_update.specs.NextTable.{all_placed}
 use Rattle.planning.specs.Writings.{IsProper, new_directories}
 use Rattle.planning.proofs.plan.enter_directories.Given as goal
@@ -21,13 +22,10 @@ invariant-loop-directory l = record {
   table : view l.vat ≡ all_placed (directories_written l.all.items) (view l.fn.vat);
   fits : FitsTable (view l.vat);
   below : AreBelow (l.fn.numbers.next + 257) l.fn.vat.entries.items → AreBelow (l.numbers.next + 257) l.vat.entries.items;
-  previous : l.vat.previous ≡ l.fn.vat.previous;
-  commits : l.vat.sessions.commits ≡ l.fn.vat.sessions.commits;
-  unique : l.vat.sessions.next_unique ≡ l.fn.vat.sessions.next_unique;
+  stays : OnlyNodesChange l.fn.vat l.vat;
   written : WritesNodes udf (directories_writings l.all.items) l.fn.numbers.next (directories_list l.all.items) (directories_written l.all.items);
   laid : AreLaid l.fn.numbers.next l.all.items;
   room : l.numbers.next + directories_need (into_iter_items l.directory-iterator) ≤ l.fn.numbers.next + directories_need l.fn.directories.items;
-  need : table_need (view l.vat) ≡ table_need (view l.fn.vat);
   next : l.numbers.next ≡ l.fn.numbers.next + length (directories_list l.all.items);
   end : l.numbers.end ≡ l.fn.numbers.end;
 }

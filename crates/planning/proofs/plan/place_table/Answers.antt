@@ -32,7 +32,7 @@ returns-clause-placed c =
     let size : c.len.result ≡ length bytes = omega arith in
     let at : number + 257 - 257 ≡ number = omega arith in
     let later : from ≤ number = omega (arith, next, long) in
-    let table = table_at (view c.args.vat) from number bytes c.requires.fits c.in_ok-bytes.ensures c.requires.previous c.requires.below later in
+    let table = table_at (view c.args.vat) from number bytes c.requires.fits c.in_ok-bytes.ensures c.requires.leads.previous c.requires.leads.below later in
     record {
       placed = placed;
       number = omega (arith, long, next);

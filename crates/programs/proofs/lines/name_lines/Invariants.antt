@@ -1,6 +1,6 @@
 use Rattle.std.proofs.Common.{◌≡◌, take}
 use Rattle.std.specs.Prelude.{string_bytes}
-use Rattle.store.specs.Asked.{said_names}
+use Rattle.lookup.specs.Asked.{said_names}
 use Rattle.programs.specs.Lines.{names_text}
 use Rattle.programs.proofs.lines.name_lines.Given as goal
 

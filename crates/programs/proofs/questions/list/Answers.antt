@@ -1,6 +1,6 @@
 use Rattle.std.proofs.Common.{List, inl, ap, ◌∙◌}
 use Rattle.request.specs.declared.answer.Listed.{Listed}
-use Rattle.store.specs.Asked.{said_names}
+use Rattle.lookup.specs.Asked.{said_names}
 use Rattle.programs.specs.Lines.{names_text}
 use Rattle.programs.specs.Questions.Question.{Names_at}
 use Rattle.programs.proofs.Printing.{shows_put, shows_refused, names_said, names_refused, names_short}

@@ -8,4 +8,4 @@ returns-in_err-drive-clause-makes g c = inl (unmade c.args.image.now c.from_resi
 
 pub returns-clause-makes : goal.returns-clause-makes
 returns-clause-makes g c =
-    makes_image g.M.Drive.Drive c.args.image.now c.args.label.now c.args.moment c.args.capacity c.make_or_finish-made.result _ _ _ _ _ _ _ c.in_ok-drive.ensures.opened c.put_back.ensures c.make_or_finish-made.ensures.makes
+    makes_image g.M.Drive.Drive c.args.image.now c.args.label.now c.args.moment c.args.capacity c.make_or_finish-made.result _ _ _ _ _ _ _ _ c.in_ok-drive.ensures.opened c.make_or_finish-made.ensures.looks c.put_back.ensures c.make_or_finish-made.ensures.makes

@@ -105,25 +105,34 @@ returns-clause-described g c = λ h.
       set = subst (λ (K : List Event). HasFileSet (take c.args.at (held K)) c.in_ok-vat.vat.entries.items c.in_ok-front.front.label c.in_ok-front.front.moment) three (c.in_ok-check_file_set.ensures.set h);
     }
 
-pub returns-clause-known : goal.returns-clause-known
-returns-clause-known g c = λ h.
-    let after_front = c.table_entry.ensures.reads.honest (c.read_table.ensures.reads.honest (c.check_file_set.ensures.reads.honest h)) in
-    let same = c.check_file_set.ensures.reads.journal ∙ (c.read_table.ensures.reads.journal ∙ c.table_entry.ensures.reads.journal) in
-    subst (λ (K : List Event). IsKnown (held K) c.front.new.self) (sym same) (c.front.ensures.known after_front)
+pub returns-clause-reads : goal.returns-clause-reads
+returns-clause-reads g c =
+    let before = reads_then c.in_ok-front.ensures.reads (reads_then c.in_ok-entry.ensures.reads c.in_ok-vat.ensures.reads) in
+    record {
+      reads = reads_then before c.in_ok-check_file_set.ensures.reads;
+      known = λ h.
+          let after_front = c.table_entry.ensures.reads.honest (c.read_table.ensures.reads.honest (c.check_file_set.ensures.reads.honest h)) in
+          let same = c.check_file_set.ensures.reads.journal ∙ (c.read_table.ensures.reads.journal ∙ c.table_entry.ensures.reads.journal) in
+          subst (λ (K : List Event). IsKnown (held K) c.front.new.self) (sym same) (c.front.ensures.known after_front);
+    }
 
 pub returns-in_err-check_file_set-clause-reads : goal.returns-in_err-check_file_set-clause-reads
 returns-in_err-check_file_set-clause-reads g c =
     let q = err_from_is_err_and c.from_residual-in_err-check_file_set.result c.from_residual-in_err-check_file_set.ensures.1 in
     let before = reads_then c.in_ok-front.ensures.reads (reads_then c.in_ok-entry.ensures.reads c.in_ok-vat.ensures.reads) in
-    rw (q.1, q.2) (reads_then before c.in_err-check_file_set.ensures.reads)
+    rw (q.1, q.2) (record {
+      reads = reads_then before c.in_err-check_file_set.ensures.reads;
+      known = λ h.
+          let after_front = c.table_entry.ensures.reads.honest (c.read_table.ensures.reads.honest (c.check_file_set.ensures.reads.honest h)) in
+          let same = c.check_file_set.ensures.reads.journal ∙ (c.read_table.ensures.reads.journal ∙ c.table_entry.ensures.reads.journal) in
+          subst (λ (K : List Event). IsKnown (held K) c.front.new.self) (sym same) (c.front.ensures.known after_front);
+    })
 
-pub returns-clause-reads : goal.returns-clause-reads
-returns-clause-reads g c =
-    let before = reads_then c.in_ok-front.ensures.reads (reads_then c.in_ok-entry.ensures.reads c.in_ok-vat.ensures.reads) in
-    reads_then before c.in_ok-check_file_set.ensures.reads
-
-pub returns-in_err-check_file_set-clause-known : goal.returns-in_err-check_file_set-clause-known
-returns-in_err-check_file_set-clause-known g c = λ h.
-    let after_front = c.table_entry.ensures.reads.honest (c.read_table.ensures.reads.honest (c.check_file_set.ensures.reads.honest h)) in
-    let same = c.check_file_set.ensures.reads.journal ∙ (c.read_table.ensures.reads.journal ∙ c.table_entry.ensures.reads.journal) in
-    subst (λ (K : List Event). IsKnown (held K) c.front.new.self) (sym same) (c.front.ensures.known after_front)
+pub returns-then-ne-clause-reads : goal.returns-then-ne-clause-reads
+returns-then-ne-clause-reads g c = rw c.damaged-then-ne.ensures (record {
+  reads = reads_then c.in_ok-front.ensures.reads (reads_then c.in_ok-entry.ensures.reads c.in_ok-vat.ensures.reads);
+  known = λ h.
+      let after_front = c.table_entry.ensures.reads.honest (c.read_table.ensures.reads.honest h) in
+      let same = c.read_table.ensures.reads.journal ∙ c.table_entry.ensures.reads.journal in
+      subst (λ (K : List Event). IsKnown (held K) c.front.new.self) (sym same) (c.front.ensures.known after_front);
+})

@@ -10,13 +10,13 @@ use Rattle.recover.proofs.state.state_sharing.Goals as goal
 pub returns-clause-shown : goal.returns-clause-shown
 returns-clause-shown g c = λ h.
     let J : List Event = g.D.Drive.journal c.args.drive.now in
-    let tree = subst (λ (K : List Event). CountsTree (take c.args.at (held K)) c.in_ok-state.state.vat) c.described.ensures.reads.journal (c.in_ok-check_tree.ensures.tree h) in
+    let tree = subst (λ (K : List Event). CountsTree (take c.args.at (held K)) c.in_ok-state.state.vat) c.described.ensures.reads.reads.journal (c.in_ok-check_tree.ensures.tree h) in
     let long : c.args.at < length (held J) = omega (arith, length-held J, c.requires.within) in
-    is_shown _ (held J) c.args.at _ c.requires.low long (c.in_ok-state.ensures.described (c.check_tree.ensures.reads.honest h)) tree c.in_ok-check_tree.ensures.counts
+    is_shown _ (held J) c.args.at _ c.requires.low long (c.in_ok-state.ensures.described (c.check_tree.ensures.reads.reads.honest h)) tree c.in_ok-check_tree.ensures.counts
 
 pub returns-clause-table : goal.returns-clause-table
 returns-clause-table g c = λ h.
-    let d = c.in_ok-state.ensures.described (c.check_tree.ensures.reads.honest h) in
+    let d = c.in_ok-state.ensures.described (c.check_tree.ensures.reads.reads.honest h) in
     record { entry = d.entry; is_entry = d.is_entry; below = d.below; is = d.table }
 
 pub returns-in_err-state-clause-refused : goal.returns-in_err-state-clause-refused
@@ -30,6 +30,6 @@ returns-in_err-check_tree-clause-refused g c =
     rw (q.1, q.2) (λ h.
     let J : List Event = g.D.Drive.journal c.args.drive.now in
     let long : c.args.at < length (held J) = omega (arith, length-held J, c.requires.within) in
-    let d = c.in_ok-state.ensures.described (c.check_tree.ensures.reads.honest h) in
+    let d = c.in_ok-state.ensures.described (c.check_tree.ensures.reads.reads.honest h) in
     no_tree (held J) c.args.at c.requires.low long d.entry d.is_entry c.in_ok-state.state.vat d.table c.in_ok-state.state.label d.formatted c.in_ok-state.state.capacity d.front (g.D.Drive.capacity c.args.drive.now) _
-    (subst (λ (K : List Event). IsTreeRefused (take c.args.at (held K)) c.args.at c.in_ok-state.state.vat c.in_err-check_tree.field-0.0) c.described.ensures.reads.journal (c.in_err-check_tree.ensures.refused h)))
+    (subst (λ (K : List Event). IsTreeRefused (take c.args.at (held K)) c.args.at c.in_ok-state.state.vat c.in_err-check_tree.field-0.0) c.described.ensures.reads.reads.journal (c.in_err-check_tree.ensures.refused h)))

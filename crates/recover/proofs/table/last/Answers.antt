@@ -3,12 +3,12 @@ use Rattle.std.proofs.lemmas.Bool.{false≢true}
 use Rattle.drive.specs.Journal.{held, next_of}
 use Rattle.drive.proofs.Reading.{reads_then}
 use Rattle.recover.proofs.Held.{held_at, length-held}
-use Rattle.recover.proofs.Tables.{none_above, none_behind, none_more}
+use Rattle.recover.proofs.Tables.{none_above, none_after, none_more}
 use Rattle.recover.proofs.table.last.Goals as goal
 
 pub loop-left-init : goal.loop-left-init
 loop-left-init g c = record {
-  unseen = λ h. none_behind (held (g.D.Drive.journal c.args.drive.now)) c.in-Ok.next (omega (arith, length-held (g.D.Drive.journal c.args.drive.now), c.in-Ok.ensures.next));
+  unseen = λ h. none_after (held (g.D.Drive.journal c.args.drive.now)) c.in-Ok.next (omega (arith, length-held (g.D.Drive.journal c.args.drive.now), c.in-Ok.ensures.next));
   within = (let within : c.in-Ok.next ≤ next_of (g.D.Drive.journal c.args.drive.now) = omega (arith, c.in-Ok.ensures.next) in within);
   reads = record {
     journal = c.next.ensures.journal;

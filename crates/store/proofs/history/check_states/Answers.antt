@@ -14,11 +14,11 @@ pub loop-vat-init : goal.loop-vat-init
 loop-vat-init g c = record {
   seen = λ h. first_seen (held (g.D.Drive.journal c.args.drive.now)) (g.D.Drive.capacity c.args.drive.now) c.args.at (view c.in_ok-newest.field-0.vat) (c.in_ok-newest.ensures.table h)
       c.in_ok-newest.field-0 (c.in_ok-newest.ensures.shown h);
-  known = c.state_sharing.ensures.known;
+  known = c.state_sharing.ensures.reads.known;
   fits = (let fits : c.args.at < 2 ^ 32 = omega arith in fits);
   link = link_within _ c.args.at c.requires.low c.in_ok-newest.ensures.sound.table.previous;
   first = c.in_ok-newest.ensures.sound.table.table.fits.first;
-  reads = c.in_ok-newest.ensures.reads;
+  reads = c.in_ok-newest.ensures.reads.reads;
 }
 
 pub loop-vat-preserved : goal.loop-vat-preserved
@@ -26,13 +26,13 @@ loop-vat-preserved g c =
     let below = link_below _ _ _ c.in-Some.is c.loop-vat.invariant.link in
     let fewer : c.in_ok-before.field-0.vat.sessions.commits + 1 ≡ c.loop-vat.vat.sessions.commits = omega (arith, c.if-from.false, c.from.ensures, c.from-in-Some.ensures) in record {
       seen = λ h. next_seen (held (g.D.Drive.journal c.args.drive.now)) (g.D.Drive.capacity c.args.drive.now) c.args.at c.in-Some.number (view c.loop-vat.vat) (view c.in_ok-before.field-0.vat)
-          (c.loop-vat.invariant.seen (c.state_sharing-in-Some.ensures.reads.honest h)) c.in-Some.is (rw c.loop-vat.invariant.reads.journal at (c.in_ok-before.ensures.table h)) fewer
+          (c.loop-vat.invariant.seen (c.state_sharing-in-Some.ensures.reads.reads.honest h)) c.in-Some.is (rw c.loop-vat.invariant.reads.journal at (c.in_ok-before.ensures.table h)) fewer
           c.in_ok-before.field-0 (rw c.loop-vat.invariant.reads.capacity at (rw c.loop-vat.invariant.reads.journal at (c.in_ok-before.ensures.shown h)));
-      known = c.state_sharing-in-Some.ensures.known;
+      known = c.state_sharing-in-Some.ensures.reads.known;
       fits = c.loop-vat.invariant.fits;
       link = link_under _ c.in-Some.number c.args.at c.in_ok-before.ensures.sound.table.previous below;
       first = c.in_ok-before.ensures.sound.table.table.fits.first;
-      reads = reads_then c.loop-vat.invariant.reads c.in_ok-before.ensures.reads;
+      reads = reads_then c.loop-vat.invariant.reads c.in_ok-before.ensures.reads.reads;
     }
 
 pub returns-clause-checked : goal.returns-clause-checked
@@ -50,14 +50,14 @@ returns-in_err-before-clause-refused g c =
     let q = err_from_is_err_and c.from_residual-in_err-before.result c.from_residual-in_err-before.ensures.1 in
     rw (q.1, q.2) (λ h.
     next_unseen (held (g.D.Drive.journal c.args.drive.now)) (g.D.Drive.capacity c.args.drive.now) c.args.at c.in-Some.number (view c.loop-vat.vat)
-    (c.loop-vat.invariant.seen (c.state_sharing-in-Some.ensures.reads.honest h)) c.in-Some.is _
+    (c.loop-vat.invariant.seen (c.state_sharing-in-Some.ensures.reads.reads.honest h)) c.in-Some.is _
     (rw c.loop-vat.invariant.reads.capacity at (rw c.loop-vat.invariant.reads.journal at (c.in_err-before.ensures.refused h))))
 
 pub returns-then-from-clause-refused : goal.returns-then-from-clause-refused
 returns-then-from-clause-refused g c = rw c.damaged.ensures (λ h.
     link_unseen (held (g.D.Drive.journal c.args.drive.now)) (g.D.Drive.capacity c.args.drive.now) c.args.at c.in-Some.number (view c.loop-vat.vat) (view c.in_ok-before.field-0.vat)
-    (c.loop-vat.invariant.seen (c.state_sharing-in-Some.ensures.reads.honest h)) c.in-Some.is (rw c.loop-vat.invariant.reads.journal at (c.in_ok-before.ensures.table h))
+    (c.loop-vat.invariant.seen (c.state_sharing-in-Some.ensures.reads.reads.honest h)) c.in-Some.is (rw c.loop-vat.invariant.reads.journal at (c.in_ok-before.ensures.table h))
     (λ same. absurd (omega (arith, same, c.if-from.true, c.from.ensures, c.from-in-Some.ensures))) (c.in-Some.number + 257) 78)
 
 pub returns-then-from-clause-reads : goal.returns-then-from-clause-reads
-returns-then-from-clause-reads g c = rw c.damaged.ensures (reads_then c.loop-vat.invariant.reads c.in_ok-before.ensures.reads)
+returns-then-from-clause-reads g c = rw c.damaged.ensures (reads_then c.loop-vat.invariant.reads c.in_ok-before.ensures.reads.reads)

@@ -9,4 +9,4 @@ returns-clause-fits c =
     let client = c.ranges.client in
     let number = c.ranges.number in
     let r = c.requires in
-    fits_committed c.args.at c.args.client c.args.number c.args.code (view c.args.vat.now) c.answer.new.records.items r.fits r.behind (omega arith) r.code r.client (omega arith) r.number (omega arith) r.count r.next c.in_ok-answer.ensures.kept
+    fits_committed c.args.at c.args.client c.args.number c.args.code (view c.args.vat.now) c.answer.new.records.items r.fits r.afterwards (omega arith) r.answers.greatest r.answers.some_client (omega arith) r.answers.some_number (omega arith) r.count r.answers.next c.in_ok-answer.ensures.kept

@@ -10,9 +10,9 @@ returns-clause-answered c = λ capacity volume answered others medium S before w
     answered_endure udf distinct exact bounded capacity volume answered others medium S before writes left stands whole others_are is
 
 pub returns-clause-turns : goal.returns-clause-turns
-returns-clause-turns c = λ capacity volume requests medium S done behind stands tries. endures udf distinct exact bounded capacity volume requests medium S done behind stands tries
+returns-clause-turns c = λ capacity volume requests medium S done afterwards stands tries. endures udf distinct exact bounded capacity volume requests medium S done afterwards stands tries
 
 pub returns-clause-runs : goal.returns-clause-runs
-returns-clause-runs c = λ drive volume S before behind deliveries answers committed S' runs stands request blocks mark plan new room writes left are is.
-    torn_runs udf distinct exact bounded drive volume (need spelled) deliveries S before answers committed behind S' runs stands request blocks mark plan new
-    (planned_short udf spelled short drive volume exact bounded distinct behind S' stands request blocks mark plan) room writes left are is
+returns-clause-runs c = λ drive volume S before afterwards deliveries answers committed S' runs stands request blocks mark plan new room writes left are is.
+    torn_runs udf distinct exact bounded drive volume (need spelled) deliveries S before answers committed afterwards S' runs stands request blocks mark plan new
+    (planned_short udf spelled short drive volume exact bounded distinct afterwards S' stands request blocks mark plan) room writes left are is

@@ -21,5 +21,5 @@ returns-clause-short c = λ capacity volume medium S stands request blocks mark 
     omega (arith, writes_short blocks mark writes left are is, planned_short udf spelled short capacity volume exact bounded distinct medium S stands request blocks mark plan)
 
 pub returns-clause-journal : goal.returns-clause-journal
-returns-clause-journal c = λ capacity volume before behind S request blocks mark once stands plan writes left are is journal.
-    torn_advances udf capacity volume exact bounded distinct before behind S request blocks mark once stands plan writes left are is journal
+returns-clause-journal c = λ capacity volume before afterwards S request blocks mark once stands plan writes left are is journal.
+    torn_advances udf capacity volume exact bounded distinct before afterwards S request blocks mark once stands plan writes left are is journal

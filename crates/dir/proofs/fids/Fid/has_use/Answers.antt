@@ -7,12 +7,12 @@ use Rattle.dir.proofs.fids.Fid.has_use.Goals as goal
 pub returns-then-not-are_zeros : goal.returns-then-not-are_zeros
 returns-then-not-are_zeros c =
     let used = c.args.self.now.implementation_use.now in
-    let behind = c.split_at.result.1.now in (
+    let after = c.split_at.result.1.now in (
       λ so. absurd (cc),
       λ is_use.
           let parts = parts_from_use used ((use_shown c.args.self.now c.requires).1 is_use) in
-          let zeros : behind ≡ replicate (length used - 32) 0 = c.split_at.ensures.back ∙ ap (λ m. drop m used) c.min-id_size.ensures ∙ parts.1 in
-          let len : length behind ≡ length used - 32 = ap length zeros ∙ length-replicate (length used - 32) 0 in
+          let zeros : after ≡ replicate (length used - 32) 0 = c.split_at.ensures.back ∙ ap (λ m. drop m used) c.min-id_size.ensures ∙ parts.1 in
+          let len : length after ≡ length used - 32 = ap length zeros ∙ length-replicate (length used - 32) 0 in
           absurd (let so = c.are_zeros.ensures.1 (zeros ∙ ap (λ m. replicate m 0) (sym len)) in cc),
     )
 

@@ -19,10 +19,10 @@ returns-then-size-ne0 c =
 pub returns : goal.returns
 returns c =
     let used = length-use c.args.self.now c.requires.whole in
-    let behind = c.args.behind.now in
-    let told : c.fits.result ≡ fits (plain_size (name_size behind)) (use_size c.args.self.now.bytes.now) =
+    let after = c.args.after.now in
+    let told : c.fits.result ≡ fits (plain_size (name_size after)) (use_size c.args.self.now.bytes.now) =
     c.fits.ensures ∙ ap (λ n. fits n (length c.args.self.now.implementation_use.now)) (c.plain_size.ensures ∙ ap plain_size c.from.ensures)
-    ∙ ap (fits (plain_size (name_size behind))) used in (
+    ∙ ap (fits (plain_size (name_size after))) used in (
       λ so. record { some = omega arith; whole = omega arith; full = omega arith; next = omega arith; left = sym told ∙ not-true c.fits.result so },
       λ long. not_from_false c.fits.result (told ∙ long.left),
     )

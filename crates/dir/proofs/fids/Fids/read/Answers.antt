@@ -44,26 +44,26 @@ returns-then-not-is_padded-clause-err c = λ x rest f place short there stood.
     let left = c.args.self.now.data.now in
     let found = laid_found (c.args.first + c.args.self.now.index) c.args.self.now.at left x rest c.requires.bytes c.requires.first (omega (arith, c.args.self.now.in_block)) c.requires.at f short there stood in
     let front = c.in_ok-fid.ensures.prints.bytes_are in
-    let behind = c.in_ok-fid.ensures.«data» in
+    let after = c.in_ok-fid.ensures.«data» in
     let padded =
     subst (λ (b : List ℕ). IsPadded c.args.self.now.at b c.split.new.self.data.now) (sym front)
-    (subst (λ (d : List ℕ). IsPadded c.args.self.now.at (take (size_of left) left) d) (sym behind) found.padded) in
+    (subst (λ (d : List ℕ). IsPadded c.args.self.now.at (take (size_of left) left) d) (sym after) found.padded) in
     absurd (let so = c.is_padded.ensures.1 padded in cc)
 
 pub returns-clause-ok : goal.returns-clause-ok
 returns-clause-ok c =
     let left = c.args.self.now.data.now in
     let front = c.in_ok-fid.ensures.prints.bytes_are in
-    let behind = c.in_ok-fid.ensures.«data» in
+    let after = c.in_ok-fid.ensures.«data» in
     record {
       split = c.in_ok-fid.ensures.exactly.0 refl;
       head = subst (λ (b : List ℕ). HasHead (c.args.first + c.args.self.now.index) b) front (c.in-Some.ensures.exactly.0 refl);
       says = c.in-Some.ensures.describes ∙ ap identifier_in front;
       place = c.is_in_place.ensures.0 c.if-not-is_in_place.false;
       padded =
-          subst (λ (d : List ℕ). IsPadded c.args.self.now.at (take (size_of left) left) d) behind
+          subst (λ (d : List ℕ). IsPadded c.args.self.now.at (take (size_of left) left) d) after
           (subst (λ (b : List ℕ). IsPadded c.args.self.now.at b c.split.new.self.data.now) front (c.is_padded.ensures.0 c.if-not-is_padded.false));
-      rest = behind;
+      rest = after;
       at = c.in_ok-fid.ensures.at;
       index = c.in_ok-fid.ensures.index;
     }

@@ -18,6 +18,9 @@ returns-then-is_none-clause-none c is =
     let none : drop self.next ids ≡ [] = drop_none ids self.next (said_past self.item ids self.next self.said (c.is_none.ensures ∙ ap not c.if-is_none.true)) in
     ap (identifier_blocks self.number) none ∙ no_blocks self.number
 
+pub returns-then-is_none-clause-ended : goal.returns-then-is_none-clause-ended
+returns-then-is_none-clause-ended c is = returns-then-is_none-clause-none c is
+
 pub put-at-requires-clause-next : goal.put-at-requires-clause-next
 put-at-requires-clause-next c = sym c.put_kept-at.new.self.said ∙ ap (option_map said) c.in-Some.is
 
@@ -76,8 +79,8 @@ returns-clause-some c is =
     let filled = ended.filled in
     let some = begun start here c.loop-at-test.at c.loop-at-test.block ended (c.is_none.ensures ∙ ap not c.if-is_none.false) in
     let over : (c.loop-at-test.at ≡ 2048) ⊎ (identifiers_left here ≡ []) = elim ended.over [ inl full ↦ inl full | inr none ↦ inr (drop_none ids here.next none) ] in
-    cleared_block start.number c.loop-at-test.at (identifiers_left start) (identifiers_left here) c.loop-at-test.block c.clear_behind.new.block c.clear_behind.ensures filled.filled filled.size filled.within some over
-    ∙ ap (λ (n : ℕ). c.clear_behind.new.block ∷ identifier_blocks (n + 1) (identifiers_left here)) (sym filled.number_is)
+    cleared_block start.number c.loop-at-test.at (identifiers_left start) (identifiers_left here) c.loop-at-test.block c.clear_after.new.block c.clear_after.ensures filled.filled filled.size filled.within some over
+    ∙ ap (λ (n : ℕ). c.clear_after.new.block ∷ identifier_blocks (n + 1) (identifiers_left here)) (sym filled.number_is)
 
 pub returns-clause-tag : goal.returns-clause-tag
 returns-clause-tag c is =
@@ -91,4 +94,4 @@ returns-clause-tag c is =
     ] in
     let filled = over.filled in
     let some = begun start here c.loop-at-test.at c.loop-at-test.block over (c.is_none.ensures ∙ ap not c.if-is_none.false) in
-    cleared_tag c.loop-at-test.at c.loop-at-test.block c.clear_behind.new.block c.clear_behind.ensures filled.size filled.within (filled.long some) (filled.tagged some)
+    cleared_tag c.loop-at-test.at c.loop-at-test.block c.clear_after.new.block c.clear_after.ensures filled.size filled.within (filled.long some) (filled.tagged some)

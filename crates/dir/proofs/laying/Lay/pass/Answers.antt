@@ -2,7 +2,7 @@ use Rattle.std.proofs.Common.{◌<◌, ◌∙◌, arith, inl, inr}
 use Rattle.dir.specs.Directory.{identifiers_of}
 use Rattle.dir.specs.Item.{said}
 use Rattle.dir.proofs.Filling.{length-identifiers, short_said, some_within}
-use Rattle.dir.proofs.Fronts.{left_unknown, left_known, left_within, left_taken, left_behind}
+use Rattle.dir.proofs.Fronts.{left_unknown, left_known, left_within, left_taken, left_after}
 use Rattle.dir.proofs.laying.Lay.pass.Goals as goal
 
 pub invariant_of-self : goal.invariant_of-self
@@ -59,7 +59,7 @@ invariant_of-self-2 c =
       said = c.name_at-self.ensures.value;
       short = short_said c.name_at-self.result c.name_at-self.ensures.short;
       known_are = self.known_are;
-      left = c.split_at.ensures.back ∙ left_behind self.known self.next dir.entries.entries x self.kept.now c.plain_size.result c.plain_size.ensures first;
+      left = c.split_at.ensures.back ∙ left_after self.known self.next dir.entries.entries x self.kept.now c.plain_size.result c.plain_size.ensures first;
     }
 
 pub returns-clause-kept : goal.returns-clause-kept

@@ -19,8 +19,8 @@ returns-clause-end c =
           ∙ sym (stays-some ids next (2048 - end) (said w.in-Some.next) (sym c.pass-kept.new.self.said ∙ ap (option_map said) w.in-Some.is)))
       | in-None w ↦ w.full-is ∙ ap not (sym (stays-none ids next (2048 - end) (sym c.pass-kept.new.self.said ∙ ap (option_map said) w.in-None.is)))
     ] in
-    let behind : c.if-full.behind ≡ (if c.match-self.full then 2048 else end) = elim c.if-full.branch [
-      | then-full w ↦ w.behind-is ∙ sym (ap (λ (b : Bool). if b then 2048 else end) w.if-full.true)
-      | else-full w ↦ w.behind-is ∙ sym (ap (λ (b : Bool). if b then 2048 else end) w.if-full.false)
+    let after : c.if-full.after ≡ (if c.match-self.full then 2048 else end) = elim c.if-full.branch [
+      | then-full w ↦ w.after-is ∙ sym (ap (λ (b : Bool). if b then 2048 else end) w.if-full.true)
+      | else-full w ↦ w.after-is ∙ sym (ap (λ (b : Bool). if b then 2048 else end) w.if-full.false)
     ] in
-    put_end c.args.at end c.if-full.behind (said c.args.item.now) (drop next ids) c.match-self.full (ap (λ (n : ℕ). c.args.at + n) c.plain_size.ensures) full behind
+    put_end c.args.at end c.if-full.after (said c.args.item.now) (drop next ids) c.match-self.full (ap (λ (n : ℕ). c.args.at + n) c.plain_size.ensures) full after

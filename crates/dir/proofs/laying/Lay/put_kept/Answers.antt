@@ -8,7 +8,7 @@ use Rattle.dir.specs.Layout.{fits}
 use Rattle.dir.specs.Split.{name_size}
 use Rattle.dir.proofs.Filling.{short_said}
 use Rattle.dir.proofs.Placing.{plain_bounds}
-use Rattle.dir.proofs.Runs.{head_of, head_room, head_behind, run_begun, run_more}
+use Rattle.dir.proofs.Runs.{head_of, head_room, head_after, run_begun, run_more}
 use Rattle.dir.proofs.laying.Lay.put_kept.Goals as goal
 
 pub loop-next-init : goal.loop-next-init
@@ -49,7 +49,7 @@ pub kept_size-requires-in-loop-next : goal.kept_size-requires-in-loop-next
 kept_size-requires-in-loop-next c =
     let self = c.args.self.now in
     let run = c.loop-next.invariant in
-    let second = head_behind self c.args.start c.args.block.now c.loop-next.at c.loop-next.next c.loop-next.kept.now c.loop-next.block run c.loop-next-test.true in
+    let second = head_after self c.args.start c.args.block.now c.loop-next.at c.loop-next.next c.loop-next.kept.now c.loop-next.block run c.loop-next-test.true in
     let same = c.split_at.ensures.back ∙ ap (λ (n : ℕ). drop n c.loop-next.kept.now) c.kept_size.ensures in
     omega (arith, second.long, plain_bounds (length second.x.name), ap length same)
 
@@ -65,7 +65,7 @@ pub fits-requires : goal.fits-requires
 fits-requires c =
     let self = c.args.self.now in
     let run = c.loop-next.invariant in
-    let second = head_behind self c.args.start c.args.block.now c.loop-next.at c.loop-next.next c.loop-next.kept.now c.loop-next.block run c.loop-next-test.true in
+    let second = head_after self c.args.start c.args.block.now c.loop-next.at c.loop-next.next c.loop-next.kept.now c.loop-next.block run c.loop-next-test.true in
     let same = c.split_at.ensures.back ∙ ap (λ (n : ℕ). drop n c.loop-next.kept.now) c.kept_size.ensures in
     let name : name_size c.split_at.result.1.now ≡ length second.x.name = ap name_size same ∙ second.name in
     omega (arith, second.short, plain_bounds (length second.x.name), ap plain_size name, c.kept_size-in-loop-next.ensures)
@@ -73,13 +73,13 @@ fits-requires c =
 pub loop-next-preserved : goal.loop-next-preserved
 loop-next-preserved c =
     let self = c.args.self.now in
-    let behind = c.split_at.ensures.back ∙ ap (λ (n : ℕ). drop n c.loop-next.kept.now) c.kept_size.ensures in
+    let after = c.split_at.ensures.back ∙ ap (λ (n : ℕ). drop n c.loop-next.kept.now) c.kept_size.ensures in
     let stay = ap (λ (n : ℕ). fits n (2048 - (c.loop-next.at + length c.split_at.result.0.now))) (sym c.kept_size-in-loop-next.ensures) ∙ sym c.fits.ensures ∙ c.if-not-fits.false in
     let at = c.loop-next.at in
     let block = c.loop-next.block in
     let size = length c.split_at.result.0.now in
     run_more self c.args.start c.args.block.now at c.loop-next.next (at + size) c.loop-next.kept.now c.split_at.result.1.now block
-    c.relocate.new.bytes (put_mid at (at + size - at) block c.relocate.new.bytes) c.loop-next.invariant c.loop-next-test.true behind (omega (arith, c.split_at.ensures.front_len, c.kept_size.ensures)) stay c.relocate.ensures
+    c.relocate.new.bytes (put_mid at (at + size - at) block c.relocate.new.bytes) c.loop-next.invariant c.loop-next-test.true after (omega (arith, c.split_at.ensures.front_len, c.kept_size.ensures)) stay c.relocate.ensures
     (ap (λ (t : List ℕ). take at block ++ (c.relocate.new.bytes ++ t)) (drop-drop (at + size - at) at block ∙ ap (λ (n : ℕ). drop n block) (omega arith)))
 
 pub overflow_sub-next : goal.overflow_sub-next

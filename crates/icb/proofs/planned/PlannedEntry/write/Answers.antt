@@ -14,8 +14,8 @@ pub returns-in-Extent : goal.returns-in-Extent
 returns-in-Extent c =
     let size = c.self.inside.entry.size in
     let blocks : c.div_ceil-blocks.result ≡ block_count size = omega (arith, c.div_ceil-blocks.ensures, c.from.ensures) in
-    let behind : c.to_bytes-extent.result ≡ extent size c.in-Extent.first = c.to_bytes-extent.ensures ∙ ap (λ (l : LongAd). long_ad l) c.extent.ensures in
-    c.write_entry-in-Extent.ensures ∙ block_extended c.self.inside c.in-Extent.first c.div_ceil-blocks.result c.to_bytes-extent.result c.in-Extent.is blocks behind ∙ c.self.view_is
+    let after : c.to_bytes-extent.result ≡ extent size c.in-Extent.first = c.to_bytes-extent.ensures ∙ ap (λ (l : LongAd). long_ad l) c.extent.ensures in
+    c.write_entry-in-Extent.ensures ∙ block_extended c.self.inside c.in-Extent.first c.div_ceil-blocks.result c.to_bytes-extent.result c.in-Extent.is blocks after ∙ c.self.view_is
 
 pub returns-in-Inside : goal.returns-in-Inside
 returns-in-Inside c = c.write_entry-in-Inside.ensures ∙ sym (block_there c.self.inside (places.Inside c.in-Inside.bytes) c.in-Inside.is) ∙ c.self.view_is

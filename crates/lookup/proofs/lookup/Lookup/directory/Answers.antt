@@ -2,6 +2,7 @@ use Rattle.std.proofs.Common.{◌≡◌, ◌+◌, ◌≤◌, ◌∙◌, rules, a
 use Rattle.std.specs.Int.{div_ceil}
 use Rattle.std.specs.Prelude.{IsOkAnd}
 use Rattle.std.proofs.lemmas.Bool.{false≢true}
+use Rattle.limits.specs.declared.TheConstants.{BLOCK_BYTES, PARTITION_START}
 use Rattle.icb.specs.Entry as icb
 use Rattle.udf.specs.Words.{icb_fields}
 use Rattle.lookup.specs.declared.nodes.Nodes.{Nodes}
@@ -36,13 +37,13 @@ returns-then-not-lies_below-clause-refused g c honest s there d =
     let ok = decoded c.in_ok-block.block there.block c.args.at.address there.fields c.decode_fe.result b.0 there.entry c.decode_fe.ensures.only in
     let same = subst (λ r. IsOkAnd r (λ e. icb.fields_of e ≡ icb_fields there.fields)) c.in-Ok.is ok in
     let h = has_data at c.args.self.now.nodes.numbers.now J c.args.at.address s there d in
-    let below : c.in-Extent.first + 257 + div_ceil c.in-Ok.entry.size 2048 ≤ at = lies_below at J s (icb_fields there.fields) c.in-Ok.entry c.in-Extent.first h same c.in-Extent.is in
-    absurd (false≢true (sym c.if-not-lies_below.true ∙ c.lies_below.ensures.1 (subst (λ (n : Nodes). c.in-Extent.first + 257 + div_ceil c.in-Ok.entry.size 2048 ≤ n.vat_icb_address) (sym c.in_ok-block.ensures.looks.nodes) below)))
+    let below : c.in-Extent.first + PARTITION_START + div_ceil c.in-Ok.entry.size BLOCK_BYTES ≤ at = lies_below at J s (icb_fields there.fields) c.in-Ok.entry c.in-Extent.first h same c.in-Extent.is in
+    absurd (false≢true (sym c.if-not-lies_below.true ∙ c.lies_below.ensures.1 (subst (λ (n : Nodes). c.in-Extent.first + PARTITION_START + div_ceil c.in-Ok.entry.size BLOCK_BYTES ≤ n.vat_icb_address) (sym c.in_ok-block.ensures.looks.nodes) below)))
 
 pub returns-clause-placed : goal.returns-clause-placed
 returns-clause-placed g c =
-    let below : c.in-Extent.first + 257 + div_ceil c.in-Ok.entry.size 2048 ≤ c.block_at.new.self.nodes.vat_icb_address = search rules in
-    let bounds = extent_bounds _ _ _ _ _ c.in-Ok.ensures.found.fits.place c.in-Extent.is (subst (λ (n : Nodes). c.in-Extent.first + 257 + div_ceil c.in-Ok.entry.size 2048 ≤ n.vat_icb_address) c.in_ok-block.ensures.looks.nodes below) in
+    let below : c.in-Extent.first + PARTITION_START + div_ceil c.in-Ok.entry.size BLOCK_BYTES ≤ c.block_at.new.self.nodes.vat_icb_address = search rules in
+    let bounds = extent_bounds _ _ _ _ _ c.in-Ok.ensures.found.fits.place c.in-Extent.is (subst (λ (n : Nodes). c.in-Extent.first + PARTITION_START + div_ceil c.in-Ok.entry.size BLOCK_BYTES ≤ n.vat_icb_address) c.in_ok-block.ensures.looks.nodes below) in
     record {
       at_is = refl;
       entry = λ honest. record {

@@ -2,6 +2,7 @@ use Rattle.std.proofs.Common.{◌≡◌, ◌+◌, ◌≤◌, ◌∙◌, sym, ap,
 use Rattle.std.specs.Int.{div_ceil}
 use Rattle.std.specs.Prelude.{IsOkAnd}
 use Rattle.std.proofs.lemmas.Bool.{false≢true}
+use Rattle.limits.specs.declared.TheConstants.{BLOCK_BYTES, PARTITION_START}
 use Rattle.drive.specs.Journal.{Event, held}
 use Rattle.recover.specs.Blocks.{medium_bytes_at}
 use Rattle.icb.specs.Entry as icb
@@ -31,7 +32,7 @@ returns-then-not-lies_below-clause-read g c honest s there file =
     let same = subst (λ r. IsOkAnd r (λ e. icb.fields_of e ≡ icb_fields there.fields)) c.in-Ok.is ok in
     let h = has_bytes at c.args.self.now.nodes.numbers.now J c.args.address s there file in
     let lies = stored_extent at J s there.fields c.in-Ok.entry h same c.in-Extent.first c.in-Extent.is in
-    absurd (false≢true (sym c.if-not-lies_below.true ∙ c.lies_below.ensures.1 (subst (λ (n : Nodes). c.in-Extent.first + 257 + div_ceil c.in-Ok.entry.size 2048 ≤ n.vat_icb_address) (sym c.in_ok-block.ensures.looks.nodes) lies.0)))
+    absurd (false≢true (sym c.if-not-lies_below.true ∙ c.lies_below.ensures.1 (subst (λ (n : Nodes). c.in-Extent.first + PARTITION_START + div_ceil c.in-Ok.entry.size BLOCK_BYTES ≤ n.vat_icb_address) (sym c.in_ok-block.ensures.looks.nodes) lies.0)))
 
 pub returns-in_err-to_vec-in-Inside-clause-read : goal.returns-in_err-to_vec-in-Inside-clause-read
 returns-in_err-to_vec-in-Inside-clause-read g c honest s there file = failed c.from_residual-in_err-to_vec-in-Inside.result _ _ _ c.from_residual-in_err-to_vec-in-Inside.ensures.1 (inr refl)
@@ -69,7 +70,7 @@ returns-in_ok-bytes-in-Extent-clause-read g c honest s there file =
     let ok = decoded c.in_ok-block.block there.block c.args.address there.fields c.decode_fe.result b.0 there.entry c.decode_fe.ensures.only in
     let same = subst (λ r. IsOkAnd r (λ e. icb.fields_of e ≡ icb_fields there.fields)) c.in-Ok.is ok in
     let h = has_bytes at c.args.self.now.nodes.numbers.now J c.args.address s there file in
-    let read = c.in_ok-bytes-in-Extent.ensures.read honest ∙ ap (λ (K : List Event). medium_bytes_at (held K) (c.in-Extent.first + 257) c.in-Ok.entry.size) c.in_ok-block.ensures.looks.reads.journal in
+    let read = c.in_ok-bytes-in-Extent.ensures.read honest ∙ ap (λ (K : List Event). medium_bytes_at (held K) (c.in-Extent.first + PARTITION_START) c.in-Ok.entry.size) c.in_ok-block.ensures.looks.reads.journal in
     ((stored_extent at J s there.fields c.in-Ok.entry h same c.in-Extent.first c.in-Extent.is).1 ∙ ap Bytes (sym (c.new-in-Extent.ensures ∙ read)), tt)
 
 pub returns-in_err-bytes-in-Extent-clause-looks : goal.returns-in_err-bytes-in-Extent-clause-looks

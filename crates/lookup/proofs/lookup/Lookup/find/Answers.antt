@@ -1,7 +1,7 @@
 use Rattle.std.proofs.Common.{◌∙◌, sym, subst, refl, Option, take, ◌++◌, ◌∷◌, []}
 use Rattle.std.proofs.lemmas.List.{take_all}
 use Rattle.model.specs.Tree.{Path}
-use Rattle.table_update.specs.declared.node.Node.{Node}
+use Rattle.recover.specs.declared.node.Node.{Node}
 use Rattle.lookup.specs.Lookups.{graph_seen}
 use Rattle.lookup.specs.Shows.{IsFound, IsNodeAt}
 use Rattle.lookup.proofs.Looking.{directory_later, failed, found_seen, looks_failed, looks_none, looks_then, sees_before, sees_next}

@@ -1,6 +1,6 @@
 use Rattle.std.proofs.Common.{◌∙◌, sym, ap, subst, refl, Option, Some}
 use Rattle.model.specs.Tree.{found_directory}
-use Rattle.table_update.specs.declared.node.Node.{Node}
+use Rattle.recover.specs.declared.node.Node.{Node}
 use Rattle.lookup.specs.Lookups.{graph_seen}
 use Rattle.lookup.specs.Shows.{IsFound}
 use Rattle.lookup.proofs.Looking.{failed}

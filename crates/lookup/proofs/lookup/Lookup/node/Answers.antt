@@ -2,7 +2,7 @@ use Rattle.std.proofs.Common.{subst, refl, Option, inl, inr, sym}
 use Rattle.recover.specs.Faults.{IsShortage}
 use Rattle.recover.specs.declared.fault.StoreFault.{StoreFault}
 use Rattle.model.specs.Tree.{Path}
-use Rattle.table_update.specs.declared.node.Node.{Node}
+use Rattle.recover.specs.declared.node.Node.{Node}
 use Rattle.lookup.specs.Lookups.{graph_seen}
 use Rattle.lookup.specs.Shows.{IsFound}
 use Rattle.lookup.proofs.lookup.Lookup.node.Goals as goal

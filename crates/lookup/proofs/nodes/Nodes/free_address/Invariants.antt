@@ -1,4 +1,5 @@
 use Rattle.std.proofs.Common.{length, drop, ◌≡◌, ◌+◌, ◌-◌, ◌≤◌}
+use Rattle.limits.specs.declared.TheConstants.{ADDRESSES}
 use Rattle.model.specs.Addresses.{free_address, used_first}
 use Rattle.lookup.proofs.nodes.Nodes.free_address.Given as goal
 
@@ -6,7 +7,7 @@ use Rattle.lookup.proofs.nodes.Nodes.free_address.Given as goal
 abbrev pub invariant-runs : goal.invariant-runs
 invariant-runs l = record {
   low : 2 ≤ l.address;
-  high : l.address ≤ 4097;
+  high : l.address ≤ ADDRESSES;
   used : free_address l.self.numbers.now ≡ l.address + used_first (drop l.address l.self.numbers.now);
 }
 
@@ -16,7 +17,7 @@ decreases-runs l = length l.self.numbers.now - l.address
 abbrev pub invariant-each : goal.invariant-each
 invariant-each l = record {
   low : 2 ≤ l.address;
-  high : l.address ≤ 4097;
+  high : l.address ≤ ADDRESSES;
   used : free_address l.self.numbers.now ≡ l.address + used_first (drop l.address l.self.numbers.now);
 }
 

@@ -45,7 +45,7 @@ module _ {M : Type 1} {𝓤 : Ura M} (𝓛 : Logic 𝓤) (mem : Memory → SProp
 
   module _ (κs : Lfts 1) (qs : Shares 1) (a : Args f.signature κs) (g : Images) where
     abbrev made : Seen
-    made = record { images = g; misses = 0 }
+    made = record { images = g; misses = 0; looks = [] }
 
     abbrev bound : (walk_of 𝓛 f.ended stayed (f.clauses 𝓛 mem run)).Ghost
     bound = ((κs, qs, tt, a, ((slice_val a.0.ref_ptr (length a.0.now)) ∷ [], tt)), g)
@@ -60,7 +60,7 @@ module _ {M : Type 1} {𝓤 : Ura M} (𝓛 : Logic 𝓤) (mem : Memory → SProp
         alloc_all ! (λ l. pass_all ! refl ((tt, (tt, (record { fits = f0 }, tt))), tt) $ sets ! (agg ! (no_more !)) refl (tt, tt) $
         returns ! (look_at ! 0 refl) $ free_all ! refl $
         suffices ! _ (ends_at 𝓛 f.ended stayed (f.clauses 𝓛 mem run) bound (vstruct vnil) made (tt, tt) (tt, tt)) $
-        says ! (refl, refl) $ pure_i ! (seen.the_row.own_val made (vstruct vnil ∷ [])) ((λ vss. (tt, tt)), tt) ((tt, (refl, tt)), tt) $
+        says ! (refl, refl, refl) $ pure_i ! (seen.the_row.own_val made (vstruct vnil ∷ [])) ((λ vss. (tt, tt)), tt) ((tt, (refl, tt)), tt) $
         move ! (1 ∷ 2 ∷ 0 ∷ []) $ done !)
 
   walks : Walks 𝓛 f.ended stayed (WpFn 𝓤 H C Λ code.function) (f.clauses 𝓛 mem run)

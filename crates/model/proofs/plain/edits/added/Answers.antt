@@ -1,4 +1,4 @@
-use Rattle.std.proofs.Common.{sym, ap, ◌∙◌, subst, List}
+use Rattle.std.proofs.Common.{sym, ap, subst, List}
 use Rattle.model.specs.Operation.{name_added, added}
 use Rattle.model.specs.Plain.{texts_in, plain_content, tree_in, ListsTree}
 use Rattle.model.specs.declared.plain.nodes.Entry.{Entry}

@@ -1,4 +1,4 @@
-use Rattle.std.proofs.Common.{◌∙◌, ◌<◌, ap, sym, refl, length, rules}
+use Rattle.std.proofs.Common.{◌∙◌, ◌<◌, ap, refl, length, rules}
 use Rattle.std.proofs.lemmas.List.{length-set}
 use Rattle.model.specs.Operation.{moved}
 use Rattle.model.specs.Plain.{texts_in, path_in}

@@ -1,8 +1,6 @@
-use Rattle.std.proofs.Common.{sym, ap, ◌∙◌, subst, refl, List}
-use Rattle.std.specs.FinMap.{remove}
+use Rattle.std.proofs.Common.{sym, ap, ◌∙◌, subst, refl}
 use Rattle.model.specs.Operation.{name_taken_out}
-use Rattle.model.specs.Plain.{texts_in, tree_in, AreApart, ListsTree}
-use Rattle.model.specs.declared.plain.nodes.Entry.{Entry}
+use Rattle.model.specs.Plain.{texts_in, tree_in, AreApart}
 use Rattle.model.proofs.PlainEdits.{removed_place, removed_none, has_along}
 use Rattle.model.proofs.plain.edits.removed.Goals as goal
 

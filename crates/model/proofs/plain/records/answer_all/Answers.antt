@@ -1,4 +1,4 @@
-use Rattle.std.proofs.Common.{◌≡◌, ◌<◌, ap, ◌∙◌, length, sym, rules}
+use Rattle.std.proofs.Common.{◌<◌, ◌∙◌, length, rules}
 use Rattle.std.proofs.lemmas.List.{length-set}
 use Rattle.model.specs.Plain.{reply_in}
 use Rattle.model.proofs.PlainRecords.{answered_here, answered_past}

@@ -1,6 +1,6 @@
 use Rattle.std.proofs.Common.{◌≡◌, ap, ◌∙◌, ◌==◌, sym, subst, refl, map, List, IfOk, false, true, ◌++◌, ◌∷◌, []}
 use Rattle.std.specs.List.{list_any}
-use Rattle.model.specs.Session.{ClientRecord, with_reply, answered_if}
+use Rattle.model.specs.Session.{ClientRecord}
 use Rattle.model.specs.Plain.{reply_in, record_in}
 use Rattle.model.specs.declared.plain.records.ClientRecord.{ClientRecord as PlainRecord}
 use Rattle.model.proofs.PlainRecords.{pushed_record, answered_records}

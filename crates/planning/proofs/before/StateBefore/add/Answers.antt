@@ -14,7 +14,7 @@ use Rattle.request.specs.Numbers.{code_number}
 use Rattle.request.specs.contracts.answer.Code.{the_type}
 use Rattle.request.specs.declared.answer.Code.TheVariants as code
 use Rattle.table_update.specs.NextTable.{made_by}
-use Rattle.table_update.specs.declared.node.Node.{Node}
+use Rattle.recover.specs.declared.node.Node.{Node}
 use Rattle.lookup.specs.Lookups.{free_seen, graph_seen}
 use Rattle.lookup.specs.Shows.{IsFoundDirectory}
 use Rattle.lookup.specs.declared.content.Content.{Content}

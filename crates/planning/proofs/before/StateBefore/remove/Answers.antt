@@ -3,7 +3,7 @@ use Rattle.std.specs.FinMap.{get}
 use Rattle.model.specs.Operation.Operation.{Remove}
 use Rattle.model.specs.Tree.{Path}
 use Rattle.request.specs.declared.answer.Code.TheVariants as code
-use Rattle.table_update.specs.declared.node.Node.{Node}
+use Rattle.recover.specs.declared.node.Node.{Node}
 use Rattle.lookup.specs.Lookups.{free_seen, graph_seen}
 use Rattle.lookup.specs.Shows.{IsFound, IsFoundDirectory, IsNodeAt}
 use Rattle.lookup.specs.declared.content.Content.{Content}

@@ -6,7 +6,7 @@ use Rattle.model.specs.Operation.{moves_too_deep}
 use Rattle.model.specs.Operation.Operation.{Rename}
 use Rattle.model.specs.Tree.{Path, Tree}
 use Rattle.request.specs.declared.answer.Code.TheVariants as code
-use Rattle.table_update.specs.declared.node.Node.{Node}
+use Rattle.recover.specs.declared.node.Node.{Node}
 use Rattle.udf.specs.Said.{names_directory}
 use Rattle.lookup.specs.Lookups.{Looks, Sees, free_seen, graph_seen}
 use Rattle.lookup.specs.Shows.{IsFound, IsFoundDirectory, IsNodeAt}

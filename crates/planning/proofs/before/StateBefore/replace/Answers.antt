@@ -1,7 +1,7 @@
 use Rattle.std.proofs.Common.{◌∙◌, sym, subst, refl, Option, Some}
 use Rattle.model.specs.Operation.Operation.{Replace}
 use Rattle.request.specs.declared.answer.Code.TheVariants as code
-use Rattle.table_update.specs.declared.node.Node.{Node}
+use Rattle.recover.specs.declared.node.Node.{Node}
 use Rattle.lookup.specs.Lookups.{free_seen, graph_seen}
 use Rattle.lookup.specs.Shows.{IsFound}
 use Rattle.lookup.proofs.Looking.{failed}

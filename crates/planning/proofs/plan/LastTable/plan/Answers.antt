@@ -9,40 +9,33 @@ use Rattle.request.specs.Numbers.{code_number}
 use Rattle.udf.specs.Udf.{udf}
 use Rattle.vat.specs.declared.table.Vat.{Vat}
 use Rattle.vat.specs.Table.{Table, FitsTable, view}
-use Rattle.table_update.specs.Below.{AreBelow, IsUsed}
+use Rattle.recover.specs.Below.{AreBelow, IsUsed}
 use Rattle.planning.specs.Plan.{AreLaid, IsTablePlaced, file_list, file_writings, file_written, directories_list, directories_writings, directories_written}
 use Rattle.planning.specs.Needs.{change_need}
 use Rattle.table_update.specs.NextTable.{all_placed, without_gone}
 use Rattle.table_update.specs.TableChange.{IsRemovable, committed}
 use Rattle.planning.specs.Writings.{new_file}
 use Rattle.planning.specs.declared.change.NewDirectory.{NewDirectory}
-use Rattle.table_update.proofs.BelowLemmas.{below_later}
+use Rattle.recover.proofs.BelowLemmas.{below_later}
 use Rattle.planning.proofs.Plans.{length-padded, placed_append}
 use Rattle.planning.proofs.Taking.{directories_used, file_used, gone_there, made_free}
 use Rattle.planning.proofs.Writings.{writes-append}
 use Rattle.planning.proofs.plan.LastTable.plan.Goals as goal
 
-pub place_table-requires-clause-below : goal.place_table-requires-clause-below
-place_table-requires-clause-below g c =
+pub place_table-requires-clause-leads : goal.place_table-requires-clause-leads
+place_table-requires-clause-leads g c =
     let start = c.new-numbers.result.next in
     let begins : start + 257 ≡ next_of (g.D.Drive.journal c.args.drive.now) = omega (arith, c.in-Ok.ensures.next, c.new-numbers.ensures.next, c.requires.agrees.on, c.requires.agrees.keeps.low) in
-    let first = below_later c.args.self.now.vat_icb_address (start + 257) c.in_ok-vat.vat.entries.items (omega (arith, begins, c.requires.agrees.on)) c.in_ok-vat.ensures.below in
-    c.in_ok-take_away.ensures.below (c.enter_directories.new.numbers.next + 257) (c.in_ok-directories.ensures.below (c.in_ok-file.ensures.below first))
-
-pub place_table-requires-clause-previous : goal.place_table-requires-clause-previous
-place_table-requires-clause-previous g c =
-    let previous : c.take_away.new.vat.previous ≡ Some (c.args.self.now.vat_icb_address - 257) =
-    c.in_ok-take_away.ensures.previous ∙ c.in_ok-directories.ensures.previous ∙ c.in_ok-file.ensures.previous ∙ c.in_ok-vat.ensures.previous in
+    let first = below_later c.args.self.now.vat_icb_address (start + 257) c.in_ok-vat.vat.entries.items (omega (arith, begins, c.requires.agrees.on)) c.in_ok-vat.ensures.begins.below in
     let end = c.enter_directories.new.numbers.next in
+    let previous : c.take_away.new.vat.previous ≡ Some (c.args.self.now.vat_icb_address - 257) =
+    c.in_ok-take_away.ensures.gone.stays.previous ∙ c.in_ok-directories.ensures.enters.stays.previous ∙ c.in_ok-file.ensures.enters.stays.previous ∙ c.in_ok-vat.ensures.begins.previous in
     let low : c.args.self.now.vat_icb_address - 257 < end =
-    omega (arith, c.in-Ok.ensures.next, c.new-numbers.ensures.next, c.in_ok-file.ensures.next, c.in_ok-directories.ensures.next, c.requires.agrees.on, c.requires.agrees.keeps.low) in
-    subst (λ (p : Option ℕ). IfSome p (λ n. n < end)) (sym previous) low
-
-pub returns-clause-code : goal.returns-clause-code
-returns-clause-code g c = refl
-
-pub returns-clause-commit : goal.returns-clause-commit
-returns-clause-commit g c = c.in_ok-vat.ensures.commits
+    omega (arith, c.in-Ok.ensures.next, c.new-numbers.ensures.next, c.in_ok-file.ensures.enters.next, c.in_ok-directories.ensures.enters.next, c.requires.agrees.on, c.requires.agrees.keeps.low) in
+    record {
+      below = c.in_ok-take_away.ensures.gone.below (end + 257) (c.in_ok-directories.ensures.enters.below (c.in_ok-file.ensures.enters.below first));
+      previous = subst (λ (p : Option ℕ). IfSome p (λ n. n < end)) (sym previous) low;
+    }
 
 pub returns-clause-plan : goal.returns-clause-plan
 returns-clause-plan g c =
@@ -58,56 +51,55 @@ returns-clause-plan g c =
     let nodes = file_list file ++ directories_list directories in
     let begins : start ≡ next_of J - 257 = omega (arith, c.in-Ok.ensures.next, c.new-numbers.ensures.next) in
     let low : 257 ≤ next_of J = omega (arith, c.requires.agrees.on, c.requires.agrees.keeps.low) in
-    let size : node_end ≡ next_of J - 257 + length nodes = omega (arith, begins, c.in_ok-file.ensures.next, c.in_ok-directories.ensures.next, length-append (file_list file) (directories_list directories)) in
-    let behind : next_of J + 1 ≤ at = omega (arith, low, size, c.in_ok-table.ensures.placed.number, length-padded table.gap table.bytes.items, c.in_ok-table.ensures.some) in
+    let size : node_end ≡ next_of J - 257 + length nodes = omega (arith, begins, c.in_ok-file.ensures.enters.next, c.in_ok-directories.ensures.enters.next, length-append (file_list file) (directories_list directories)) in
+    let after : next_of J + 1 ≤ at = omega (arith, low, size, c.in_ok-table.ensures.placed.number, length-padded table.gap table.bytes.items, c.in_ok-table.ensures.some) in
     let commits : vat.sessions.commits ≡ c.args.self.now.vat.now.sessions.commits + 1 =
-    ap (λ (v : Vat). v.sessions.commits) c.in_ok-table.ensures.vat ∙ c.in_ok-take_away.ensures.commits ∙ c.in_ok-directories.ensures.commits ∙ c.in_ok-file.ensures.commits ∙ c.in_ok-vat.ensures.commits in
+    ap (λ (v : Vat). v.sessions.commits) c.in_ok-table.ensures.vat ∙ c.in_ok-take_away.ensures.gone.stays.commits ∙ c.in_ok-directories.ensures.enters.stays.commits ∙ c.in_ok-file.ensures.enters.stays.commits ∙ c.in_ok-vat.ensures.begins.commits in
     let unique : vat.sessions.next_unique ≡ c.in_ok-vat.vat.sessions.next_unique =
-    ap (λ (v : Vat). v.sessions.next_unique) c.in_ok-table.ensures.vat ∙ c.in_ok-take_away.ensures.unique ∙ c.in_ok-directories.ensures.unique ∙ c.in_ok-file.ensures.unique in
-    let first = below_later c.args.self.now.vat_icb_address (start + 257) c.in_ok-vat.vat.entries.items (omega (arith, begins, c.requires.agrees.on)) c.in_ok-vat.ensures.below in
-    let gone = c.in_ok-take_away.ensures.below (node_end + 257) (c.in_ok-directories.ensures.below (c.in_ok-file.ensures.below first)) in
+    ap (λ (v : Vat). v.sessions.next_unique) c.in_ok-table.ensures.vat ∙ c.in_ok-take_away.ensures.gone.stays.unique ∙ c.in_ok-directories.ensures.enters.stays.unique ∙ c.in_ok-file.ensures.enters.stays.unique in
+    let first = below_later c.args.self.now.vat_icb_address (start + 257) c.in_ok-vat.vat.entries.items (omega (arith, begins, c.requires.agrees.on)) c.in_ok-vat.ensures.begins.below in
+    let gone = c.in_ok-take_away.ensures.gone.below (node_end + 257) (c.in_ok-directories.ensures.enters.below (c.in_ok-file.ensures.enters.below first)) in
     let all : AreBelow at c.take_away.new.vat.entries.items = below_later (node_end + 257) at c.take_away.new.vat.entries.items (omega (arith, c.in_ok-table.ensures.placed.number)) gone in
-    let second = subst (λ n. WritesNodes udf (directories_writings directories) n (directories_list directories) (directories_written directories)) c.in_ok-file.ensures.next c.in_ok-directories.ensures.written in
-    let both = writes-append (file_writings c.args.moment file) (directories_writings directories) start (file_list file) (directories_list directories) (file_written file) (directories_written directories) c.in_ok-file.ensures.written second in
+    let second = subst (λ n. WritesNodes udf (directories_writings directories) n (directories_list directories) (directories_written directories)) c.in_ok-file.ensures.enters.next c.in_ok-directories.ensures.enters.written in
+    let both = writes-append (file_writings c.args.moment file) (directories_writings directories) start (file_list file) (directories_list directories) (file_written file) (directories_written directories) c.in_ok-file.ensures.enters.written second in
     record {
       begins = c.in_ok-new.ensures ∙ ap (λ (n : ℕ). record { at = n; blocks = [] }) c.in-Ok.ensures.next;
       low = low;
       nodes = subst (λ n. WritesNodes udf (file_writings c.args.moment file ++ directories_writings directories) n nodes (file_written file ++ directories_written directories)) begins both;
-      laid = subst (λ n. AreLaid n directories) (c.in_ok-file.ensures.next ∙ ap (λ n. n + length (file_list file)) begins) c.in_ok-directories.ensures.laid;
+      laid = subst (λ n. AreLaid n directories) (c.in_ok-file.ensures.enters.next ∙ ap (λ n. n + length (file_list file)) begins) c.in_ok-directories.ensures.placed.laid;
       table = subst (λ n. IsTablePlaced n c.args.moment table) size c.in_ok-table.ensures.placed;
       fits = omega (arith, c.in_ok-table.ensures.within, c.in_ok-directories.ensures.end, c.in_ok-file.ensures.end, c.new-numbers.ensures.end, c.requires.agrees.fits, c.requires.agrees.least);
       keeps = record {
-        low = omega (arith, behind, c.requires.agrees.on, c.requires.agrees.keeps.low);
-        fits = subst (λ (v : Vat). FitsTable (view v)) (sym c.in_ok-table.ensures.vat) c.in_ok-take_away.ensures.fits;
+        low = omega (arith, after, c.requires.agrees.on, c.requires.agrees.keeps.low);
+        fits = subst (λ (v : Vat). FitsTable (view v)) (sym c.in_ok-table.ensures.vat) c.in_ok-take_away.ensures.gone.fits;
         entries = subst (λ (v : Vat). AreBelow at v.entries.items) (sym c.in_ok-table.ensures.vat) all;
-        few_commits = omega (arith, commits, behind, c.requires.agrees.on, c.requires.agrees.keeps.few_commits);
-        few_unique = omega (arith, commits, unique, c.in_ok-vat.ensures.unique, c.in_ok-vat.ensures.commits);
+        few_commits = omega (arith, commits, after, c.requires.agrees.on, c.requires.agrees.keeps.few_commits);
+        few_unique = omega (arith, commits, unique, c.in_ok-vat.ensures.begins.unique, c.in_ok-vat.ensures.begins.commits);
       };
     }
 
-pub returns-clause-moment : goal.returns-clause-moment
-returns-clause-moment g c = refl
-
-pub returns-clause-writings : goal.returns-clause-writings
-returns-clause-writings g c =
+pub returns-clause-makes : goal.returns-clause-makes
+returns-clause-makes g c =
     let m = c.args.moment in
-    ap (λ (ws : List Writing). ws ++ directories_writings c.in_ok-directories.directories.items) c.in_ok-file.ensures.writings
-    ∙ ap (λ (ws : List Writing). new_file m c.args.change.file ++ ws) c.in_ok-directories.ensures.writings
-
-pub returns-clause-table : goal.returns-clause-table
-returns-clause-table g c =
     let file = file_written c.in_ok-file.file in
     let directories = directories_written c.in_ok-directories.directories.items in
     let removed = c.args.change.removed in
     let before = view c.in_ok-vat.vat in
-    ap view c.in_ok-table.ensures.vat
-    ∙ c.in_ok-take_away.ensures.table
-    ∙ ap (without_gone removed) (c.in_ok-directories.ensures.table ∙ ap (all_placed directories) c.in_ok-file.ensures.table ∙ sym (placed_append file directories before))
-    ∙ ap (λ t. without_gone removed (all_placed (file ++ directories) t)) c.in_ok-vat.ensures.table
+    record {
+      code = refl;
+      commit = c.in_ok-vat.ensures.begins.commits;
+      moment_is = refl;
+      writings = ap (λ (ws : List Writing). ws ++ directories_writings c.in_ok-directories.directories.items) c.in_ok-file.ensures.writings
+          ∙ ap (λ (ws : List Writing). new_file m c.args.change.file ++ ws) c.in_ok-directories.ensures.placed.writings;
+      table = ap view c.in_ok-table.ensures.vat
+          ∙ c.in_ok-take_away.ensures.gone.table
+          ∙ ap (without_gone removed) (c.in_ok-directories.ensures.enters.table ∙ ap (all_placed directories) c.in_ok-file.ensures.enters.table ∙ sym (placed_append file directories before))
+          ∙ ap (λ t. without_gone removed (all_placed (file ++ directories) t)) c.in_ok-vat.ensures.begins.table;
+    }
 
 pub returns-clause-room : goal.returns-clause-room
 returns-clause-room g c =
-    let same = ap (λ (t : Table). change_need c.args.change t) c.in_ok-vat.ensures.table in
+    let same = ap (λ (t : Table). change_need c.args.change t) c.in_ok-vat.ensures.begins.table in
     omega (arith, same, c.need.ensures.value, c.saturating_add.ensures, c.from.ensures, c.from-2.ensures, c.if-saturating_add-from.false, c.in-Ok.ensures.next, c.requires.agrees.most)
 
 pub returns-in_err-vat-clause-refused : goal.returns-in_err-vat-clause-refused
@@ -118,21 +110,21 @@ returns-in_err-vat-clause-refused g c takes =
 pub returns-in_err-file-clause-refused : goal.returns-in_err-file-clause-refused
 returns-in_err-file-clause-refused g c takes =
     let used = file_used c.args.moment c.args.change (committed c.args.self.now.vat_icb_address c.args.request.now.client c.args.request.now.number (code_number c.args.change.code) (view c.args.self.now.vat.now)) takes in
-    let there = subst (λ (t : Table). IfSome c.args.change.file (λ f. IsUsed f.address t.entries)) (sym c.in_ok-vat.ensures.table) used in
+    let there = subst (λ (t : Table). IfSome c.args.change.file (λ f. IsUsed f.address t.entries)) (sym c.in_ok-vat.ensures.begins.table) used in
     absurd (false≢true (sym (c.in_err-file.ensures.used there)))
 
 pub returns-in_err-directories-clause-refused : goal.returns-in_err-directories-clause-refused
 returns-in_err-directories-clause-refused g c takes =
     let p = err_from_is_err_and c.from_residual-in_err-directories.result c.from_residual-in_err-directories.ensures.1 in
     let used = directories_used c.args.moment c.args.change (committed c.args.self.now.vat_icb_address c.args.request.now.client c.args.request.now.number (code_number c.args.change.code) (view c.args.self.now.vat.now)) takes c.in_ok-file.file c.in_ok-file.ensures.writings in
-    let table = c.in_ok-file.ensures.table ∙ ap (all_placed (file_written c.in_ok-file.file)) c.in_ok-vat.ensures.table in
+    let table = c.in_ok-file.ensures.enters.table ∙ ap (all_placed (file_written c.in_ok-file.file)) c.in_ok-vat.ensures.begins.table in
     let there = subst (λ (t : Table). All (λ (d : NewDirectory). IsUsed d.address t.entries) c.args.change.directories.items) (sym table) used in
     rw p.1 (inl (inr (p.2 ∙ c.in_err-directories.ensures.used there)))
 
 pub returns-in_err-take_away-clause-refused : goal.returns-in_err-take_away-clause-refused
 returns-in_err-take_away-clause-refused g c takes =
-    let gone = gone_there c.args.moment c.args.change (committed c.args.self.now.vat_icb_address c.args.request.now.client c.args.request.now.number (code_number c.args.change.code) (view c.args.self.now.vat.now)) takes c.in_ok-file.file c.in_ok-file.ensures.writings c.in_ok-directories.directories.items c.in_ok-directories.ensures.writings in
-    let table = c.in_ok-directories.ensures.table ∙ ap (all_placed (directories_written c.in_ok-directories.directories.items)) (c.in_ok-file.ensures.table ∙ ap (all_placed (file_written c.in_ok-file.file)) c.in_ok-vat.ensures.table) in
+    let gone = gone_there c.args.moment c.args.change (committed c.args.self.now.vat_icb_address c.args.request.now.client c.args.request.now.number (code_number c.args.change.code) (view c.args.self.now.vat.now)) takes c.in_ok-file.file c.in_ok-file.ensures.writings c.in_ok-directories.directories.items c.in_ok-directories.ensures.placed.writings in
+    let table = c.in_ok-directories.ensures.enters.table ∙ ap (all_placed (directories_written c.in_ok-directories.directories.items)) (c.in_ok-file.ensures.enters.table ∙ ap (all_placed (file_written c.in_ok-file.file)) c.in_ok-vat.ensures.begins.table) in
     let there = subst (λ (t : Table). IfSome c.args.change.removed (λ node. IsRemovable node.kind node.address t)) (sym table) gone in
     absurd (false≢true (sym (c.in_err-take_away.ensures.there there)))
 

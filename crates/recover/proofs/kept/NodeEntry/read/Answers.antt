@@ -1,6 +1,7 @@
 use Rattle.std.proofs.Common.{◌<◌, ◌≤◌, Option, refl, sym, ◌∙◌, subst}
 use Rattle.std.specs.Prelude.{IfSome}
 use Rattle.std.proofs.lemmas.Option.{same_Some}
+use Rattle.limits.specs.declared.TheConstants.{PARTITION_BLOCKS}
 use Rattle.icb.specs.Entry.{IsEntry, fields_of}
 use Rattle.recover.specs.declared.directory.Extent.{Extent}
 use Rattle.recover.proofs.Held.{held_at}
@@ -8,7 +9,7 @@ use Rattle.recover.proofs.Nodes.{extent_fits}
 use Rattle.recover.proofs.kept.NodeEntry.read.Goals as goal
 
 pub invariant_of-result : goal.invariant_of-result
-invariant_of-result g c = record { fits = subst (λ (o : Option Extent). IfSome o (λ (e : Extent). (0 < e.size) × (e.first ≤ 449_743))) (sym c.extent_of.ensures) (extent_fits _ _ _ c.in-Ok.ensures.found.fits.place) }
+invariant_of-result g c = record { fits = subst (λ (o : Option Extent). IfSome o (λ (e : Extent). (0 < e.size) × (e.first ≤ PARTITION_BLOCKS))) (sym c.extent_of.ensures) (extent_fits _ _ _ c.in-Ok.ensures.found.fits.place) }
 
 pub returns-in-Ok-clause-described : goal.returns-in-Ok-clause-described
 returns-in-Ok-clause-described g c = λ h. record {

@@ -26,21 +26,21 @@ use Rattle.recover.proofs.walk.Walk.+visit.Goals as goal
 pub returns-in-File-clause-visits : goal.returns-in-File-clause-visits
 returns-in-File-clause-visits g t c = λ h.
     let J : List Event = g.D.Drive.journal c.args.drive.now in
-    let long : c.args.self.now.at ≤ length (take c.args.self.now.at (held J)) = omega (arith, length-take c.args.self.now.at (held J), length-held J, c.requires.within) in
-    let entry = subst (λ (n : ℕ). HasFileEntry (take n (held J)) c.in_ok-entry_at.entry_at c.args.node.now c.in_ok-body.body) c.reach.ensures.at (c.in_ok-body.ensures.entry h) in
-    let below = subst (λ (n : ℕ). IfSome c.in_ok-body.body.extent (LiesBelow n)) c.reach.ensures.at c.in_ok-body.ensures.extent in
+    let long : c.args.self.now.at ≤ length (take c.args.self.now.at (held J)) = omega (arith, length-take c.args.self.now.at (held J), length-held J, c.requires.within.within) in
+    let entry = subst (λ (n : ℕ). HasFileEntry (take n (held J)) c.in_ok-entry_at.entry_at c.args.node.now c.in_ok-body.body) c.reach.ensures.rest.at (c.in_ok-body.ensures.body.entry h) in
+    let below = subst (λ (n : ℕ). IfSome c.in_ok-body.body.extent (LiesBelow n)) c.reach.ensures.rest.at c.in_ok-body.ensures.body.extent in
     let seen = file_seen (take c.args.self.now.at (held J)) c.args.self.now.entries.now c.args.node.now c.in_ok-body.body c.in_ok-entry_at.entry_at c.in_ok-entry_at.ensures.leads entry c.args.self.now.at long c.in-File.is below in
     let files : Tallied c.args.self.now.files 1 c.saturating_add-self.result = (
-      (let e : c.args.self.now.files ≤ c.saturating_add-self.result = omega (arith, c.saturating_add-self.ensures, c.read_entry.ensures.files, c.reach.ensures.files) in e),
-      (λ lt. (let e : c.saturating_add-self.result ≡ c.args.self.now.files + 1 = omega (arith, c.saturating_add-self.ensures, c.read_entry.ensures.files, c.reach.ensures.files, lt) in e)),
-      (let e : c.saturating_add-self.result ≤ c.args.self.now.files + 1 = omega (arith, c.saturating_add-self.ensures, c.read_entry.ensures.files, c.reach.ensures.files) in e),
+      (let e : c.args.self.now.files ≤ c.saturating_add-self.result = omega (arith, c.saturating_add-self.ensures, c.read_entry.ensures.rest.files, c.reach.ensures.rest.files) in e),
+      (λ lt. (let e : c.saturating_add-self.result ≡ c.args.self.now.files + 1 = omega (arith, c.saturating_add-self.ensures, c.read_entry.ensures.rest.files, c.reach.ensures.rest.files, lt) in e)),
+      (let e : c.saturating_add-self.result ≤ c.args.self.now.files + 1 = omega (arith, c.saturating_add-self.ensures, c.read_entry.ensures.rest.files, c.reach.ensures.rest.files) in e),
     ) in
     let directories : Tallied c.args.self.now.directories 0 c.read_entry.new.self.directories =
-    (let same = c.read_entry.ensures.directories ∙ c.reach.ensures.directories in (omega (arith, same), (λ lt. omega (arith, same)), omega (arith, same))) in
+    (let same = c.read_entry.ensures.rest.directories ∙ c.reach.ensures.rest.directories in (omega (arith, same), (λ lt. omega (arith, same)), omega (arith, same))) in
     file_visits (nodes_of J c.args.self.now) c.args.self.now _ c.args.node.now (reached_in c.reach.new.self) (uniques_in c.read_entry.new.self) seen c.in-File.is
-    c.in_ok-entry_at.ensures.depth (subst (λ (n : ℕ). IsAssigned n c.args.node.now.address c.args.node.now.unique) c.reach.ensures.next_unique c.in_ok-body.ensures.drawn)
-    c.in_ok-entry_at.ensures.reached (λ x. ap (λ r. marked r x) c.read_entry.ensures.reached)
-    (subst (λ u. InsertsNumber (marked u) c.args.node.now.unique (uniques_in c.read_entry.new.self)) c.reach.ensures.uniques c.in_ok-body.ensures.uniques) (λ x. refl)
+    c.in_ok-entry_at.ensures.depth (subst (λ (n : ℕ). IsAssigned n c.args.node.now.address c.args.node.now.unique) c.reach.ensures.rest.next_unique c.in_ok-body.ensures.unique.drawn)
+    c.in_ok-entry_at.ensures.reached (λ x. ap (λ r. marked r x) c.read_entry.ensures.rest.reached)
+    (subst (λ u. InsertsNumber (marked u) c.args.node.now.unique (uniques_in c.read_entry.new.self)) c.reach.ensures.rest.uniques c.in_ok-body.ensures.unique.uniques) (λ x. refl)
     files directories
 
 pub loop-index-init : goal.loop-index-init
@@ -56,45 +56,45 @@ loop-index-init g t c =
       files = read.files;
       directories = c.saturating_add-self-2.result;
     } in
-    let at : now.at ≡ c.args.self.now.at = c.read_entry.ensures.at ∙ c.reach.ensures.at in
-    let table : now.entries.now ≡ c.args.self.now.entries.now = ap (λ e. e.now) (c.read_entry.ensures.entries ∙ c.reach.ensures.entries) in
-    let next : now.next_unique ≡ c.args.self.now.next_unique = c.read_entry.ensures.next_unique ∙ c.reach.ensures.next_unique in
+    let at : now.at ≡ c.args.self.now.at = c.read_entry.ensures.rest.at ∙ c.reach.ensures.rest.at in
+    let table : now.entries.now ≡ c.args.self.now.entries.now = ap (λ e. e.now) (c.read_entry.ensures.rest.entries ∙ c.reach.ensures.rest.entries) in
+    let next : now.next_unique ≡ c.args.self.now.next_unique = c.read_entry.ensures.rest.next_unique ∙ c.reach.ensures.rest.next_unique in
     let es : List (List ℕ × DirEntry) = c.in_ok-names.names.dir.entries.entries in
     let names : IsTrue (g.D.Drive.honest c.read_names.new.drive) → HasListing (held J) c.args.node.now.above c.in_ok-body.body.links c.in-Some.extent c.in_ok-names.names.dir = λ h.
-    subst (λ (K : List Event). HasListing (held K) c.args.node.now.above c.in_ok-body.body.links c.in-Some.extent c.in_ok-names.names.dir) c.read_entry.ensures.reads.journal (c.in_ok-names.ensures.names h) in
+    subst (λ (K : List Event). HasListing (held K) c.args.node.now.above c.in_ok-body.body.links c.in-Some.extent c.in_ok-names.names.dir) c.read_entry.ensures.reads.reads.journal (c.in_ok-names.ensures.names h) in
     let are : IsTrue (g.D.Drive.honest c.read_names.new.drive) → AreSeen (held J) es c.in_ok-names.names.files = λ h.
-    subst (λ (K : List Event). AreSeen (held K) es c.in_ok-names.names.files) c.read_entry.ensures.reads.journal (c.in_ok-names.ensures.seen h) in
+    subst (λ (K : List Event). AreSeen (held K) es c.in_ok-names.names.files) c.read_entry.ensures.reads.reads.journal (c.in_ok-names.ensures.seen h) in
     record {
       begun = λ h.
-          let long : c.args.self.now.at ≤ length (take c.args.self.now.at (held J)) = omega (arith, length-take c.args.self.now.at (held J), length-held J, c.requires.within) in
-          let entry = subst (λ (n : ℕ). HasFileEntry (take n (held J)) c.in_ok-entry_at.entry_at c.args.node.now c.in_ok-body.body) c.reach.ensures.at (c.in_ok-body.ensures.entry (c.read_names.ensures.reads.honest h)) in
-          let below = subst (λ (n : ℕ). IfSome c.in_ok-body.body.extent (LiesBelow n)) c.reach.ensures.at c.in_ok-body.ensures.extent in
+          let long : c.args.self.now.at ≤ length (take c.args.self.now.at (held J)) = omega (arith, length-take c.args.self.now.at (held J), length-held J, c.requires.within.within) in
+          let entry = subst (λ (n : ℕ). HasFileEntry (take n (held J)) c.in_ok-entry_at.entry_at c.args.node.now c.in_ok-body.body) c.reach.ensures.rest.at (c.in_ok-body.ensures.body.entry (c.read_names.ensures.reads.reads.honest h)) in
+          let below = subst (λ (n : ℕ). IfSome c.in_ok-body.body.extent (LiesBelow n)) c.reach.ensures.rest.at c.in_ok-body.ensures.body.extent in
           let here = subst (λ (o : Option Extent). IfSome o (LiesBelow c.args.self.now.at)) c.in-Some.is below in
           let seen = directory_seen (held J) c.args.self.now.entries.now c.args.node.now c.in_ok-body.body c.in_ok-entry_at.entry_at c.args.self.now.at c.in_ok-entry_at.ensures.leads entry long c.in-Directory.is c.in-Some.extent c.in-Some.is here
           c.in_ok-names.names.dir (names h) in
           let files : Tallied c.args.self.now.files 0 c.read_entry.new.self.files =
-          (let same = c.read_entry.ensures.files ∙ c.reach.ensures.files in (omega (arith, same), (λ lt. omega (arith, same)), omega (arith, same))) in
+          (let same = c.read_entry.ensures.rest.files ∙ c.reach.ensures.rest.files in (omega (arith, same), (λ lt. omega (arith, same)), omega (arith, same))) in
           let directories : Tallied c.args.self.now.directories 1 c.saturating_add-self-2.result = (
-            (let e : c.args.self.now.directories ≤ c.saturating_add-self-2.result = omega (arith, c.saturating_add-self-2.ensures, c.read_entry.ensures.directories, c.reach.ensures.directories) in e),
-            (λ lt. (let e : c.saturating_add-self-2.result ≡ c.args.self.now.directories + 1 = omega (arith, c.saturating_add-self-2.ensures, c.read_entry.ensures.directories, c.reach.ensures.directories, lt) in e)),
-            (let e : c.saturating_add-self-2.result ≤ c.args.self.now.directories + 1 = omega (arith, c.saturating_add-self-2.ensures, c.read_entry.ensures.directories, c.reach.ensures.directories) in e),
+            (let e : c.args.self.now.directories ≤ c.saturating_add-self-2.result = omega (arith, c.saturating_add-self-2.ensures, c.read_entry.ensures.rest.directories, c.reach.ensures.rest.directories) in e),
+            (λ lt. (let e : c.saturating_add-self-2.result ≡ c.args.self.now.directories + 1 = omega (arith, c.saturating_add-self-2.ensures, c.read_entry.ensures.rest.directories, c.reach.ensures.rest.directories, lt) in e)),
+            (let e : c.saturating_add-self-2.result ≤ c.args.self.now.directories + 1 = omega (arith, c.saturating_add-self-2.ensures, c.read_entry.ensures.rest.directories, c.reach.ensures.rest.directories) in e),
           ) in
-          goes_on_same J now c.args.self.now c.visit_checked-index.new.self c.in_ok-names.names.files 0 c.visit_checked-index.result c.args.node.now c.in_ok-names.names.dir.entries.entries at table next (omega (arith, c.requires.within)) (are h) c.visit_checked-index.ensures.visits
+          goes_on_same J now c.args.self.now c.visit_checked-index.new.self c.in_ok-names.names.files 0 c.visit_checked-index.result c.args.node.now c.in_ok-names.names.dir.entries.entries at table next (omega (arith, c.requires.within.within)) (are h) c.visit_checked-index.ensures.visits
           (begun_none (nodes_of J c.args.self.now) c.args.self.now now c.args.node.now c.in_ok-names.names.dir.entries.entries (reached_in c.reach.new.self) (uniques_in c.read_entry.new.self) seen
-          c.in_ok-entry_at.ensures.depth (subst (λ (n : ℕ). IsAssigned n c.args.node.now.address c.args.node.now.unique) c.reach.ensures.next_unique c.in_ok-body.ensures.drawn)
-          c.in_ok-entry_at.ensures.reached (λ x. ap (λ r. marked r x) c.read_entry.ensures.reached)
-          (subst (λ u. InsertsNumber (marked u) c.args.node.now.unique (uniques_in c.read_entry.new.self)) c.reach.ensures.uniques c.in_ok-body.ensures.uniques) (λ x. refl)
+          c.in_ok-entry_at.ensures.depth (subst (λ (n : ℕ). IsAssigned n c.args.node.now.address c.args.node.now.unique) c.reach.ensures.rest.next_unique c.in_ok-body.ensures.unique.drawn)
+          c.in_ok-entry_at.ensures.reached (λ x. ap (λ r. marked r x) c.read_entry.ensures.rest.reached)
+          (subst (λ u. InsertsNumber (marked u) c.args.node.now.unique (uniques_in c.read_entry.new.self)) c.reach.ensures.rest.uniques c.in_ok-body.ensures.unique.uniques) (λ x. refl)
           files directories);
-      at = c.visit_checked-index.ensures.at ∙ at;
-      entries = ap (λ e. e.now) c.visit_checked-index.ensures.entries ∙ table;
-      next_unique = c.visit_checked-index.ensures.next_unique ∙ next;
-      more = omega (arith, c.visit_checked-index.ensures.directories, c.saturating_add-self-2.ensures, c.read_entry.ensures.directories, c.reach.ensures.directories);
-      counted = omega (arith, c.visit_checked-index.ensures.directories, c.saturating_add-self-2.ensures);
-      known = c.read_names.ensures.known;
+      at = c.visit_checked-index.ensures.rest.at ∙ at;
+      entries = ap (λ e. e.now) c.visit_checked-index.ensures.rest.entries ∙ table;
+      next_unique = c.visit_checked-index.ensures.rest.next_unique ∙ next;
+      more = omega (arith, c.visit_checked-index.ensures.rest.directories, c.saturating_add-self-2.ensures, c.read_entry.ensures.rest.directories, c.reach.ensures.rest.directories);
+      counted = omega (arith, c.visit_checked-index.ensures.rest.directories, c.saturating_add-self-2.ensures);
+      known = c.read_names.ensures.reads.known;
       are = λ h. (names h).are;
       is = λ h. (names h).is;
       seen = are;
-      reads = reads_then c.in_ok-body.ensures.reads c.in_ok-names.ensures.reads;
+      reads = reads_then c.in_ok-body.ensures.reads.reads c.in_ok-names.ensures.reads.reads;
     }
 
 pub loop-index-preserved : goal.loop-index-preserved
@@ -102,50 +102,38 @@ loop-index-preserved g t c =
     let J : List Event = g.D.Drive.journal c.args.drive.now in
     let K : List Event = g.D.Drive.journal c.visit.new.drive in
     let es : List (List ℕ × DirEntry) = c.in_ok-names.names.dir.entries.entries in
-    let journal : K ≡ J = c.visit.ensures.reads.journal ∙ c.loop-index.invariant.reads.journal in
+    let journal : K ≡ J = c.visit.ensures.reads.reads.journal ∙ c.loop-index.invariant.reads.journal in
     let there : slice_get es c.loop-index.index ≡ Some (c.unwrap.result.0.now, c.unwrap.result.1.now) = sym c.get_index.ensures.entry ∙ ap (option_map deref_pair) c.unwrap.ensures in
-    let at : c.visit.new.self.at ≡ c.args.self.now.at = c.visit.ensures.at ∙ c.loop-index.invariant.at in
-    let entries : c.visit.new.self.entries.now ≡ c.args.self.now.entries.now = c.visit.ensures.entries ∙ c.loop-index.invariant.entries in
-    let next : c.visit.new.self.next_unique ≡ c.args.self.now.next_unique = c.visit.ensures.next_unique ∙ c.loop-index.invariant.next_unique in
+    let at : c.visit.new.self.at ≡ c.args.self.now.at = c.visit.ensures.goes_on.at ∙ c.loop-index.invariant.at in
+    let entries : c.visit.new.self.entries.now ≡ c.args.self.now.entries.now = c.visit.ensures.goes_on.entries ∙ c.loop-index.invariant.entries in
+    let next : c.visit.new.self.next_unique ≡ c.args.self.now.next_unique = c.visit.ensures.goes_on.next_unique ∙ c.loop-index.invariant.next_unique in
     let seen : IsTrue (g.D.Drive.honest c.visit.new.drive) → AreSeen (held J) es c.keep_seen.new.files = λ h.
-    c.keep_seen.ensures (held J) es (subst (λ (L : List Event). IsKnown (held L) c.visit.new.known) journal (c.visit.ensures.known h))
+    c.keep_seen.ensures (held J) es (subst (λ (L : List Event). IsKnown (held L) c.visit.new.known) journal (c.visit.ensures.reads.known h))
     (record { name = (c.unwrap.result.0.now, c.unwrap.result.1.now); there = there; kind = c.child-child.ensures.kind; address = c.child-child.ensures.address; unique = c.child-child.ensures.unique })
-    (c.loop-index.invariant.seen (c.visit.ensures.reads.honest h)) in
+    (c.loop-index.invariant.seen (c.visit.ensures.reads.reads.honest h)) in
     record {
       begun = λ h.
           let visits = visits_same _ _ c.loop-index.self c.args.self.now _ _ _ c.loop-index.invariant.reads.journal c.loop-index.invariant.at c.loop-index.invariant.entries (c.in_ok-visit.ensures.visits h) in
-          goes_on_same J c.visit.new.self c.args.self.now c.visit_checked-index-in-loop-index.new.self c.keep_seen.new.files (c.loop-index.index + 1) c.visit_checked-index-in-loop-index.result c.args.node.now es at entries next (omega (arith, c.requires.within)) (seen h) c.visit_checked-index-in-loop-index.ensures.visits
+          goes_on_same J c.visit.new.self c.args.self.now c.visit_checked-index-in-loop-index.new.self c.keep_seen.new.files (c.loop-index.index + 1) c.visit_checked-index-in-loop-index.result c.args.node.now es at entries next (omega (arith, c.requires.within.within)) (seen h) c.visit_checked-index-in-loop-index.ensures.visits
           (begun_more (nodes_of J c.args.self.now) c.args.self.now c.loop-index.self c.visit.new.self c.args.node.now c.child-child.result es c.loop-index.index
           c.unwrap.result.0.now c.unwrap.result.1.now there c.child-child.ensures.kind c.child-child.ensures.address c.child-child.ensures.unique c.child-child.ensures.above c.child-child.ensures.depth
-          c.loop-index.invariant.next_unique (c.loop-index.invariant.begun (c.visit.ensures.reads.honest h)) visits);
-      at = c.visit_checked-index-in-loop-index.ensures.at ∙ at;
-      entries = ap (λ e. e.now) c.visit_checked-index-in-loop-index.ensures.entries ∙ entries;
-      next_unique = c.visit_checked-index-in-loop-index.ensures.next_unique ∙ next;
-      more = omega (arith, c.visit_checked-index-in-loop-index.ensures.directories, c.visit.ensures.more, c.loop-index.invariant.more);
-      counted = omega (arith, c.visit_checked-index-in-loop-index.ensures.directories, c.visit.ensures.more, c.loop-index.invariant.counted);
-      known = c.visit.ensures.known;
-      are = λ h. c.loop-index.invariant.are (c.visit.ensures.reads.honest h);
-      is = λ h. c.loop-index.invariant.is (c.visit.ensures.reads.honest h);
+          c.loop-index.invariant.next_unique (c.loop-index.invariant.begun (c.visit.ensures.reads.reads.honest h)) visits);
+      at = c.visit_checked-index-in-loop-index.ensures.rest.at ∙ at;
+      entries = ap (λ e. e.now) c.visit_checked-index-in-loop-index.ensures.rest.entries ∙ entries;
+      next_unique = c.visit_checked-index-in-loop-index.ensures.rest.next_unique ∙ next;
+      more = omega (arith, c.visit_checked-index-in-loop-index.ensures.rest.directories, c.visit.ensures.goes_on.more, c.loop-index.invariant.more);
+      counted = omega (arith, c.visit_checked-index-in-loop-index.ensures.rest.directories, c.visit.ensures.goes_on.more, c.loop-index.invariant.counted);
+      known = c.visit.ensures.reads.known;
+      are = λ h. c.loop-index.invariant.are (c.visit.ensures.reads.reads.honest h);
+      is = λ h. c.loop-index.invariant.is (c.visit.ensures.reads.reads.honest h);
       seen = seen;
-      reads = reads_then c.loop-index.invariant.reads c.in_ok-visit.ensures.reads;
+      reads = reads_then c.loop-index.invariant.reads c.in_ok-visit.ensures.reads.reads;
     }
 
 pub returns-clause-visits : goal.returns-clause-visits
 returns-clause-visits g t c = λ h.
     let long : length c.in_ok-names.names.dir.entries.entries ≤ c.loop-index.index = omega (arith, c.loop-index-test.false, c.len-count.ensures.len) in
     begun_all (nodes_of (g.D.Drive.journal c.args.drive.now) c.args.self.now) c.args.self.now c.loop-index.self c.args.node.now c.in_ok-names.names.dir.entries.entries c.loop-index.index long c.in-Directory.is (c.loop-index.invariant.begun h)
-
-pub returns-clause-known : goal.returns-clause-known
-returns-clause-known g t c = λ h.
-    let journal = sym c.loop-index.invariant.reads.journal in
-    let extent : Extent = c.in-Some.extent in
-    let dir : Dir = c.in_ok-names.names.dir in
-    c.keep_directory.ensures (held (g.D.Drive.journal c.loop-index.drive))
-    (record {
-      are = subst (λ (K : List Event). All IsBlock (data_of (held K) extent)) journal (c.loop-index.invariant.are h);
-      is = subst (λ (K : List Event). IsDirectory dir.parent dir.entries.entries extent.first extent.size (data_of (held K) extent)) journal (c.loop-index.invariant.is h);
-      seen = subst (λ (K : List Event). AreSeen (held K) dir.entries.entries c.loop-index.files) journal (c.loop-index.invariant.seen h);
-    }) (c.loop-index.invariant.known h)
 
 pub returns-in_err-entry_at-clause-refused : goal.returns-in_err-entry_at-clause-refused
 returns-in_err-entry_at-clause-refused g t c =
@@ -160,18 +148,18 @@ returns-in_err-body-clause-refused g t c =
     let long : length (take c.args.self.now.at (held J)) ≤ c.args.self.now.at = omega (arith, length-take c.args.self.now.at (held J)) in
     let q = err_from_is_err_and c.from_residual-in_err-body.result c.from_residual-in_err-body.ensures.1 in
     rw (q.1, q.2) (λ h.
-    body_refused (take c.args.self.now.at (held J)) c.args.self.now long c.args.node.now c.in_ok-entry_at.entry_at c.in_ok-entry_at.ensures.leads c.reach.new.self c.reach.ensures.at c.reach.ensures.next_unique c.reach.ensures.uniques _
-    (subst (λ (n : ℕ). IsBodyRefused (take n (held J)) c.reach.new.self c.in_ok-entry_at.entry_at c.args.node.now c.in_err-body.field-0.0) c.reach.ensures.at (c.in_err-body.ensures.refused h)))
+    body_refused (take c.args.self.now.at (held J)) c.args.self.now long c.args.node.now c.in_ok-entry_at.entry_at c.in_ok-entry_at.ensures.leads c.reach.new.self c.reach.ensures.rest.at c.reach.ensures.rest.next_unique c.reach.ensures.rest.uniques _
+    (subst (λ (n : ℕ). IsBodyRefused (take n (held J)) c.reach.new.self c.in_ok-entry_at.entry_at c.args.node.now c.in_err-body.field-0.0) c.reach.ensures.rest.at (c.in_err-body.ensures.refused h)))
 
 pub returns-in_err-names-clause-refused : goal.returns-in_err-names-clause-refused
 returns-in_err-names-clause-refused g t c =
     let J : List Event = g.D.Drive.journal c.args.drive.now in
     let q = err_from_is_err_and c.from_residual-in_err-names.result c.from_residual-in_err-names.ensures.1 in
     rw (q.1, q.2) (λ h.
-    let entry = subst (λ (n : ℕ). HasFileEntry (take n (held J)) c.in_ok-entry_at.entry_at c.args.node.now c.in_ok-body.body) c.reach.ensures.at (c.in_ok-body.ensures.entry (c.read_names.ensures.reads.honest h)) in
-    let below = subst (λ (o : Option Extent). IfSome o (LiesBelow c.args.self.now.at)) c.in-Some.is (subst (λ (n : ℕ). IfSome c.in_ok-body.body.extent (LiesBelow n)) c.reach.ensures.at c.in_ok-body.ensures.extent) in
+    let entry = subst (λ (n : ℕ). HasFileEntry (take n (held J)) c.in_ok-entry_at.entry_at c.args.node.now c.in_ok-body.body) c.reach.ensures.rest.at (c.in_ok-body.ensures.body.entry (c.read_names.ensures.reads.reads.honest h)) in
+    let below = subst (λ (o : Option Extent). IfSome o (LiesBelow c.args.self.now.at)) c.in-Some.is (subst (λ (n : ℕ). IfSome c.in_ok-body.body.extent (LiesBelow n)) c.reach.ensures.rest.at c.in_ok-body.ensures.body.extent) in
     names_refused (held J) c.args.self.now c.args.node.now c.in_ok-entry_at.entry_at c.in_ok-entry_at.ensures.leads c.in_ok-body.body entry c.in-Directory.is c.in-Some.extent c.in-Some.is below _
-    (subst (λ (K : List Event). IsNamesRefused (held K) c.args.node.now.above c.in_ok-body.body.links c.in-Some.extent c.in_err-names.field-0.0) c.read_entry.ensures.reads.journal (c.in_err-names.ensures.refused h)))
+    (subst (λ (K : List Event). IsNamesRefused (held K) c.args.node.now.above c.in_ok-body.body.links c.in-Some.extent c.in_err-names.field-0.0) c.read_entry.ensures.reads.reads.journal (c.in_err-names.ensures.refused h)))
 
 pub returns-in_err-visit-clause-refused : goal.returns-in_err-visit-clause-refused
 returns-in_err-visit-clause-refused g t c =
@@ -181,10 +169,25 @@ returns-in_err-visit-clause-refused g t c =
     rw (q.1, q.2) (λ h.
     child_refused (nodes_of J c.args.self.now) c.args.self.now c.loop-index.self c.args.node.now c.child-child.result c.in_ok-names.names.dir.entries.entries c.loop-index.index
     c.unwrap.result.0.now c.unwrap.result.1.now there c.child-child.ensures.kind c.child-child.ensures.address c.child-child.ensures.unique c.child-child.ensures.above c.child-child.ensures.depth
-    c.loop-index.invariant.next_unique (c.loop-index.invariant.begun (c.visit.ensures.reads.honest h)) _
+    c.loop-index.invariant.next_unique (c.loop-index.invariant.begun (c.visit.ensures.reads.reads.honest h)) _
     (refused_same _ _ c.loop-index.self c.args.self.now _ _ c.in_err-visit.field-0.0 c.loop-index.invariant.reads.journal c.loop-index.invariant.at c.loop-index.invariant.entries (c.in_err-visit.ensures.refused h)))
+
+pub returns-clause-reads : goal.returns-clause-reads
+returns-clause-reads g t c = record { reads = c.loop-index.invariant.reads; known = known }
+  where
+    known : IsTrue (g.D.Drive.honest c.loop-index.drive) → IsKnown (held (g.D.Drive.journal c.loop-index.drive)) c.keep_directory.new.self
+    known = λ h.
+        let journal = sym c.loop-index.invariant.reads.journal in
+        let extent : Extent = c.in-Some.extent in
+        let dir : Dir = c.in_ok-names.names.dir in
+        c.keep_directory.ensures (held (g.D.Drive.journal c.loop-index.drive))
+        (record {
+          are = subst (λ (K : List Event). All IsBlock (data_of (held K) extent)) journal (c.loop-index.invariant.are h);
+          is = subst (λ (K : List Event). IsDirectory dir.parent dir.entries.entries extent.first extent.size (data_of (held K) extent)) journal (c.loop-index.invariant.is h);
+          seen = subst (λ (K : List Event). AreSeen (held K) dir.entries.entries c.loop-index.files) journal (c.loop-index.invariant.seen h);
+        }) (c.loop-index.invariant.known h)
 
 pub returns-in_err-visit-clause-reads : goal.returns-in_err-visit-clause-reads
 returns-in_err-visit-clause-reads g t c =
     let q = err_from_is_err_and c.from_residual-in_err-visit.result c.from_residual-in_err-visit.ensures.1 in
-    rw (q.1, q.2) (reads_then c.loop-index.invariant.reads c.in_err-visit.ensures.reads)
+    rw (q.1, q.2) (record { reads = reads_then c.loop-index.invariant.reads c.in_err-visit.ensures.reads.reads; known = c.in_err-visit.ensures.reads.known })

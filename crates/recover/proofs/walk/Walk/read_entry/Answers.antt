@@ -12,32 +12,29 @@ use Rattle.recover.proofs.Taken.{ends_below, other_entry, unread}
 use Rattle.recover.proofs.walk.Walk.read_entry.Goals.{then-not-is_kind-via-then-not-is_kind, then-not-is_kind-via-else-not-is_kind+then-entry-from, then-not-is_new-via-then-not-is_new, then-not-is_new-via-else-not-is_new+then-not-has_links}
 use Rattle.recover.proofs.walk.Walk.read_entry.Goals as goal
 
-pub returns-clause-entry : goal.returns-clause-entry
-returns-clause-entry g c = λ h.
-    let said = c.in_ok-entry.ensures.described h in
-    let wide = said.unique in
-    record {
-      block = said.block;
-      there = lies_there _ c.args.self.now.at c.args.entry_at said.block c.requires.below said.there;
-      fields = said.fields;
-      is = said.is;
-      kind = sym said.kind ∙ c.is_kind.ensures.0 c.if-not-is_kind.false;
-      unique = (let e : said.fields.unique ≡ c.args.node.now.unique = omega (arith, c.if-entry-from.false, c.from.ensures, wide) in e);
-      links = sym said.links;
-      file = λ file. sym said.links ∙ c.has_links.ensures.0 c.if-not-has_links.false file;
-      extent = said.extent;
-    }
+pub returns-clause-body : goal.returns-clause-body
+returns-clause-body g c = record {
+  entry = λ h.
+      let said = c.in_ok-entry.ensures.described h in
+      let wide = said.unique in
+      record {
+        block = said.block;
+        there = lies_there _ c.args.self.now.at c.args.entry_at said.block c.requires.below said.there;
+        fields = said.fields;
+        is = said.is;
+        kind = sym said.kind ∙ c.is_kind.ensures.0 c.if-not-is_kind.false;
+        unique = (let e : said.fields.unique ≡ c.args.node.now.unique = omega (arith, c.if-entry-from.false, c.from.ensures, wide) in e);
+        links = sym said.links;
+        file = λ file. sym said.links ∙ c.has_links.ensures.0 c.if-not-has_links.false file;
+        extent = said.extent;
+      };
+  extent =
+      extent_lies c.args.self.now.at c.in_ok-entry.entry.extent c.in_ok-entry.entry.fits
+      (subst (λ (n : ℕ). IfSome c.in_ok-entry.entry.extent (λ (e : Extent). e.first + 257 + div_ceil e.size 2048 ≤ n)) c.is_new_unique.ensures.rest.at (c.is_below.ensures.0 c.if-not-is_below.false));
+}
 
-pub returns-clause-extent : goal.returns-clause-extent
-returns-clause-extent g c =
-    extent_lies c.args.self.now.at c.in_ok-entry.entry.extent c.in_ok-entry.entry.fits
-    (subst (λ (n : ℕ). IfSome c.in_ok-entry.entry.extent (λ (e : Extent). e.first + 257 + div_ceil e.size 2048 ≤ n)) c.is_new_unique.ensures.at (c.is_below.ensures.0 c.if-not-is_below.false))
-
-pub returns-clause-drawn : goal.returns-clause-drawn
-returns-clause-drawn g c = c.in_ok-is_new.ensures.drawn c.if-not-is_new.false
-
-pub returns-clause-uniques : goal.returns-clause-uniques
-returns-clause-uniques g c = c.in_ok-is_new.ensures.uniques c.if-not-is_new.false
+pub returns-clause-unique : goal.returns-clause-unique
+returns-clause-unique g c = record { drawn = c.in_ok-is_new.ensures.drawn c.if-not-is_new.false; uniques = c.in_ok-is_new.ensures.uniques c.if-not-is_new.false }
 
 pub returns-in_err-entry-clause-refused : goal.returns-in_err-entry-clause-refused
 returns-in_err-entry-clause-refused g c =
@@ -74,5 +71,5 @@ returns-then-not-is_below-clause-refused g c = rw c.damaged-then-not-is_below.en
     (lies_there _ c.args.self.now.at c.args.entry_at said.block c.requires.below said.there) said.fields said.is
     (λ (kind, unique, file, below, drawn, fresh).
     let ends = ends_below c.args.self.now.at c.in_ok-entry.entry.extent (subst (λ (o : Option Extent). IfSome o (LiesBelow c.args.self.now.at)) (sym said.extent) below) in
-    let there = subst (λ (n : ℕ). IfSome c.in_ok-entry.entry.extent (λ (e : Extent). e.first + 257 + div_ceil e.size 2048 ≤ n)) (sym c.is_new_unique.ensures.at) ends in
+    let there = subst (λ (n : ℕ). IfSome c.in_ok-entry.entry.extent (λ (e : Extent). e.first + 257 + div_ceil e.size 2048 ≤ n)) (sym c.is_new_unique.ensures.rest.at) ends in
     false≢true (sym c.if-not-is_below.true ∙ c.is_below.ensures.1 there)))

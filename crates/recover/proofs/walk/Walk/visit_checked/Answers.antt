@@ -9,12 +9,12 @@ loop-index-preserved c = record {
   visits =
       goes_on c.args.self.now c.loop-index.self c.are_unchanged.new.self c.args.files.now c.args.depth c.args.from c.loop-index.index c.loop-index.invariant.at
       (ap (λ e. e.now) c.loop-index.invariant.entries) c.loop-index.invariant.next_unique
-      (λ J entries within are. c.are_unchanged.ensures.visits J entries c.loop-index-test.true within are) c.loop-index.invariant.visits;
+      (c.are_unchanged.ensures.visits c.loop-index-test.true) c.loop-index.invariant.visits;
   on = omega (arith, c.loop-index.invariant.on);
-  at = c.are_unchanged.ensures.at ∙ c.loop-index.invariant.at;
-  entries = c.are_unchanged.ensures.entries ∙ c.loop-index.invariant.entries;
-  next_unique = c.are_unchanged.ensures.next_unique ∙ c.loop-index.invariant.next_unique;
-  directories = c.are_unchanged.ensures.directories ∙ c.loop-index.invariant.directories;
+  at = c.are_unchanged.ensures.rest.at ∙ c.loop-index.invariant.at;
+  entries = c.are_unchanged.ensures.rest.entries ∙ c.loop-index.invariant.entries;
+  next_unique = c.are_unchanged.ensures.rest.next_unique ∙ c.loop-index.invariant.next_unique;
+  directories = c.are_unchanged.ensures.rest.directories ∙ c.loop-index.invariant.directories;
 }
 
 pub returns-clause-visits : goal.returns-clause-visits

@@ -15,7 +15,7 @@ use Rattle.lookup.specs.Cache.{AreKept}
 use Rattle.planning.specs.Needs.{change_need}
 use Rattle.table_update.specs.NextTable.{begun}
 use Rattle.planning.specs.Plan.{IsPlan}
-use Rattle.store.specs.Putting.{IsPlanOf}
+use Rattle.store.specs.Putting.{IsPlanOf, KeepsPlan}
 use Rattle.table_update.specs.TableChange.{committed}
 use Rattle.store.proofs.Commits.{if_ok, makes_plan, plan_is, writes_plan, has_failed, goes_on, open_is_ok, some_is}
 use Rattle.store.proofs.Applying.{applies, full, short, unwritten, withstands}
@@ -52,7 +52,7 @@ pub returns-clause-commit : goal.returns-clause-commit
 returns-clause-commit g c =
     let plan = c.in_ok-plan.plan in
     let commits = c.args.self.now.vat.sessions.commits in
-    if_ok c.commit.result (λ (reply : Reply). reply ≡ plan.reply) (λ (reply : Reply). reply.commit ≡ commits + 1) (λ reply same. ap (λ (r : Reply). r.commit) same ∙ c.in_ok-plan.ensures.commit) c.commit.ensures.reply
+    if_ok c.commit.result (KeepsPlan plan (g.D.Drive.journal c.plan.new.drive) (g.D.Drive.journal c.commit.new.drive) _ c.commit.new.self) (λ (reply : Reply). reply.commit ≡ commits + 1) (λ reply keeps. ap (λ (r : Reply). r.commit) keeps.reply_is ∙ c.in_ok-plan.ensures.makes.commit) c.commit.ensures.done
 
 pub returns-clause-written : goal.returns-clause-written
 returns-clause-written g c =
@@ -63,8 +63,8 @@ returns-clause-written g c =
     let is : IsPlan (next_of J) capacity plan = plan_is J (g.D.Drive.journal c.change.new.drive) capacity (g.D.Drive.capacity c.change.new.drive) plan c.change.ensures.reads.journal c.change.ensures.reads.capacity c.in_ok-plan.ensures.plan in
     let change = c.in_ok-change.change in
     let of_moment : c.unwrap-moment.result ≡ c.args.request.now.moment = some_is c.of.result c.unwrap-moment.result c.args.request.now.moment _ (search rules) c.of.ensures in
-    let makes : IsPlanOf c.args.self.now c.args.request.now change plan = makes_plan c.args.self.now c.args.request.now change plan c.unwrap-moment.result of_moment c.in_ok-plan.ensures.moment c.in_ok-plan.ensures.code c.in_ok-plan.ensures.commit c.in_ok-plan.ensures.writings c.in_ok-plan.ensures.table in
-    writes_plan c.commit.result K J (g.D.Drive.journal c.commit.new.drive) c.args.self.now c.args.request.now capacity change plan c.commit.new.self (c.plan.ensures.reads.journal ∙ c.change.ensures.reads.journal) makes is c.commit.ensures.reply c.commit.ensures.at c.commit.ensures.vat c.commit.ensures.written
+    let makes : IsPlanOf c.args.self.now c.args.request.now change plan = makes_plan c.args.self.now _ c.args.request.now change plan c.unwrap-moment.result of_moment c.in_ok-plan.ensures.makes refl refl in
+    writes_plan c.commit.result K J (g.D.Drive.journal c.commit.new.drive) c.args.self.now c.args.request.now capacity change plan _ c.commit.new.self (c.plan.ensures.reads.journal ∙ c.change.ensures.reads.journal) makes is c.commit.ensures.done
 
 pub returns-then-self-clause-stopped : goal.returns-then-self-clause-stopped
 returns-then-self-clause-stopped g c h = (refl, refl, refl)
@@ -91,17 +91,17 @@ returns-clause-refused g c =
     let is : IsPlan (next_of J) capacity plan = plan_is J (g.D.Drive.journal c.change.new.drive) capacity (g.D.Drive.capacity c.change.new.drive) plan c.change.ensures.reads.journal c.change.ensures.reads.capacity c.in_ok-plan.ensures.plan in
     let change = c.in_ok-change.change in
     let of_moment : c.unwrap-moment.result ≡ c.args.request.now.moment = some_is c.of.result c.unwrap-moment.result c.args.request.now.moment _ (search rules) c.of.ensures in
-    let makes : IsPlanOf c.args.self.now c.args.request.now change plan = makes_plan c.args.self.now c.args.request.now change plan c.unwrap-moment.result of_moment c.in_ok-plan.ensures.moment c.in_ok-plan.ensures.code c.in_ok-plan.ensures.commit c.in_ok-plan.ensures.writings c.in_ok-plan.ensures.table in
-    has_failed c.commit.result K J (g.D.Drive.journal c.commit.new.drive) c.args.self.now c.args.request.now capacity change plan c.commit.new.self (c.plan.ensures.reads.journal ∙ c.change.ensures.reads.journal) makes is c.commit.ensures.front c.commit.ensures.device c.commit.ensures.stopped c.commit.ensures.as_before c.commit.ensures.volume
+    let makes : IsPlanOf c.args.self.now c.args.request.now change plan = makes_plan c.args.self.now _ c.args.request.now change plan c.unwrap-moment.result of_moment c.in_ok-plan.ensures.makes refl refl in
+    has_failed c.commit.result K J (g.D.Drive.journal c.commit.new.drive) c.args.self.now c.args.request.now capacity change plan _ c.commit.new.self (c.plan.ensures.reads.journal ∙ c.change.ensures.reads.journal) makes is c.commit.ensures.failed refl refl refl
 
 pub returns-clause-unwritten : goal.returns-clause-unwritten
-returns-clause-unwritten g c = open_is_ok c.commit.result c.commit.new.self.is_stopped _ c.commit.ensures.stopped
+returns-clause-unwritten g c = open_is_ok c.commit.result _ _ _ _ c.commit.new.self _ c.commit.ensures.failed
 
 pub returns-clause-stopped : goal.returns-clause-stopped
 returns-clause-stopped g c h = absurd (false≢true (sym c.if-self.false ∙ h))
 
 pub returns-clause-goes_on : goal.returns-clause-goes_on
-returns-clause-goes_on g c = goes_on c.commit.result c.commit.new.self.is_stopped c.commit.ensures.stopped
+returns-clause-goes_on g c = goes_on c.commit.result _ _ _ _ c.commit.new.self c.commit.ensures.done
 
 pub returns-clause-follows : goal.returns-clause-follows
 returns-clause-follows g c = reads_follows c.in_ok-change.ensures.reads (reads_follows c.in_ok-plan.ensures.reads c.commit.ensures.follows)
@@ -158,13 +158,12 @@ returns-clause-applies g c volume S honest knows going =
     let going_on = shows capacity volume J S store knows (g.D.Drive.honest c.change.new.drive) after_change in
     let does = does_at capacity volume J S store knows r change c.unwrap-moment.result of_moment (c.in_ok-change.ensures.does S.tree going_on (record { count = nodes capacity volume J S store knows; few = few capacity volume J S store knows })) in
     let is : IsPlan (next_of J) capacity plan = plan_is J (g.D.Drive.journal c.change.new.drive) capacity (g.D.Drive.capacity c.change.new.drive) plan c.change.ensures.reads.journal c.change.ensures.reads.capacity c.in_ok-plan.ensures.plan in
-    let makes : IsPlanOf c.args.self.now c.args.request.now change plan = makes_plan c.args.self.now c.args.request.now change plan c.unwrap-moment.result of_moment c.in_ok-plan.ensures.moment c.in_ok-plan.ensures.code c.in_ok-plan.ensures.commit c.in_ok-plan.ensures.writings c.in_ok-plan.ensures.table in
+    let makes : IsPlanOf c.args.self.now c.args.request.now change plan = makes_plan c.args.self.now _ c.args.request.now change plan c.unwrap-moment.result of_moment c.in_ok-plan.ensures.makes refl refl in
     let room = subst (λ (L : List Event). next_of L + change_need c.in_ok-change.change (begun c.args.self.now.vat_icb_address c.args.request.now.client c.args.request.now.number (code_number c.in_ok-change.change.code) c.in_ok-change.change.made (view c.args.self.now.vat)) ≤ c.args.self.now.capacity) c.change.ensures.reads.journal c.in_ok-plan.ensures.room in
     let same : K ≡ J = c.plan.ensures.reads.journal ∙ c.change.ensures.reads.journal in
     let once = subst (λ (L : List Event). Once L) (sym same) knows.once in
     let kept = subst (λ (L : List Event). AreKept L c.change.new.cache) (sym same) (c.change.ensures.kept after_change knows.kept) in
-    applies capacity volume J S store knows r change does plan makes is room c.commit.result K (g.D.Drive.journal c.commit.new.drive) c.commit.new.self same c.commit.ensures.reply c.commit.ensures.at c.commit.ensures.vat
-    c.commit.ensures.written c.commit.ensures.front c.commit.ensures.device c.commit.ensures.stopped c.commit.ensures.volume (c.commit.ensures.kept once kept)
+    applies capacity volume J S store knows r change does plan makes is room c.commit.result K (g.D.Drive.journal c.commit.new.drive) _ c.commit.new.self same c.commit.ensures.done c.commit.ensures.failed refl (c.commit.ensures.kept once kept)
 
 pub returns-clause-withstands : goal.returns-clause-withstands
 returns-clause-withstands g c volume S honest knows =
@@ -180,10 +179,10 @@ returns-clause-withstands g c volume S honest knows =
     let going_on = shows capacity volume J S store knows (g.D.Drive.honest c.change.new.drive) after_change in
     let does = does_at capacity volume J S store knows r change c.unwrap-moment.result of_moment (c.in_ok-change.ensures.does S.tree going_on (record { count = nodes capacity volume J S store knows; few = few capacity volume J S store knows })) in
     let is : IsPlan (next_of J) capacity plan = plan_is J (g.D.Drive.journal c.change.new.drive) capacity (g.D.Drive.capacity c.change.new.drive) plan c.change.ensures.reads.journal c.change.ensures.reads.capacity c.in_ok-plan.ensures.plan in
-    let makes : IsPlanOf c.args.self.now c.args.request.now change plan = makes_plan c.args.self.now c.args.request.now change plan c.unwrap-moment.result of_moment c.in_ok-plan.ensures.moment c.in_ok-plan.ensures.code c.in_ok-plan.ensures.commit c.in_ok-plan.ensures.writings c.in_ok-plan.ensures.table in
+    let makes : IsPlanOf c.args.self.now c.args.request.now change plan = makes_plan c.args.self.now _ c.args.request.now change plan c.unwrap-moment.result of_moment c.in_ok-plan.ensures.makes refl refl in
     let room = subst (λ (L : List Event). next_of L + change_need c.in_ok-change.change (begun c.args.self.now.vat_icb_address c.args.request.now.client c.args.request.now.number (code_number c.in_ok-change.change.code) c.in_ok-change.change.made (view c.args.self.now.vat)) ≤ c.args.self.now.capacity) c.change.ensures.reads.journal c.in_ok-plan.ensures.room in
     withstands capacity volume J S store knows r change does plan makes is room {drive = g.D.Drive} c.commit.result c.plan.new.drive c.commit.new.drive (g.D.Drive.writes c.args.drive.now) (c.plan.ensures.reads.writes ∙ c.change.ensures.reads.writes)
-    c.commit.ensures.alone (c.plan.ensures.reads.journal ∙ c.change.ensures.reads.journal) c.commit.ensures.written c.commit.ensures.front c.commit.ensures.device
+    c.commit.ensures.alone (c.plan.ensures.reads.journal ∙ c.change.ensures.reads.journal) _ c.commit.new.self c.commit.ensures.done c.commit.ensures.failed
 
 pub returns-then-self-clause-withstands : goal.returns-then-self-clause-withstands
 returns-then-self-clause-withstands g c volume S honest knows =

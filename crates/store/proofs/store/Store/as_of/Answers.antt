@@ -9,7 +9,7 @@ use Rattle.recover.specs.declared.fault.StoreFault.{StoreFault}
 use Rattle.recover.specs.State.{IsStateRefused}
 use Rattle.store.specs.Past.{IsPastRefused}
 use Rattle.store.proofs.Pasts.{past_shown, state_refused, way_refused}
-use Rattle.table_update.proofs.BelowLemmas.{below_entry}
+use Rattle.recover.proofs.BelowLemmas.{below_entry}
 use Rattle.store.proofs.store.Store.as_of.Goals as goal
 
 pub invariant_of-result : goal.invariant_of-result

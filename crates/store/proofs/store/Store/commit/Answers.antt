@@ -43,15 +43,19 @@ returns-then-is_err-clause-agrees g c =
       fits = omega (arith, c.requires.agrees.fits, c.write-written.ensures.writes.capacity);
     }
 
-pub returns-then-is_err-clause-front : goal.returns-then-is_err-clause-front
-returns-then-is_err-clause-front g c =
+pub returns-then-is_err-clause-failed : goal.returns-then-is_err-clause-failed
+returns-then-is_err-clause-failed g c =
     let J = g.D.Drive.journal c.args.drive.now in
     let J' = g.D.Drive.journal c.write-written.new.drive in
     let failed : is_err c.write-written.result ≡ true = sym c.is_err.ensures.value ∙ c.if-is_err.true in
-    on_err c.write-written.result (AddsPrefix J (next_of J) (plan_blocks c.args.plan) J') failed c.write-written.ensures.err
-
-pub returns-then-is_err-clause-as_before : goal.returns-then-is_err-clause-as_before
-returns-then-is_err-clause-as_before g c = (refl, refl)
+    record {
+      device = refl;
+      front = on_err c.write-written.result (AddsPrefix J (next_of J) (plan_blocks c.args.plan) J') failed c.write-written.ensures.err;
+      at = refl;
+      vat = refl;
+      volume = refl;
+      stopped = refl;
+    }
 
 pub returns-clause-agrees : goal.returns-clause-agrees
 returns-clause-agrees g c =
@@ -59,8 +63,8 @@ returns-clause-agrees g c =
     let J' = g.D.Drive.journal c.write-written.new.drive in
     let done : is_err c.write-written.result ≡ false = sym c.is_err.ensures.value ∙ c.if-is_err.false in
     let all = on_ok c.write-written.result (J' ≡ J ++ written (next_of J) (plan_blocks c.args.plan)) done c.write-written.ensures.ok in
-    let at : c.loop-placed.self.vat_icb_address ≡ c.args.plan.table.at = c.loop-placed.invariant.at ∙ ap (λ (t : PlacedTable). t.at) c.write-written.ensures.table in
-    let vat : c.loop-placed.self.vat ≡ c.args.plan.table.vat = c.loop-placed.invariant.vat ∙ ap (λ (t : PlacedTable). t.vat) c.write-written.ensures.table in
+    let at : c.loop-placed.self.vat_icb_address ≡ c.args.plan.table.at = c.loop-placed.invariant.at ∙ ap (λ (t : PlacedTable). t.at) c.write-written.ensures.same.table in
+    let vat : c.loop-placed.self.vat ≡ c.args.plan.table.vat = c.loop-placed.invariant.vat ∙ ap (λ (t : PlacedTable). t.vat) c.write-written.ensures.same.table in
     let ends = writes_ends (next_of J) J J' (plan_blocks c.args.plan) (omega arith) all in
     record {
       keeps = subst (λ n. HasTableBelow n c.loop-placed.self.vat) (sym at) (subst (λ (v : Vat). HasTableBelow c.args.plan.table.at v) (sym vat) c.requires.plan.keeps);
@@ -70,18 +74,19 @@ returns-clause-agrees g c =
       fits = omega (arith, c.loop-placed.invariant.capacity, c.requires.agrees.fits, c.write-written.ensures.writes.capacity);
     }
 
-pub returns-clause-at : goal.returns-clause-at
-returns-clause-at g c = c.loop-placed.invariant.at ∙ ap (λ (t : PlacedTable). t.at) c.write-written.ensures.table
-
-pub returns-clause-vat : goal.returns-clause-vat
-returns-clause-vat g c = c.loop-placed.invariant.vat ∙ ap (λ (t : PlacedTable). t.vat) c.write-written.ensures.table
-
-pub returns-clause-written : goal.returns-clause-written
-returns-clause-written g c =
+pub returns-clause-done : goal.returns-clause-done
+returns-clause-done g c =
     let J = g.D.Drive.journal c.args.drive.now in
     let J' = g.D.Drive.journal c.write-written.new.drive in
     let done : is_err c.write-written.result ≡ false = sym c.is_err.ensures.value ∙ c.if-is_err.false in
-    on_ok c.write-written.result (J' ≡ J ++ written (next_of J) (plan_blocks c.args.plan)) done c.write-written.ensures.ok
+    record {
+      reply_is = c.write-written.ensures.same.reply;
+      journal = on_ok c.write-written.result (J' ≡ J ++ written (next_of J) (plan_blocks c.args.plan)) done c.write-written.ensures.ok;
+      at = c.loop-placed.invariant.at ∙ ap (λ (t : PlacedTable). t.at) c.write-written.ensures.same.table;
+      vat = c.loop-placed.invariant.vat ∙ ap (λ (t : PlacedTable). t.vat) c.write-written.ensures.same.table;
+      volume = c.loop-placed.invariant.capacity;
+      going = c.loop-placed.invariant.stopped;
+    }
 
 pub returns-then-is_err-clause-kept : goal.returns-then-is_err-clause-kept
 returns-then-is_err-clause-kept g c once kept =
@@ -98,7 +103,7 @@ loop-placed-init g c = record {
   vat = refl;
   stopped = refl;
   kept = λ journal lie kept.
-      let same : c.args.plan.directories.items ≡ into_iter_items c.into_iter-placed-iterator.result = sym (c.into_iter-placed-iterator.ensures.into_iter_gives.0 ∙ c.write-written.ensures.directories) in
+      let same : c.args.plan.directories.items ≡ into_iter_items c.into_iter-placed-iterator.result = sym (c.into_iter-placed-iterator.ensures.into_iter_gives.0 ∙ c.write-written.ensures.same.directories) in
       (subst (λ (ps : List PlacedDirectory). All (λ (p : PlacedDirectory). LiesThere journal (placed_of p) p.directory.content) ps) same lie, kept);
 }
 

@@ -7,7 +7,7 @@ use Rattle.recover.specs.declared.fault.StoreFault.{StoreFault}
 use Rattle.recover.specs.State.{IsShown, IsStateRefused}
 use Rattle.recover.specs.Tables.{IsLastVatIcb}
 use Rattle.store.specs.Opened.{IsOpenRefused}
-use Rattle.table_update.proofs.BelowLemmas.{below_entry}
+use Rattle.recover.proofs.BelowLemmas.{below_entry}
 use Rattle.store.proofs.Opening.{knows_opened, not_read, opened_short, short_opened, shortage_opened}
 use Rattle.recover.proofs.States.{last_stands}
 use Rattle.store.proofs.store.Store.open.Goals as goal

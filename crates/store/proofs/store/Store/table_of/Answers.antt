@@ -6,7 +6,7 @@ use Rattle.vat.specs.Table.{view}
 use Rattle.durability.specs.Formats.{Table_}
 use Rattle.recover.proofs.Told.{one_read}
 use Rattle.recover.specs.Tables.{IsLinkRefused}
-use Rattle.store.proofs.Histories.{link_below, next_behind, no_link, one_before}
+use Rattle.store.proofs.Histories.{link_below, next_later, no_link, one_before}
 use Rattle.store.proofs.Ways.{more_than, way_end, way_first, way_link}
 use Rattle.store.proofs.store.Store.table_of.Goals as goal
 
@@ -52,7 +52,7 @@ loop-vat-preserved g c =
       low = (let low : 257 ≤ c.in-Some.number + 257 = omega arith in low);
       high = (let high : c.in-Some.number + 257 < next_of (g.D.Drive.journal c.args.drive.now) = omega (arith, below, c.loop-vat.invariant.high) in high);
       fits = (let fits : c.in-Some.number + 257 < 2 ^ 32 = omega (arith, below, c.loop-vat.invariant.fits) in fits);
-      link = next_behind _ c.in-Some.number c.in_ok-vat-2.ensures.previous;
+      link = next_later _ c.in-Some.number c.in_ok-vat-2.ensures.previous;
       reads = reads_then c.loop-vat.invariant.reads c.in_ok-vat-2.ensures.reads;
     }
 

@@ -1,0 +1,7 @@
+use Rattle.std.proofs.Common.{◌≤◌}
+use Rattle.drive.specs.Journal.{next_of}
+use Rattle.drive.specs.MemDrive.{journal_of}
+use Rattle.base_tests.proofs.steps.play.Given as goal
+
+abbrev pub invariant-loop-i : goal.invariant-loop-i
+invariant-loop-i l = l.next ≤ next_of (journal_of l.drive)

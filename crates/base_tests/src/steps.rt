@@ -1,0 +1,231 @@
+//! Tests of drives as lists of steps: each is a call and what it reports, or what is seen of the drive. What a write and a
+//! read require is looked at before each, so that a list may say anything.
+
+ghost use Rattle.std.specs.Prelude.{◌≡◌, ◌≤◌, IfOk};
+ghost use Rattle.drive.specs.Journal.{next_of};
+ghost use Rattle.drive.specs.MemDrive.{journal_of};
+
+use drive::{Block, Drive, DriveFault, Fault, FileDrive, Look, MemDrive, PACKET, open_image};
+use std::alloc::{AllocError, Global};
+use std::fs;
+use std::test::Fail;
+
+/// A step of a test of a drive.
+#[derive(Clone, Copy)]
+pub(crate) enum Step<'a> {
+    Capacity(u32),
+    /// The next address. What is written and read after it lies before it.
+    Next(Result<u32, DriveFault>),
+    /// Writes blocks that begin with these bytes, from an address on. After it `Next` comes again.
+    Write(u32, &'a [u8], Result<(), DriveFault>),
+    /// Writes a run of two slices of such blocks.
+    Run(u32, &'a [u8], &'a [u8], Result<(), DriveFault>),
+    /// Reads the block at an address.
+    Read(u32, Result<(), DriveFault>),
+    /// The block that is read into begins with this byte.
+    Holds(u8),
+    /// How many bytes a file has after its last whole block, which are read.
+    Part(Result<usize, DriveFault>),
+    /// Gives the file at a path so many bytes, beside its drive.
+    Resize(&'a str, u64),
+    /// Removes the file at a path, beside its drive.
+    Remove(&'a str),
+    /// Sets a fault of a drive in memory.
+    Arm(Fault),
+    /// How many blocks were written to a drive in memory.
+    Written(usize),
+    /// The address of one of them, and its first byte.
+    Event(usize, u32, u8),
+    /// How many calls of a drive in memory failed.
+    Failures(u64),
+}
+
+/// The step of this place did not go as it is written.
+#[derive(Clone, Copy, Debug)]
+struct NotSo {
+    step: usize,
+}
+
+/// A block that begins with this byte.
+pub(crate) fn block(first: u8) -> Block {
+    let mut block = [0; 2048];
+    block[0] = first;
+    block
+}
+
+/// Blocks that begin with these bytes.
+fn blocks(alloc: Global, firsts: &[u8]) -> Result<Vec<Block>, AllocError> {
+    let mut blocks = Vec::new(alloc);
+    for first in firsts {
+        blocks.push(block(*first))?;
+    }
+    Ok(blocks)
+}
+
+/// Writes at most a packet, where the next address is at least `next`.
+fn write<D: Drive>(
+    alloc: Global,
+    drive: &mut D,
+    next: u32,
+    at: u32,
+    firsts: &[u8],
+) -> Result<Result<(), DriveFault>, Fail>
+    requires { next ≤ next_of (D.journal drive.old) }
+{
+    let blocks = blocks(alloc, firsts)?;
+    let room = drive.capacity() as usize;
+    if at > next || blocks.len() > PACKET || at as usize + blocks.len() > room {
+        return Err(Fail::from("no write"));
+    }
+    Ok(drive.write(at, &blocks))
+}
+
+/// Writes a run, where the next address is at least `next`.
+fn write_run<D: Drive>(
+    alloc: Global,
+    drive: &mut D,
+    next: u32,
+    at: u32,
+    firsts: &[u8],
+    seconds: &[u8],
+) -> Result<Result<(), DriveFault>, Fail>
+    requires { next ≤ next_of (D.journal drive.old) }
+{
+    let first = blocks(alloc, firsts)?;
+    let second = blocks(alloc, seconds)?;
+    let room = drive.capacity() as usize;
+    if at > next || first.len() > room || second.len() > room {
+        return Err(Fail::from("no run"));
+    }
+    if at as usize + (first.len() + second.len()) > room {
+        return Err(Fail::from("no run"));
+    }
+    Ok(drive.write_run(at, &first, &second))
+}
+
+/// Reads a block, where the next address is at least `next`.
+fn read<D: Drive>(
+    drive: &mut D,
+    next: u32,
+    at: u32,
+    into: &mut Block,
+) -> Result<Result<(), DriveFault>, Fail>
+    requires { next ≤ next_of (D.journal drive.old) }
+    ensures { D.journal drive.new ≡ D.journal drive.old }
+{
+    if at >= next {
+        return Err(Fail::from("no read"));
+    }
+    Ok(drive.read(at, into))
+}
+
+/// A step on any drive: whether it went so, and how far the next address is known after it.
+fn step_on<D: Drive>(
+    alloc: Global,
+    drive: &mut D,
+    next: u32,
+    into: &mut Block,
+    step: &Step<'_>,
+) -> Result<(bool, u32), Fail>
+    requires { next ≤ next_of (D.journal drive.old) }
+    ensures { IfOk result (λ known. known.1 ≤ next_of (D.journal drive.new)) }
+{
+    match *step {
+        Step::Capacity(capacity) => Ok((drive.capacity() == capacity, next)),
+        Step::Next(told) => match drive.next() {
+            Ok(found) => Ok((told == Ok(found), found)),
+            Err(fault) => Ok((told == Err(fault), next)),
+        },
+        Step::Write(at, firsts, told) => Ok((write(alloc, drive, next, at, firsts)? == told, 0)),
+        Step::Run(at, firsts, seconds, told) => {
+            let found = write_run(alloc, drive, next, at, firsts, seconds)?;
+            Ok((found == told, 0))
+        }
+        Step::Read(at, told) => Ok((read(drive, next, at, into)? == told, next)),
+        Step::Holds(first) => Ok((into[0] == first, next)),
+        _ => Err(Fail::from("no step of this drive")),
+    }
+}
+
+/// A step on a drive in memory, as `step_on`.
+fn step_in_memory(
+    alloc: Global,
+    drive: &mut MemDrive,
+    next: u32,
+    into: &mut Block,
+    step: &Step<'_>,
+) -> Result<(bool, u32), Fail>
+    requires { next ≤ next_of (journal_of drive.old) }
+    ensures { IfOk result (λ known. known.1 ≤ next_of (journal_of drive.new)) }
+{
+    match *step {
+        Step::Arm(fault) => {
+            drive.arm(fault);
+            Ok((true, next))
+        }
+        Step::Written(count) => Ok((drive.journal().len() == count, next)),
+        Step::Event(index, at, first) => match drive.journal().get(index) {
+            Some(event) => Ok((event.0 == at && event.1[0] == first, next)),
+            None => Ok((false, next)),
+        },
+        Step::Failures(count) => Ok((drive.failures() == count, next)),
+        _ => step_on(alloc, drive, next, into, step),
+    }
+}
+
+/// Plays the steps on a drive in memory.
+pub(crate) fn play(alloc: Global, drive: &mut MemDrive, steps: &[Step<'_>]) -> Result<(), Fail> {
+    let mut next = 0;
+    let mut into = block(0);
+    for (i, step) in steps.iter().enumerate() {
+        let (holds, known) = step_in_memory(alloc, drive, next, &mut into, step)?;
+        if !holds {
+            return Err(Fail::from(NotSo { step: i }));
+        }
+        next = known;
+    }
+    Ok(())
+}
+
+/// A step on a drive over a file, as `step_on`.
+fn step_on_file(
+    rt: &HostRuntime,
+    drive: &mut FileDrive,
+    next: u32,
+    into: &mut Block,
+    step: &Step<'_>,
+) -> Result<(bool, u32), Fail>
+    requires { next ≤ next_of drive.old.contents.journal }
+    ensures { IfOk result (λ known. known.1 ≤ next_of drive.new.contents.journal) }
+{
+    match *step {
+        Step::Part(told) => Ok((drive.part(into, &mut Look::new(&[])) == told, next)),
+        Step::Resize(path, size) => {
+            open_image(rt, path)?.set_len(size)?;
+            Ok((true, next))
+        }
+        Step::Remove(path) => {
+            fs::remove_file(rt, path)?;
+            Ok((true, next))
+        }
+        _ => step_on(rt.alloc(), drive, next, into, step),
+    }
+}
+
+/// Plays the steps on a drive over a file.
+pub(crate) fn play_file(
+    rt: &HostRuntime,
+    drive: &mut FileDrive,
+    steps: &[Step<'_>],
+) -> Result<(), Fail> {
+    let mut next = 0;
+    let mut into = block(0);
+    for (i, step) in steps.iter().enumerate() {
+        let (holds, known) = step_on_file(rt, drive, next, &mut into, step)?;
+        if !holds {
+            return Err(Fail::from(NotSo { step: i }));
+        }
+        next = known;
+    }
+    Ok(())
+}
