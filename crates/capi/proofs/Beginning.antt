@@ -11,7 +11,7 @@ use Rattle.capi.specs.declared.medium.Medium.{Medium}
 use Rattle.capi.specs.declared.session.Session.{Session}
 use Rattle.capi.specs.Media.{journal_on, failures_on, capacity_on, honest_on, writes_on, in_memory, seen_by}
 use Rattle.capi.specs.Sessions.{seen, waiting}
-use Rattle.capi.specs.Opens.{Opened, Unopened, TurnsTo, fresh}
+use Rattle.capi.specs.Opens.{Opened, RefusesToOpen, TurnsTo, fresh}
 
 -- an engine that keeps no store sees the medium as it is
 pub fresh_is : (engine : Engine) (medium : Medium) → engine.store ≡ None → fresh medium ≡ seen_by engine medium
@@ -45,6 +45,6 @@ module _ (first engine : Engine) (before afterwards : Medium) (s : Session) (eng
   }
 
 -- a session was opened in the place of another, or that one stayed
-pub turned : {T : Type 0} (medium : Medium) (outcome : Result T Fault) (old new : Session) → OnOk outcome (Opened medium new) → IfErr outcome (λ fault. Unopened medium fault × (new ≡ old)) → TurnsTo medium outcome old new
+pub turned : {T : Type 0} (medium : Medium) (outcome : Result T Fault) (old new : Session) → OnOk outcome (Opened medium new) → IfErr outcome (λ fault. RefusesToOpen medium fault × (new ≡ old)) → TurnsTo medium outcome old new
 turned medium (Ok x) old new opens refuses = opens
 turned medium (Err fault) old new opens refuses = refuses

@@ -14,7 +14,7 @@ use Rattle.osta.proofs.Rows.{all_hold}
 use Rattle.osta.proofs.Spellings.{length-spelling_narrow, length-spelling_wide}
 use Rattle.osta.proofs.Texts.{some_characters}
 use Rattle.osta.proofs.Names.{label_few}
-use Rattle.capi.specs.Statuses.{label_field}
+use Rattle.capi.specs.Statuses.{label_text_field}
 
 -- ---- how many bytes a label's text has
 at_most_two : (one two three : Bool) → two ≡ true → cond one 1 (cond two 2 (cond three 3 4)) ≤ 2
@@ -56,5 +56,5 @@ label_short text label =
     (cases_Bool (list_all is_narrow cs))
 
 -- ---- its field
-pub filled : (text : List ℕ) (count : ℕ) → count ≡ length text → text ++ drop count (replicate 64 0) ≡ label_field text
+pub filled : (text : List ℕ) (count : ℕ) → count ≡ length text → text ++ drop count (replicate 64 0) ≡ label_text_field text
 filled text count is = ap (λ (zeros : List ℕ). text ++ zeros) (drop-replicate count 64 0 ∙ ap (λ (n : ℕ). replicate (64 - n) 0) is)

@@ -7,25 +7,25 @@ use Rattle.vat.specs.Table.{Table}
 use Rattle.recover.specs.Tables.{HasTableAt, IsBefore}
 use Rattle.recover.proofs.Told.{one_read}
 use Rattle.store.specs.declared.history.Commit.{Commit}
-use Rattle.store.specs.History.{IsChain, IsHistory, told_of}
+use Rattle.store.specs.History.{IsChain, IsHistory, report_of}
 use Rattle.capi.specs.declared.told.CommitStatus.{CommitStatus}
-use Rattle.capi.specs.Commits.{FollowsIn, IsFirst, IsInTurn, TellsCommit, TellsNext, commit_of}
+use Rattle.capi.specs.Commits.{FollowsIn, IsNewest, IsInTurn, TellsCommit, TellsNext, commit_of}
 
 abbrev told_by : ℕ → Table_ → Commit
 told_by at t = record { commit = t.commits; vat_icb_address = at; files = t.files; directories = t.directories }
 
 module _ (M : List (List ℕ)) where
-  one_told : (at : ℕ) (t u : Table) → HasTableAt M at t → HasTableAt M at u → told_of at t ≡ told_of at u
+  one_told : (at : ℕ) (t u : Table) → HasTableAt M at t → HasTableAt M at u → report_of at t ≡ report_of at u
   one_told at t u h k = ap (told_by at) (one_read M at t u h k)
 
   -- it is what is told of the table there
-  said : (at here : ℕ) (t : Table) (told : CommitStatus) → TellsCommit M at told → at ≡ here → HasTableAt M here t → told_of here t ≡ commit_of told
+  said : (at here : ℕ) (t : Table) (told : CommitStatus) → TellsCommit M at told → at ≡ here → HasTableAt M here t → report_of here t ≡ commit_of told
   said at here t told tells same has =
-      one_told here t tells.table has (subst (λ (a : ℕ). HasTableAt M a tells.table) same tells.there) ∙ ap (λ (a : ℕ). told_of a tells.table) (sym same) ∙ sym tells.commit
+      one_told here t tells.table has (subst (λ (a : ℕ). HasTableAt M a tells.table) same tells.there) ∙ ap (λ (a : ℕ). report_of a tells.table) (sym same) ∙ sym tells.commit
 
-  first : (newest at : ℕ) (told : CommitStatus) → TellsCommit M at told → at ≡ newest → (commits : List Commit) → IsHistory M newest commits → IsFirst commits (commit_of told)
+  first : (newest at : ℕ) (told : CommitStatus) → TellsCommit M at told → at ≡ newest → (commits : List Commit) → IsHistory M newest commits → IsNewest commits (commit_of told)
   first newest at told tells same commits (t, has, earlier, is, chain) =
-      subst (λ (cs : List Commit). IsFirst cs (commit_of told)) (sym is) (said at newest t told tells same has)
+      subst (λ (cs : List Commit). IsNewest cs (commit_of told)) (sym is) (said at newest t told tells same has)
 
   module _ (after at : ℕ) (told : CommitStatus) (tells : TellsCommit M at told) (before : IsBefore M after (Some at)) where
     -- the link of a table there
@@ -33,7 +33,7 @@ module _ (M : List (List ℕ)) where
     linked here s has same =
         ap (λ (x : Table_). x.previous) (one_read M after s before.0 (subst (λ (a : ℕ). HasTableAt M a s) same has) before.1) ∙ before.3
 
-    chained : (here : ℕ) (s : Table) (earlier : List Commit) → HasTableAt M here s → IsChain M s.previous s.commits earlier → FollowsIn (told_of here s ∷ earlier) after (commit_of told)
+    chained : (here : ℕ) (s : Table) (earlier : List Commit) → HasTableAt M here s → IsChain M s.previous s.commits earlier → FollowsIn (report_of here s ∷ earlier) after (commit_of told)
     chained here s [] has (none, count) = (λ same. none-some before.2 (sym none ∙ linked here s has same), tt)
     chained here s (e ∷ earlier) has (n, is, v, there, fewer, says, chain) =
         let next : here ≡ after → e ≡ commit_of told = λ same.

@@ -6,7 +6,7 @@ use Rattle.capi.specs.declared.session.Session.{Session}
 use Rattle.capi.specs.Media.{in_memory}
 use Rattle.capi.specs.Numbers.{status, number_of}
 use Rattle.capi.specs.Opens.{OpensFile, OpensMemory}
-use Rattle.capi.specs.Sessions.{waiting, blocks, Answered, Shows, Gives}
+use Rattle.capi.specs.Sessions.{waiting, blocks, AnswersStream, Shows, GivesOneBlock}
 
 -- the volume on a file, or a new one in memory, was opened in the session, and the number says what became of it
 abbrev pub OpensVolume : ℤ → Session → Session → Type 0
@@ -17,22 +17,22 @@ OpensNewVolume label moment capacity number old new = (outcome : Result ⊤ Faul
 
 -- bytes of messages came, and the number says what became of them
 abbrev pub AnswersBytes : List ℕ → ℤ → Session → Session → Type 0
-AnswersBytes bytes number old new = (outcome : Result ⊤ Fault) × (number ≡ status outcome) × Answered outcome bytes old new
+AnswersBytes bytes number old new = (outcome : Result ⊤ Fault) × (number ≡ status outcome) × AnswersStream outcome bytes old new
 
 -- so many bytes of answers wait
 abbrev pub Counts : ℕ → Session → Session → Type 0
 Counts count old new = (count ≡ length (waiting old)) × (new ≡ old)
 
 -- whether there is a block, as a number
-abbrev pub shown : Bool → ℤ
-shown true = pos 0
-shown false = number_of Nothing
+abbrev pub presence_number : Bool → ℤ
+presence_number true = pos 0
+presence_number false = number_of Nothing
 
 abbrev pub ShowsBlock : ℤ → ℕ × List ℕ → ℕ × List ℕ → Session → Session → Type 0
-ShowsBlock number before after old new = (there : Bool) × (number ≡ shown there) × Shows old there before after × (new ≡ old)
+ShowsBlock number before after old new = (there : Bool) × (number ≡ presence_number there) × Shows old there before after × (new ≡ old)
 
 abbrev pub GivesBlock : ℤ → Session → Session → Type 0
-GivesBlock number old new = (there : Bool) × (number ≡ shown there) × Gives old there new
+GivesBlock number old new = (there : Bool) × (number ≡ presence_number there) × GivesOneBlock old there new
 
 -- Nothing is held: no file, no block, no store, no part of a message and no answer. Each message is refused.
 pub record Ended (s : Session) : Type 0 where

@@ -11,7 +11,7 @@ use Rattle.recover.specs.declared.fault.StoreFault.TheVariants.{NoCommit}
 use Rattle.recover.specs.declared.table.TableEntry.{TableEntry}
 use Rattle.store.specs.declared.history.Commit.{Commit}
 use Rattle.store.specs.declared.store.Store.{Store}
-use Rattle.store.specs.History.{IsHistory, told_of}
+use Rattle.store.specs.History.{IsHistory, report_of}
 use Rattle.engine.specs.Situation.{Situation, IsOpen}
 use Rattle.engine.specs.Steps.{HoldsState}
 use Rattle.capi.specs.declared.fault.Fault.{Fault}
@@ -30,7 +30,7 @@ commit_of told = record { commit = told.number; vat_icb_address = told.address; 
 pub record TellsCommit (medium : List (List ℕ)) (at : ℕ) (told : CommitStatus) : Type 0 where
   pub table : Table
   pub there : HasTableAt medium at table
-  pub commit : commit_of told ≡ told_of at table
+  pub commit : commit_of told ≡ report_of at table
   pub entry : TableEntry
   pub icb : IsEntryAt medium at entry
   pub moment : told.moment ≡ entry.moment
@@ -60,18 +60,18 @@ IsLogRefused journal newest after fault =
 
 -- ---- the history
 
-abbrev pub IsFirst : List Commit → Commit → Type 0
-IsFirst [] c = ⊥
-IsFirst (d ∷ older) c = d ≡ c
+abbrev pub IsNewest : List Commit → Commit → Type 0
+IsNewest [] c = ⊥
+IsNewest (d ∷ older) c = d ≡ c
 
 -- after each of the commits whose VAT ICB has this address this one comes
 abbrev pub FollowsIn : List Commit → ℕ → Commit → Type 0
 FollowsIn [] after c = ⊤
-FollowsIn (d ∷ older) after c = (d.vat_icb_address ≡ after → IsFirst older c) × FollowsIn older after c
+FollowsIn (d ∷ older) after c = (d.vat_icb_address ≡ after → IsNewest older c) × FollowsIn older after c
 
 -- it comes first of all after 0, else after the one at this address
 abbrev pub IsInTurn : List Commit → ℕ → Commit → Type 0
-IsInTurn commits after c = (after ≡ 0 → IsFirst commits c) × ((after ≡ 0 → ⊥) → FollowsIn commits after c)
+IsInTurn commits after c = (after ≡ 0 → IsNewest commits c) × ((after ≡ 0 → ⊥) → FollowsIn commits after c)
 
 -- ---- what a caller is told
 

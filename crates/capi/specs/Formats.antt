@@ -11,13 +11,13 @@ use Rattle.formatting.specs.NewVolume.{words_on, IsFormatted, IsFormatRefused}
 use Rattle.formatting.specs.Beginning.{IsBegun, IsUnbegun}
 use Rattle.capi.specs.declared.fault.Fault.{Fault}
 use Rattle.capi.specs.declared.fault.Fault.TheVariants.{Device, Text, Volume}
-use Rattle.capi.specs.Numbers.{told_of}
+use Rattle.capi.specs.Numbers.{fault_of_store}
 
 -- The format was finished, so that on an honest drive the new volume is recovered, or what a refusal leaves.
 abbrev pub Makes : {T : Type 0} → List ℕ → ℕ → ℕ → Result T Fault → List Event → List Event → Bool → Type 0
 Makes label moment capacity (Ok x) before afterwards honest = IsFormatted capacity (words_on capacity label moment) before afterwards honest
 Makes label moment capacity (Err fault) before afterwards honest =
-    (cause : StoreFault) × (fault ≡ told_of cause) × IsFormatRefused capacity (words_on capacity label moment) before afterwards honest cause
+    (cause : StoreFault) × (fault ≡ fault_of_store cause) × IsFormatRefused capacity (words_on capacity label moment) before afterwards honest cause
 
 -- no volume can have these words
 abbrev pub AreNoWords : {T : Type 0} → List ℕ → ℕ → Result T Fault → Type 0
@@ -26,7 +26,7 @@ AreNoWords label moment outcome = ((outcome ≡ Err Text) × (IsUtf8 label → �
 -- What a look found after the last whole block of the file was refused, and nothing was done.
 pub record IsForeign {T : Type 0} (label : List ℕ) (moment : ℕ) (outcome : Result T Fault) (look : Option (List ℕ)) (before afterwards : FileDrive) : Type 0 where
   pub cause : StoreFault
-  pub told : outcome ≡ Err (told_of cause)
+  pub told : outcome ≡ Err (fault_of_store cause)
   pub why : IsUnbegun (capacity_of before) label moment (journal_of before) look cause
   pub journal : journal_of afterwards ≡ journal_of before
 
@@ -63,4 +63,4 @@ abbrev pub IsNotMade : List ℕ → ℕ → ℕ → Fault → Type 0
 IsNotMade label moment capacity fault =
     ((fault ≡ Text) × (IsUtf8 label → ⊥))
     ⊎ (((fault ≡ Volume) × (MOMENT_LIMIT ≤ moment))
-    ⊎ ((cause : StoreFault) × (fault ≡ told_of cause) × (afterwards : List Event) × (honest : Bool) × IsFormatRefused capacity (words_on capacity label moment) [] afterwards honest cause))
+    ⊎ ((cause : StoreFault) × (fault ≡ fault_of_store cause) × (afterwards : List Event) × (honest : Bool) × IsFormatRefused capacity (words_on capacity label moment) [] afterwards honest cause))

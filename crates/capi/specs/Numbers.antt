@@ -19,17 +19,17 @@ status (Ok x) = pos 0
 status (Err fault) = number_of fault
 
 -- what a refusal of a store or of a format is to the caller
-abbrev pub told_of : StoreFault → Fault
-told_of stores.NotBlank = Volume
-told_of stores.Label = Text
-told_of stores.Small = Volume
-told_of stores.Device = Device
-told_of stores.Memory = Memory
-told_of stores.NotFormatted = Volume
-told_of (stores.Damaged block cause) = Volume
-told_of stores.Full = Volume
-told_of stores.Stopped = Volume
-told_of stores.NoCommit = Nothing
-told_of stores.NotFound = Volume
-told_of stores.IsDirectory = Volume
-told_of stores.NotDirectory = Volume
+abbrev pub fault_of_store : StoreFault → Fault
+fault_of_store stores.NotBlank = Volume
+fault_of_store stores.Label = Text
+fault_of_store stores.Small = Volume
+fault_of_store stores.Device = Device
+fault_of_store stores.Memory = Memory
+fault_of_store stores.NotFormatted = Volume
+fault_of_store (stores.Damaged block cause) = Volume
+fault_of_store stores.Full = Volume
+fault_of_store stores.Stopped = Volume
+fault_of_store stores.NoCommit = Nothing
+fault_of_store stores.NotFound = Volume
+fault_of_store stores.IsDirectory = Volume
+fault_of_store stores.NotDirectory = Volume

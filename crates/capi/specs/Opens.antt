@@ -18,7 +18,7 @@ use Rattle.capi.specs.declared.medium.Medium.TheVariants.{Image, Memory}
 use Rattle.capi.specs.declared.session.Session.{Session}
 use Rattle.capi.specs.Formats.{IsMadeInMemory, IsNotMade}
 use Rattle.capi.specs.Media.{journal_on, failures_on, capacity_on, honest_on, writes_on, in_memory}
-use Rattle.capi.specs.Numbers.{told_of}
+use Rattle.capi.specs.Numbers.{fault_of_store}
 use Rattle.capi.specs.Sessions.{seen, waiting}
 
 -- a medium on which no store is open
@@ -43,25 +43,25 @@ pub record Opened (medium : Medium) (s : Session) : Type 0 where
 
 -- Where it is refused on an honest medium nothing is recovered there, or the drive failed or memory was short. The medium is let
 -- go then, and nothing was written on it. Whether a drive over a file read right no clause can know; one in memory does.
-pub record Unopened (medium : Medium) (fault : Fault) : Type 0 where
+pub record RefusesToOpen (medium : Medium) (fault : Fault) : Type 0 where
   pub cause : StoreFault
-  pub told : fault ≡ told_of cause
+  pub told : fault ≡ fault_of_store cause
   pub afterwards : Medium
   pub kind : in_memory afterwards ≡ in_memory medium
   pub journal : journal_on afterwards ≡ journal_on medium
   pub writes : writes_on afterwards ≡ writes_on medium
   pub why : (volume : ℕ) (S : State) → IsTrue (honest_on afterwards) → HoldsState volume S (fresh medium) → IsShortage cause
 
-abbrev pub Opens : Medium → Result Session Fault → Type 0
-Opens medium (Ok s) = Opened medium s
-Opens medium (Err fault) = Unopened medium fault
+abbrev pub OpensSession : Medium → Result Session Fault → Type 0
+OpensSession medium (Ok s) = Opened medium s
+OpensSession medium (Err fault) = RefusesToOpen medium fault
 
 -- ---- in the place of what a session held
 
 -- a session on this medium was opened, or why not; then the session is as it was
 abbrev pub TurnsTo : {T : Type 0} → Medium → Result T Fault → Session → Session → Type 0
 TurnsTo medium (Ok x) old new = Opened medium new
-TurnsTo medium (Err fault) old new = Unopened medium fault × (new ≡ old)
+TurnsTo medium (Err fault) old new = RefusesToOpen medium fault × (new ≡ old)
 
 -- The file could not be had, or the volume on it was looked for. What the file has no clause can know: it is whatever blocks the
 -- drive's reads agree with.

@@ -11,7 +11,7 @@ use Rattle.engine.specs.Steps.{HoldsState}
 use Rattle.capi.specs.declared.fault.Fault.{Fault}
 use Rattle.capi.specs.declared.session.Session.{Session}
 use Rattle.capi.specs.Media.{in_memory}
-use Rattle.capi.specs.Numbers.{status, told_of}
+use Rattle.capi.specs.Numbers.{status, fault_of_store}
 use Rattle.capi.specs.Sessions.{seen, waiting}
 
 -- What a question leaves: nothing is written, no message is taken and no answer is given. A recovered state stays known.
@@ -30,7 +30,7 @@ pub record Asked (old new : Session) : Type 0 where
 -- Why the volume was not opened: no store was open, and where a state is recovered the drive failed or memory was short.
 pub record Refused (fault : Fault) (old new : Session) : Type 0 where
   pub cause : StoreFault
-  pub told : fault ≡ told_of cause
+  pub told : fault ≡ fault_of_store cause
   pub shut : (kept : Store) → IsOpen (seen old) kept → ⊥
   pub why : (volume : ℕ) (S : State) → IsTrue (seen new).honest → HoldsState volume S (seen old) → IsShortage cause
 

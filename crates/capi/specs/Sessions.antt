@@ -22,7 +22,7 @@ abbrev pub blocks : Session → List Event
 blocks s = blocks_of s.medium
 
 -- the volume and its stream of messages are as they were
-pub record SameVolume (old new : Session) : Type 0 where
+pub record SameSession (old new : Session) : Type 0 where
   pub seen_is : seen new ≡ seen old
   pub frames : new.frames ≡ old.frames
   pub ended : new.ended ≡ old.ended
@@ -30,8 +30,8 @@ pub record SameVolume (old new : Session) : Type 0 where
 -- ---- messages
 
 -- all messages of the bytes that came were answered, and their answers wait after those that waited
-abbrev pub AnswersAll : List ℕ → Session → Session → Type 0
-AnswersAll bytes old new = Replies (fed old.frames bytes) new.frames (seen old) (seen new) (waiting old) (waiting new)
+abbrev pub AnswersMessages : List ℕ → Session → Session → Type 0
+AnswersMessages bytes old new = Replies (fed old.frames bytes) new.frames (seen old) (seen new) (waiting old) (waiting new)
 
 -- nothing was taken of them
 pub record TakesNothing (old new : Session) : Type 0 where
@@ -44,15 +44,15 @@ pub record TakesNothing (old new : Session) : Type 0 where
 abbrev pub StopsBy : Fault → List ℕ → Session → Session → Type 0
 StopsBy faults.Memory bytes old new = TakesNothing old new ⊎ RepliesButLast (fed old.frames bytes) new.frames (seen old) (seen new) (waiting old) (waiting new)
 StopsBy faults.Device bytes old new = ⊥
-StopsBy faults.TooLong bytes old new = AnswersAll bytes old new × (new.frames ≡ None)
+StopsBy faults.TooLong bytes old new = AnswersMessages bytes old new × (new.frames ≡ None)
 StopsBy faults.Text bytes old new = ⊥
 StopsBy faults.Volume bytes old new = ⊥
 StopsBy faults.Nothing bytes old new = ⊥
 
 -- by the outcome
-abbrev pub Heard : {T : Type 0} → Result T Fault → List ℕ → Session → Session → Type 0
-Heard (Ok x) bytes old new = AnswersAll bytes old new
-Heard (Err fault) bytes old new = StopsBy fault bytes old new
+abbrev pub HearsBy : {T : Type 0} → Result T Fault → List ℕ → Session → Session → Type 0
+HearsBy (Ok x) bytes old new = AnswersMessages bytes old new
+HearsBy (Err fault) bytes old new = StopsBy fault bytes old new
 
 abbrev pub ended_by : {T : Type 0} → Result T Fault → Option Fault
 ended_by (Ok x) = None
@@ -60,9 +60,9 @@ ended_by (Err fault) = Some fault
 
 -- Bytes of the stream of messages came. A refusal ends the stream: each later call is refused alike, and does nothing. What
 -- was taken is as it was.
-pub record Answered {T : Type 0} (outcome : Result T Fault) (bytes : List ℕ) (old new : Session) : Type 0 where
+pub record AnswersStream {T : Type 0} (outcome : Result T Fault) (bytes : List ℕ) (old new : Session) : Type 0 where
   pub refused : (fault : Fault) → old.ended ≡ Some fault → (ended_by outcome ≡ Some fault) × (new ≡ old)
-  pub heard : old.ended ≡ None → Heard outcome bytes old new
+  pub heard : old.ended ≡ None → HearsBy outcome bytes old new
   pub ended : new.ended ≡ ended_by outcome
   pub given : new.given ≡ old.given
   pub kind : in_memory new.medium ≡ in_memory old.medium
@@ -75,7 +75,7 @@ pub record Took (old : Session) (room : List ℕ) (count : ℕ) (new : Session) 
   pub count_is : count ≡ min (length room) (length (waiting old))
   pub moved : after ≡ take count (waiting old) ++ drop count room
   pub left : waiting new ≡ drop count (waiting old)
-  pub same : SameVolume old new
+  pub same : SameSession old new
   pub given : new.given ≡ old.given
   pub medium : new.medium ≡ old.medium
 
@@ -85,6 +85,6 @@ Shows s true before after = slice_get (blocks s) s.given ≡ Some after
 Shows s false before after = (length (blocks s) ≤ s.given) × (after ≡ before)
 
 -- It was taken, or there was none. Nothing else changed.
-abbrev pub Gives : Session → Bool → Session → Type 0
-Gives old true new = (old.given < length (blocks old)) × (new ≡ record old { given = old.given + 1 })
-Gives old false new = (length (blocks old) ≤ old.given) × (new ≡ old)
+abbrev pub GivesOneBlock : Session → Bool → Session → Type 0
+GivesOneBlock old true new = (old.given < length (blocks old)) × (new ≡ record old { given = old.given + 1 })
+GivesOneBlock old false new = (length (blocks old) ≤ old.given) × (new ≡ old)

@@ -12,7 +12,7 @@ use Rattle.engine.specs.Steps.{HoldsState}
 use Rattle.capi.specs.declared.fault.Fault.{Fault}
 use Rattle.capi.specs.declared.session.Session.{Session}
 use Rattle.capi.specs.declared.told.Status.{Status}
-use Rattle.capi.specs.Numbers.{status, told_of}
+use Rattle.capi.specs.Numbers.{status, fault_of_store}
 use Rattle.capi.specs.Questions.{Asked}
 use Rattle.capi.specs.Sessions.{seen}
 use Rattle.capi.specs.Statuses.{TellsStatus}
@@ -23,15 +23,15 @@ IsStatusRefused journal store fault = IsEntryRefused (held journal) store.vat_ic
 
 -- Why none is told: no store was open, and the volume was not opened, where a state stands because the drive failed or memory was
 -- short; or the store that is open did not tell it.
-abbrev pub IsUntold : StoreFault → Situation → Situation → Type 0
-IsUntold fault before now =
+abbrev pub IsStatusUnknown : StoreFault → Situation → Situation → Type 0
+IsStatusUnknown fault before now =
     (((kept : Store) → IsOpen before kept → ⊥) × ((volume : ℕ) (S : State) → IsTrue now.honest → HoldsState volume S before → IsShortage fault))
     ⊎ ((store : Store) × IsOpen now store × (IsTrue now.honest → IsStatusRefused now.journal store fault))
 
 -- The status is that of the store that is open then. A refusal writes none, and says why.
 abbrev pub StatusIs : {T : Type 0} → Result T Fault → Status → Status → Session → Session → Type 0
 StatusIs (Ok x) before after old new = (store : Store) × IsOpen (seen new) store × TellsStatus (seen new).journal (seen new).honest store after
-StatusIs (Err fault) before after old new = (after ≡ before) × (cause : StoreFault) × (fault ≡ told_of cause) × IsUntold cause (seen old) (seen new)
+StatusIs (Err fault) before after old new = (after ≡ before) × (cause : StoreFault) × (fault ≡ fault_of_store cause) × IsStatusUnknown cause (seen old) (seen new)
 
 abbrev pub AsksStatus : ℤ → Status → Status → Session → Session → Type 0
 AsksStatus told before after old new = (outcome : Result ⊤ Fault) × (told ≡ status outcome) × StatusIs outcome before after old new × Asked old new

@@ -7,8 +7,8 @@ use Rattle.store.specs.declared.store.Store.{Store}
 use Rattle.capi.specs.declared.told.Status.{Status}
 
 -- a label's text in its field of 64 bytes: zeros come after it
-abbrev pub label_field : List ℕ → List ℕ
-label_field text = text ++ replicate (64 - length text) 0
+abbrev pub label_text_field : List ℕ → List ℕ
+label_text_field text = text ++ replicate (64 - length text) 0
 
 -- It is what the store knows of it. The next address is the drive's, and the moment that of the newest VAT ICB. A label has at
 -- most 60 bytes, so that a zero comes after it.
@@ -21,5 +21,5 @@ pub record TellsStatus (journal : List Event) (honest : Bool) (store : Store) (t
   pub clients : told.clients ≡ length store.vat.sessions.records.items
   pub label_length : told.label_length ≡ length store.vat.label
   pub few : told.label_length ≤ 60
-  pub label : told.label ≡ label_field store.vat.label
+  pub label : told.label ≡ label_text_field store.vat.label
   pub moment : IsTrue honest → (entry : TableEntry) × IsEntryAt (held journal) store.vat_icb_address entry × (told.moment ≡ entry.moment)

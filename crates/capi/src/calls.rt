@@ -1,7 +1,7 @@
 //! The calls of C, on the session that a handle stands for: each outcome as its number.
 
 ghost use Rattle.std.specs.Prelude.{◌≡◌};
-ghost use Rattle.capi.specs.Calls.{OpensVolume, OpensNewVolume, AnswersBytes, Counts, ShowsBlock, GivesBlock, Ended, shown};
+ghost use Rattle.capi.specs.Calls.{OpensVolume, OpensNewVolume, AnswersBytes, Counts, ShowsBlock, GivesBlock, Ended, presence_number};
 ghost use Rattle.capi.specs.Handing.{HandsOut};
 ghost use Rattle.capi.specs.Commits.{AsksCommit};
 ghost use Rattle.capi.specs.Questions.{LastNumber};
@@ -100,7 +100,7 @@ pub(crate) fn end(session: &mut Session)
 
 /// The number by which C learns whether there is a block.
 fn found(is_there: bool) -> i32
-    ensures { result ≡ shown is_there }
+    ensures { result ≡ presence_number is_there }
 {
     if is_there {
         status_of(Ok(()))

@@ -1,7 +1,7 @@
 //! Why a call was refused, and the number by which C learns it.
 
 ghost use Rattle.std.specs.Prelude.{◌≡◌};
-ghost use Rattle.capi.specs.Numbers.{status, told_of};
+ghost use Rattle.capi.specs.Numbers.{status, fault_of_store};
 
 use store::StoreFault;
 
@@ -42,7 +42,7 @@ impl Fault {
 
 /// What a refusal of a store or of a format is to the caller.
 pub(crate) fn fault_of(fault: StoreFault) -> Fault
-    ensures { result ≡ told_of fault }
+    ensures { result ≡ fault_of_store fault }
 {
     match fault {
         StoreFault::Memory => Fault::Memory,

@@ -10,7 +10,7 @@ ghost use Rattle.engine.specs.Situation.{HoldsNothing, IsReady, IsOpen};
 ghost use Rattle.engine.specs.Steps.{HoldsState};
 ghost use Rattle.engine.specs.Served.{Answering, AnswersSome};
 ghost use Rattle.capi.specs.Commits.{IsLogged, IsUnlogged};
-ghost use Rattle.capi.specs.StatusCalls.{IsUntold};
+ghost use Rattle.capi.specs.StatusCalls.{IsStatusUnknown};
 ghost use Rattle.capi.specs.Statuses.{TellsStatus};
 ghost use Rattle.capi.specs.Media.{seen_by, in_memory, journal_on, writes_on, capacity_on, honest_on};
 
@@ -77,7 +77,7 @@ pub(crate) fn status_by(
 ) -> Result<Status, StoreFault>
     requires { IsReady (seen_by engine.old medium.old) }
     ensures reported { IfOk result (λ told. (store : Store) × IsOpen (seen_by engine.new medium.new) store × TellsStatus (journal_on medium.new) (honest_on medium.new) store told) }
-    ensures refused { IfErr result (λ fault. IsUntold fault (seen_by engine.old medium.old) (seen_by engine.new medium.new)) }
+    ensures refused { IfErr result (λ fault. IsStatusUnknown fault (seen_by engine.old medium.old) (seen_by engine.new medium.new)) }
     ensures holds { (volume : ℕ) (S : State) → IsTrue (honest_on medium.new) → HoldsState volume S (seen_by engine.old medium.old) → HoldsState volume S (seen_by engine.new medium.new) }
     ensures journal { journal_on medium.new ≡ journal_on medium.old }
     ensures writes { writes_on medium.new ≡ writes_on medium.old }

@@ -8,7 +8,7 @@ ghost use Rattle.store.specs.declared.store.Store.{Store as Kept};
 ghost use Rattle.engine.specs.Situation.{IsReady, IsOpen, seen_on};
 ghost use Rattle.engine.specs.Steps.{HoldsState};
 ghost use Rattle.capi.specs.Questions.{last_kept};
-ghost use Rattle.capi.specs.StatusCalls.{IsStatusRefused, IsUntold};
+ghost use Rattle.capi.specs.StatusCalls.{IsStatusRefused, IsStatusUnknown};
 ghost use Rattle.capi.specs.Statuses.{TellsStatus};
 
 use crate::told::Status;
@@ -95,7 +95,7 @@ pub(crate) fn opened_status<D: Drive>(
 ) -> Result<Status, StoreFault>
     requires { IsReady (seen_on D.Drive engine.old drive.old) }
     ensures reported { IfOk result (λ told. (kept : Kept) × IsOpen (seen_on D.Drive engine.new drive.new) kept × TellsStatus (D.journal drive.new) (D.honest drive.new) kept told) }
-    ensures refused { IfErr result (λ fault. IsUntold fault (seen_on D.Drive engine.old drive.old) (seen_on D.Drive engine.new drive.new)) }
+    ensures refused { IfErr result (λ fault. IsStatusUnknown fault (seen_on D.Drive engine.old drive.old) (seen_on D.Drive engine.new drive.new)) }
     ensures holds { (volume : ℕ) (S : State) → IsTrue (D.honest drive.new) → HoldsState volume S (seen_on D.Drive engine.old drive.old) → HoldsState volume S (seen_on D.Drive engine.new drive.new) }
     ensures journal { D.journal drive.new ≡ D.journal drive.old }
     ensures writes { D.writes drive.new ≡ D.writes drive.old }

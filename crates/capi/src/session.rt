@@ -38,10 +38,10 @@ pub struct Session {
 impl Session {
     ghost use Rattle.std.specs.Prelude.{◌≡◌, ◌≤◌, Some, None, [], length, IfErr, OnOk};
     ghost use Rattle.capi.specs.Calls.{Ended};
-    ghost use Rattle.capi.specs.Sessions.{seen, waiting, SameVolume, AnswersAll, StopsBy, Answered, Took, Shows, Gives};
+    ghost use Rattle.capi.specs.Sessions.{seen, waiting, SameSession, AnswersMessages, StopsBy, AnswersStream, Took, Shows, GivesOneBlock};
     ghost use Rattle.capi.specs.Media.{seen_by, in_memory};
     ghost use Rattle.capi.specs.Commits.{CommitIs};
-    ghost use Rattle.capi.specs.Opens.{Opened, Unopened, Opens, OpensFile, OpensMemory};
+    ghost use Rattle.capi.specs.Opens.{Opened, RefusesToOpen, OpensSession, OpensFile, OpensMemory};
     ghost use Rattle.capi.specs.Questions.{Asked, Refused, TellsNumber};
     ghost use Rattle.capi.specs.StatusCalls.{StatusIs};
     ghost use Rattle.engine.specs.Situation.{IsOpen};
@@ -49,7 +49,7 @@ impl Session {
 
     /// A session on a medium, whose volume is opened.
     pub(crate) fn open(alloc: Global, medium: Medium) -> Result<Session, Fault>
-        ensures { Opens medium result }
+        ensures { OpensSession medium result }
     {
         let mut medium = medium;
         let mut engine = Engine::new();
@@ -83,7 +83,7 @@ impl Session {
     /// Opens the volume on a medium, in the place of what the session held.
     fn turn_to(&mut self, medium: Medium) -> Result<(), Fault>
         ensures opened { OnOk result (Opened medium self.new) }
-        ensures refused { IfErr result (λ fault. Unopened medium fault × (self.new ≡ self.old)) }
+        ensures refused { IfErr result (λ fault. RefusesToOpen medium fault × (self.new ≡ self.old)) }
     {
         match Session::open(self.alloc, medium) {
             Ok(session) => {
@@ -135,7 +135,7 @@ impl Session {
     /// Takes bytes of the stream of messages, and answers those that are whole. Their answers wait after those that wait
     /// already. A refusal ends the stream: each later call is refused alike, and takes nothing.
     pub fn answer(&mut self, bytes: &[u8]) -> Result<(), Fault>
-        ensures { Answered result bytes.now self.old self.new }
+        ensures { AnswersStream result bytes.now self.old self.new }
     {
         if let Some(fault) = self.ended {
             return Err(fault);
@@ -149,7 +149,7 @@ impl Session {
 
     /// Takes bytes of the stream of messages, and answers those that are whole.
     fn take_in(&mut self, bytes: &[u8]) -> Result<(), Fault>
-        ensures ok { OnOk result (AnswersAll bytes.now self.old self.new) }
+        ensures ok { OnOk result (AnswersMessages bytes.now self.old self.new) }
         ensures err { IfErr result (λ fault. StopsBy fault bytes.now self.old self.new) }
         ensures ended { self.new.ended ≡ self.old.ended }
         ensures given { self.new.given ≡ self.old.given }
@@ -195,7 +195,7 @@ impl Session {
     /// Moves what waits to the beginning, where each byte that is moved is paid for by one that was taken.
     fn close_up(&mut self)
         ensures waits { waiting self.new ≡ waiting self.old }
-        ensures same { SameVolume self.old self.new }
+        ensures same { SameSession self.old self.new }
         ensures given { self.new.given ≡ self.old.given }
         ensures medium { self.new.medium ≡ self.old.medium }
     {
@@ -226,7 +226,7 @@ impl Session {
 
     /// Takes the block that `next_block` shows: whether there was one.
     pub fn took(&mut self) -> bool
-        ensures { Gives self.old result self.new }
+        ensures { GivesOneBlock self.old result self.new }
     {
         let Medium::Memory(drive) = &self.medium else {
             return false;

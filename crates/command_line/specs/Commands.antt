@@ -12,14 +12,14 @@ abbrev pub IsCapacity : ℕ → Type 0
 IsCapacity n = (LEAST_CAPACITY ≤ n) × (n ≤ GREATEST_CAPACITY)
 
 -- `IMAGE`, or `mem:` and a capacity
-abbrev pub Names : List ℕ → Storage → Type 0
-Names word (Image path) = (word ≡ path.now) × ((rest : List ℕ) → word ≡ codes "mem:" ++ rest → ⊥)
-Names word (Memory capacity) = (digits : List ℕ) × (word ≡ codes "mem:" ++ digits) × IsNumeralOf digits capacity × IsCapacity capacity
+abbrev pub NamesStorage : List ℕ → Storage → Type 0
+NamesStorage word (Image path) = (word ≡ path.now) × ((rest : List ℕ) → word ≡ codes "mem:" ++ rest → ⊥)
+NamesStorage word (Memory capacity) = (digits : List ℕ) × (word ≡ codes "mem:" ++ digits) × IsNumeralOf digits capacity × IsCapacity capacity
 
 -- what comes after `apply`
 abbrev pub AsksApply : List (List ℕ) → Command → Type 0
 AsksApply words (Format image label moment capacity) = ⊥
-AsksApply words (Apply medium) = (word : List ℕ) × (words ≡ word ∷ []) × Names word medium
+AsksApply words (Apply medium) = (word : List ℕ) × (words ≡ word ∷ []) × NamesStorage word medium
 AsksApply words (Listing image path) = ⊥
 AsksApply words (Get image path) = ⊥
 AsksApply words (Log image) = ⊥

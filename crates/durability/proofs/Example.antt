@@ -10,7 +10,7 @@ use Rattle.durability.specs.Formats.{Block, Kind, NodeFields, Table_, AreExact, 
 use Rattle.durability.specs.Formats.Kind.{Directory, File, Table}
 use Rattle.durability.specs.Volume.{IsVatIcbAt, NoneImitates, RecoversTo, LastTable}
 use Rattle.durability.specs.Step.{CarriesOut, IsFormat, Moves}
-use Rattle.durability.specs.Example.{root_fields, table_fields, refusal, first_table, second_table, small, new_blocks, mark, new_medium, used_medium, ExampleStands}
+use Rattle.durability.specs.Example.{example_root, example_table_fields, refusal, example_table, second_table, small, new_blocks, mark, new_medium, used_medium, ExampleStands}
 use Rattle.durability.proofs.Mediums.{none-append}
 use Rattle.durability.proofs.One.{last_one}
 use Rattle.durability.proofs.History.{last_table_one, standing_table, past_now}
@@ -37,7 +37,7 @@ exact = record {
     entry_one block location f g (inr a) (inl b) = absurd (omega (arith, apart block 248 4 (ap head a.0) (ap head b.0)))
     entry_one block location f g (inr a) (inr b) = a.1 ∙ sym b.1
 
-    table_one : (icb : ℕ) (t u : Table_) → ((icb ≡ 4) × (t ≡ first_table)) ⊎ ((icb ≡ 6) × (t ≡ second_table)) → ((icb ≡ 4) × (u ≡ first_table)) ⊎ ((icb ≡ 6) × (u ≡ second_table)) → t ≡ u
+    table_one : (icb : ℕ) (t u : Table_) → ((icb ≡ 4) × (t ≡ example_table)) ⊎ ((icb ≡ 6) × (t ≡ second_table)) → ((icb ≡ 4) × (u ≡ example_table)) ⊎ ((icb ≡ 6) × (u ≡ second_table)) → t ≡ u
     table_one icb t u (inl a) (inl b) = a.1 ∙ sym b.1
     table_one icb t u (inl a) (inr b) = absurd (omega (arith, a.0, b.0))
     table_one icb t u (inr a) (inl b) = absurd (omega (arith, a.0, b.0))
@@ -46,8 +46,8 @@ exact = record {
 bounded : AreBounded small
 bounded = record {
   names = λ parent first size es blocks h. omega (arith, ap (λ (xs : List Entry). length xs) h.1);
-  nodes = λ t icb bytes h. elim h [ inl a ↦ few t first_table a.1 (omega arith) (omega arith) | inr a ↦ few t second_table a.1 (omega arith) (omega arith) ];
-  used = λ t icb bytes h. elim h [ inl a ↦ all t first_table a.1 refl | inr a ↦ all t second_table a.1 refl ];
+  nodes = λ t icb bytes h. elim h [ inl a ↦ few t example_table a.1 (omega arith) (omega arith) | inr a ↦ few t second_table a.1 (omega arith) (omega arith) ];
+  used = λ t icb bytes h. elim h [ inl a ↦ all t example_table a.1 refl | inr a ↦ all t second_table a.1 refl ];
 }
   where
     all : (t u : Table_) → t ≡ u → count_by is_some u.entries ≡ 1 + (u.files + u.directories) → count_by is_some t.entries ≡ 1 + (t.files + t.directories)
@@ -82,8 +82,8 @@ is_format = record {
   none = none_new;
   front = tt;
   fits = omega arith;
-  table = first_table;
-  has = record { fields = table_fields 4; kind = refl; entry = inr (refl, refl); moment_is = refl; first = 3; place = refl; within = omega arith; is = inl (refl, refl) };
+  table = example_table;
+  has = record { fields = example_table_fields 4; kind = refl; entry = inr (refl, refl); moment_is = refl; first = 3; place = refl; within = omega arith; is = inl (refl, refl) };
   label_is = refl;
   commits = refl;
   next_identity = refl;
@@ -96,20 +96,20 @@ is_format = record {
   set_block = [];
   set_there = refl;
   set_is = tt;
-  root = record { number = 2; used = refl; block = 4 ∷ []; there = refl; fields = root_fields; entry = inl (refl, refl); moment = refl; identity = refl; links = refl; body = (refl, (omega arith, (refl, refl))) };
+  root = record { number = 2; used = refl; block = 4 ∷ []; there = refl; fields = example_root; entry = inl (refl, refl); moment = refl; identity = refl; links = refl; body = (refl, (omega arith, (refl, refl))) };
 }
 
 stands_new : RecoversTo small 3000 3000 new_medium (formatted 0)
 stands_new = format_stands small 3000 3000 [] 0 new_blocks mark is_format exact
 
-module _ (stands : RecoversTo small 3000 3000 new_medium (formatted 0)) (table : stands.tells.table ≡ first_table) (at : stands.at ≡ 261) where
+module _ (stands : RecoversTo small 3000 3000 new_medium (formatted 0)) (table : stands.tells.table ≡ example_table) (at : stands.at ≡ 261) where
   carries_out : CarriesOut small 3000 3000 new_medium (formatted 0) stands refusal ([] ∷ []) mark
   unfolding head
   carries_out = record {
     none = (plain [] (length new_medium) (λ e. absurd (omega arith)), tt);
     some = omega arith;
     table = second_table;
-    has = record { fields = table_fields 6; kind = refl; entry = inr (refl, refl); moment_is = refl; first = 5; place = refl; within = omega arith; is = inr (refl, refl) };
+    has = record { fields = example_table_fields 6; kind = refl; entry = inr (refl, refl); moment_is = refl; first = 5; place = refl; within = omega arith; is = inr (refl, refl) };
     label = sym (ap (λ (t : Table_). t.label) table);
     previous = ap (λ n. Some (n - 257)) (sym at);
     commits = refl;
@@ -129,9 +129,9 @@ module _ (stands : RecoversTo small 3000 3000 new_medium (formatted 0)) (table :
   moves = moves_whole small 3000 3000 exact new_medium ([] ∷ []) mark (formatted 0) refusal stands carries_out
 
 abbrev last_table : LastTable small new_medium
-last_table = record { at = 261; block = mark; last = last small 3000 3000 [] 0 new_blocks mark is_format; table = first_table; moment = 0; has = is_format.has }
+last_table = record { at = 261; block = mark; last = last small 3000 3000 [] 0 new_blocks mark is_format; table = example_table; moment = 0; has = is_format.has }
 
-table_is : stands_new.tells.table ≡ first_table
+table_is : stands_new.tells.table ≡ example_table
 table_is = last_table_one small exact new_medium (standing_table small 3000 3000 new_medium (formatted 0) stands_new) last_table
 
 at_is : stands_new.at ≡ 261

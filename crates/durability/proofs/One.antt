@@ -6,7 +6,7 @@ use Rattle.model.specs.Graph.{MakesTree}
 use Rattle.model.proofs.Made.{one_tree}
 use Rattle.durability.specs.Formats.{Block, NodePlace, NodeFields, Table_, Formats, AreExact}
 use Rattle.durability.specs.Formats.NodePlace.{Nowhere, Extent, Inside}
-use Rattle.durability.specs.Volume.{Medium, partition_start, extent, bytes_in, graph_of, IsLast, HasTable, Describes, RecoversTo}
+use Rattle.durability.specs.Volume.{Medium, partition_start, extent, bytes_in_blocks, graph_of, IsLast, HasTable, Describes, RecoversTo}
 use Rattle.durability.proofs.Lists.{side}
 
 first_of : NodePlace → ℕ
@@ -38,8 +38,8 @@ module _ (formats : Formats) where
         let fields = fields_one M at block t u v w a b in
         let size : a.fields.size ≡ b.fields.size = ap (λ (f : NodeFields). f.size) fields in
         let first : a.first ≡ b.first = same_Extent a.first b.first (sym a.place ∙ ap (λ (f : NodeFields). f.place) fields ∙ b.place) in (
-          exact.table (at - partition_start) (bytes_in a.fields.size (extent M a.first a.fields.size)) t u a.is
-              (subst₂ (λ m n. formats.IsTable u (at - partition_start) (bytes_in n (extent M m n))) (sym first) (sym size) b.is),
+          exact.table (at - partition_start) (bytes_in_blocks a.fields.size (extent M a.first a.fields.size)) t u a.is
+              (subst₂ (λ m n. formats.IsTable u (at - partition_start) (bytes_in_blocks n (extent M m n))) (sym first) (sym size) b.is),
           sym a.moment_is ∙ ap (λ (f : NodeFields). f.moment) fields ∙ b.moment_is,
         )
 

@@ -4,7 +4,7 @@ use Rattle.std.specs.List.{flat_map}
 use Rattle.std.proofs.lemmas.List.{length-take, take-append-drop, take_all, drop_all, take-append-le}
 use Rattle.std.proofs.lemmas.Grind.{div_ceil_times}
 use Rattle.durability.specs.Formats.{Block}
-use Rattle.durability.specs.Volume.{blocks_for, bytes_in}
+use Rattle.durability.specs.Volume.{blocks_for, bytes_in_blocks}
 use Rattle.durability.specs.Plan.{blocks_from, packed}
 use Rattle.durability.proofs.Lists.{side}
 
@@ -64,7 +64,7 @@ flat (suc n) bytes h =
     flat_more n bytes rest.0 (side (length bytes) 2048) rest.1
 
 -- what was packed is read back
-pub bytes-packed : (bytes : List ℕ) → bytes_in (length bytes) (packed bytes) ≡ bytes
+pub bytes-packed : (bytes : List ℕ) → bytes_in_blocks (length bytes) (packed bytes) ≡ bytes
 bytes-packed bytes =
     let enough = div_ceil_times (length bytes) 2048 (omega arith) in
     let all = flat (blocks_for (length bytes)) bytes enough.0 in

@@ -27,7 +27,7 @@ use Rattle.durability.specs.Formats.Kind.{Table as TableEntry}
 use Rattle.durability.specs.Formats.NodePlace.{Extent}
 use Rattle.durability.specs.Step.{FollowsRequest, CarriesOut}
 use Rattle.std.proofs.lemmas.Grind.{div_ceil_times}
-use Rattle.durability.specs.Volume.{Medium, partition_start, IsWithin, extent, bytes_in, HasTable, NoneImitates, IsStoredAt, graph_of, RecoversTo}
+use Rattle.durability.specs.Volume.{Medium, partition_start, IsWithin, extent, bytes_in_blocks, HasTable, NoneImitates, IsStoredAt, graph_of, RecoversTo}
 use Rattle.durability.proofs.Packed.{length-packed, bytes-packed}
 use Rattle.durability.specs.Plan.{zeros, packed, Writing, Written, WritesNodes, with_entry, with_written, without_all, entries_after, IsPlanned, Plans, turned, PlansAddition, PlansReplacement, PlansRemoval, PlansRenaming, PlansMove}
 use Rattle.durability.proofs.Commits.{keeps, reached_used}
@@ -566,7 +566,7 @@ module _ (formats : Formats) (capacity volume : ℕ) (exact : AreExact formats) 
       first = p.first;
       place = refl;
       within = held.0;
-      is = subst (λ (bytes : List ℕ). formats.IsTable p.table (length B + length blocks - partition_start) bytes) (sym (ap (λ (bs : List Block). bytes_in (length p.bytes) bs) held.1 ∙ bytes-packed p.bytes)) p.spelled;
+      is = subst (λ (bytes : List ℕ). formats.IsTable p.table (length B + length blocks - partition_start) bytes) (sym (ap (λ (bs : List Block). bytes_in_blocks (length p.bytes) bs) held.1 ∙ bytes-packed p.bytes)) p.spelled;
     }
 
     -- the planned blocks carry the request out

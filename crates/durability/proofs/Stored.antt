@@ -8,7 +8,7 @@ use Rattle.model.specs.Change.{IsKeptUnder}
 use Rattle.durability.specs.Formats.{Block, Kind, NodePlace, NodeFields, Formats, AreExact}
 use Rattle.durability.specs.Formats.Kind.{Directory, File, Table}
 use Rattle.durability.specs.Formats.NodePlace.{Nowhere, Extent, Inside}
-use Rattle.durability.specs.Volume.{Medium, partition_start, blocks_for, IsWithin, extent, bytes_in, HoldsFile, HoldsDirectory, HoldsBody, IsStoredAt, graph_of}
+use Rattle.durability.specs.Volume.{Medium, partition_start, blocks_for, IsWithin, extent, bytes_in_blocks, HoldsFile, HoldsDirectory, HoldsBody, IsStoredAt, graph_of}
 use Rattle.durability.proofs.Lists.{get-append, part-append}
 
 is_file : Kind → Bool
@@ -34,7 +34,7 @@ extent_more M more first size h = part-append (first + partition_start) (blocks_
 file_more : (M more : Medium) (size : ℕ) (place : NodePlace) (x : List ℕ) → HoldsFile M size place x → HoldsFile (M ++ more) size place x
 file_more M more size Nowhere x a = a
 file_more M more size (Inside inside) x a = a
-file_more M more size (Extent first) x a = (within_more M more first size a.0, a.1 ∙ ap (λ (bs : List Block). bytes_in size bs) (sym (extent_more M more first size a.0)))
+file_more M more size (Extent first) x a = (within_more M more first size a.0, a.1 ∙ ap (λ (bs : List Block). bytes_in_blocks size bs) (sym (extent_more M more first size a.0)))
 
 module _ (formats : Formats) where
   directory_more : (M more : Medium) (size : ℕ) (place : NodePlace) (parent : ℕ) (es : List Entry) → HoldsDirectory formats M size place parent es → HoldsDirectory formats (M ++ more) size place parent es

@@ -9,7 +9,7 @@ use Rattle.model.proofs.Lists.{contains_here, contains_there}
 use Rattle.durability.specs.Formats.{Block, Kind, NodePlace, NodeFields, Formats, AreDistinct}
 use Rattle.durability.specs.Formats.Kind.{Directory, File, Table}
 use Rattle.durability.specs.Formats.NodePlace.{Nowhere, Extent, Inside}
-use Rattle.durability.specs.Volume.{Medium, partition_start, blocks_for, IsWithin, extent, bytes_in, HoldsFile, HoldsDirectory, HoldsBody, IsStoredAt, graph_of, IsVatIcbAt, NoneImitates}
+use Rattle.durability.specs.Volume.{Medium, partition_start, blocks_for, IsWithin, extent, bytes_in_blocks, HoldsFile, HoldsDirectory, HoldsBody, IsStoredAt, graph_of, IsVatIcbAt, NoneImitates}
 use Rattle.durability.specs.Plan.{zeros, packed, kind_of_body, Writing, Written, IsPlaced, PlacesFile, PlacesBody, WritesNode, WritesNodes}
 use Rattle.durability.specs.Plan.PlacesFile.{nowhere, inside, outside}
 use Rattle.durability.proofs.Lists.{get_past}
@@ -56,7 +56,7 @@ module _ (formats : Formats) where
   file_held B bytes from before place more low is (inside some few blocks at) = subst (λ p. HoldsFile (B ++ (before ++ more)) (length bytes) p bytes) (sym at) refl
   file_held B bytes from before place more low is (outside many first placed at) =
       let held = placed_extent B bytes from first before more low is placed in
-      subst (λ p. HoldsFile (B ++ (before ++ more)) (length bytes) p bytes) (sym at) (held.0, sym (ap (λ (xs : List Block). bytes_in (length bytes) xs) held.1 ∙ bytes-packed bytes))
+      subst (λ p. HoldsFile (B ++ (before ++ more)) (length bytes) p bytes) (sym at) (held.0, sym (ap (λ (xs : List Block). bytes_in_blocks (length bytes) xs) held.1 ∙ bytes-packed bytes))
 
   directory_held : (B : Medium) (parent : ℕ) (entries : List Entry) (from : ℕ) (before : List Block) (place : NodePlace) (size : ℕ) (more : List Block) → partition_start ≤ length B → from ≡ length B - partition_start
       → (place ≡ Extent from) × (length before ≡ blocks_for size) × formats.IsDirectory parent entries from size before → HoldsDirectory formats (B ++ (before ++ more)) size place parent entries

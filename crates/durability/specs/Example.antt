@@ -8,12 +8,12 @@ use Rattle.durability.specs.Formats.Kind.{Directory, Table}
 use Rattle.durability.specs.Formats.NodePlace.{Extent}
 use Rattle.durability.specs.Volume.{Medium, RecoversTo, RecoveredTo}
 
-abbrev pub root_fields : NodeFields
-root_fields = record { kind = Directory; moment = 0; links = 1; identity = 0; size = 40; place = Extent 1 }
+abbrev pub example_root : NodeFields
+example_root = record { kind = Directory; moment = 0; links = 1; identity = 0; size = 40; place = Extent 1 }
 
 -- a table's data lie in the block before its entry
-abbrev pub table_fields : ℕ → NodeFields
-table_fields location = record { kind = Table; moment = 0; links = 0; identity = 0; size = 204; place = Extent (location - 1) }
+abbrev pub example_table_fields : ℕ → NodeFields
+example_table_fields location = record { kind = Table; moment = 0; links = 0; identity = 0; size = 204; place = Extent (location - 1) }
 
 abbrev pub refusal : Request
 refusal = record { client = 7; number = 1; moment = 0; operation = Remove [] }
@@ -22,8 +22,8 @@ abbrev pub table_with : Option ℕ → ℕ → List ClientRecord → Table_
 table_with previous commits records =
     record { label = []; previous = previous; files = 0; directories = 1; next_identity = FIRST_UNIQUE; commits = commits; records = records; entries = Some 0 ∷ Some 2 ∷ [] }
 
-abbrev pub first_table : Table_
-first_table = table_with None 0 []
+abbrev pub example_table : Table_
+example_table = table_with None 0 []
 
 abbrev pub second_table : Table_
 second_table = table_with (Some 4) 1 (after_one (formatted 0) refusal).records
@@ -31,10 +31,10 @@ second_table = table_with (Some 4) 1 (after_one (formatted 0) refusal).records
 -- the root's entry and a table's are blocks of one byte, and a table is known by its place
 abbrev pub small : Formats
 small = record {
-  IsEntry = λ fields block location. ((block ≡ 4 ∷ []) × (fields ≡ root_fields)) ⊎ ((block ≡ 248 ∷ []) × (fields ≡ table_fields location));
+  IsEntry = λ fields block location. ((block ≡ 4 ∷ []) × (fields ≡ example_root)) ⊎ ((block ≡ 248 ∷ []) × (fields ≡ example_table_fields location));
   IsFileSet = λ label moment block. Unit {0};
   IsDirectory = λ parent entries first size blocks. (parent ≡ 1) × (entries ≡ []);
-  IsTable = λ table icb bytes. ((icb ≡ 4) × (table ≡ first_table)) ⊎ ((icb ≡ 6) × (table ≡ second_table));
+  IsTable = λ table icb bytes. ((icb ≡ 4) × (table ≡ example_table)) ⊎ ((icb ≡ 6) × (table ≡ second_table));
   IsFront = λ label moment capacity blocks. Unit {0};
 }
 

@@ -52,14 +52,14 @@ abbrev pub listed : Tree → Path → Option Node → Answer
 listed tree path None = NotFound
 listed tree path (Some node) = elim node.content [ File bytes ↦ NotDirectory | Directory names ↦ Names (map (λ name. (is_directory_at tree (path ++ name ∷ []), name)) names) ]
 
-abbrev pub shown : Option Node → Answer
-shown None = NotFound
-shown (Some node) = elim node.content [ File bytes ↦ NodeIs false node.moment (length bytes) | Directory names ↦ NodeIs true node.moment (length names) ]
+abbrev pub answer_to_stat : Option Node → Answer
+answer_to_stat None = NotFound
+answer_to_stat (Some node) = elim node.content [ File bytes ↦ NodeIs false node.moment (length bytes) | Directory names ↦ NodeIs true node.moment (length names) ]
 
 abbrev pub told : Tree → Query → Answer
 told tree (Get path) = got (get tree path)
 told tree (List_ path) = listed tree path (get tree path)
-told tree (Stat path) = shown (get tree path)
+told tree (Stat path) = answer_to_stat (get tree path)
 
 -- what a delivery commits, and how many blocks it writes
 pub record Effect : Type 0 where

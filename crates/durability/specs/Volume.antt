@@ -31,14 +31,14 @@ IsWithin medium first size = first + partition_start + blocks_for size ≤ lengt
 abbrev pub extent : Medium → ℕ → ℕ → List Block
 extent medium first size = take (blocks_for size) (drop (first + partition_start) medium)
 
-abbrev pub bytes_in : ℕ → List Block → List ℕ
-bytes_in size blocks = take size (flat_map (λ b. b) blocks)
+abbrev pub bytes_in_blocks : ℕ → List Block → List ℕ
+bytes_in_blocks size blocks = take size (flat_map (λ b. b) blocks)
 
 -- the bytes of a file
 abbrev pub HoldsFile : Medium → ℕ → NodePlace → List ℕ → Type 0
 HoldsFile medium size Nowhere bytes = bytes ≡ []
 HoldsFile medium size (Inside inside) bytes = bytes ≡ inside
-HoldsFile medium size (Extent first) bytes = IsWithin medium first size × (bytes ≡ bytes_in size (extent medium first size))
+HoldsFile medium size (Extent first) bytes = IsWithin medium first size × (bytes ≡ bytes_in_blocks size (extent medium first size))
 
 module _ (formats : Formats) where
   abbrev pub HoldsDirectory : Medium → ℕ → NodePlace → ℕ → List Entry → Type 0
@@ -90,7 +90,7 @@ module _ (formats : Formats) where
     pub first : ℕ
     pub place : fields.place ≡ Extent first
     pub within : IsWithin below first fields.size
-    pub is : formats.IsTable table (at - partition_start) (bytes_in fields.size (extent below first fields.size))
+    pub is : formats.IsTable table (at - partition_start) (bytes_in_blocks fields.size (extent below first fields.size))
 
   -- The block at this address, and all that it leads to on the blocks below, says the state, on a drive of this capacity in a volume of that one.
   pub record Describes (capacity volume : ℕ) (below : Medium) (at : ℕ) (block : Block) (state : State) : Type 0 where

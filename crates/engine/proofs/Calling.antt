@@ -25,7 +25,7 @@ use Rattle.durability.specs.Runs.{Delivery, Query, Effect, Row, AnswersNew, Answ
 use Rattle.durability.specs.Runs as medium
 use Rattle.durability.specs.Runs.AnswersNew.{committed, failed as fails, full, no_memory}
 use Rattle.durability.proofs.Commits.{moves_front}
-use Rattle.udf.specs.Udf.{udf, spelled}
+use Rattle.udf.specs.Udf.{udf, spelled_length}
 use Rattle.udf.specs.Said.{model_record}
 use Rattle.store.specs.declared.store.Store.{Store}
 use Rattle.lookup.specs.Asked.{model_request, said_query}
@@ -64,7 +64,7 @@ pub none_knows : (volume : ℕ) (S : State) (s : Situation) → s.store ≡ None
 none_knows volume S s none store here = absurd (none-some store (sym none ∙ here.0))
 
 module _ (volume : ℕ) where
-  quiet : (d : Delivery) (a : Option medium.Answer) (S : State) (before afterwards : Situation) → Row (need spelled) S (length before.journal) volume d a nothing
+  quiet : (d : Delivery) (a : Option medium.Answer) (S : State) (before afterwards : Situation) → Row (need spelled_length) S (length before.journal) volume d a nothing
       → Once before.journal → RecoversTo udf before.capacity volume (held before.journal) S → afterwards.journal ≡ before.journal → afterwards.capacity ≡ before.capacity
       → ((store : Store) → IsOpen afterwards store → IsOpenOn afterwards.capacity volume afterwards.journal S store) → IsStep volume d S before a S afterwards
   quiet d a S before afterwards row once stands journal capacity knows = record {
@@ -82,7 +82,7 @@ module _ (volume : ℕ) where
       → IsStep volume d S during a S' afterwards → IsStep volume d S before a S' afterwards
   step_from d a S S' before during afterwards journal capacity step = record {
     effect = step.effect;
-    row = subst (λ (J : List Event). Row (need spelled) S (length J) volume d a step.effect) journal step.row;
+    row = subst (λ (J : List Event). Row (need spelled_length) S (length J) volume d a step.effect) journal step.row;
     blocks = subst (λ (J : List Event). length afterwards.journal ≡ length J + step.effect.blocks) journal step.blocks;
     state = step.state;
     advances = subst (λ (c : ℕ). Advances udf c volume before.journal S afterwards.journal S') capacity (subst (λ (J : List Event). Advances udf during.capacity volume J S afterwards.journal S') journal step.advances);
@@ -104,7 +104,7 @@ module _ (volume : ℕ) where
   short_due S mark capacity most r New a (inl e) = subst (λ (x : medium.Answer). AnswersNew S mark capacity most r x nothing) (sym e) (fails nothing (inl refl) (omega arith) (λ some. absurd (omega arith)))
   short_due S mark capacity most r New a (inr e) = subst (λ (x : medium.Answer). AnswersNew S mark capacity most r x nothing) (sym e) (no_memory nothing (refl, refl))
 
-  short_step : (d : Delivery) (S : State) (before : Situation) (a : Answer) (afterwards : Situation) → HoldsState volume S before → IsShort before a afterwards → Row (need spelled) S (length before.journal) volume d (Some (model_answer a)) nothing
+  short_step : (d : Delivery) (S : State) (before : Situation) (a : Answer) (afterwards : Situation) → HoldsState volume S before → IsShort before a afterwards → Row (need spelled_length) S (length before.journal) volume d (Some (model_answer a)) nothing
       → (S' : State) × IsStep volume d S before (Some (model_answer a)) S' afterwards
   short_step d S before a afterwards at short row = (S, quiet d (Some (model_answer a)) S before afterwards row at.once at.stands short.journal short.capacity (none_knows volume S afterwards short.store))
 
@@ -150,10 +150,10 @@ module _ (volume : ℕ) where
     delivery = medium.Delivery.Delivered (medium.Message.Asks r)
 
     abbrev IsNew : Effect → Type 0
-    IsNew effect = AnswersNew S (length during.journal) volume (need spelled S r) r (model_answer a) effect
+    IsNew effect = AnswersNew S (length during.journal) volume (need spelled_length S r) r (model_answer a) effect
 
-    new_row : (effect : Effect) → IsNew effect → Row (need spelled) S (length during.journal) volume delivery (Some (model_answer a)) effect
-    new_row effect row = subst (λ (d : Due). AnswersDue S (length during.journal) volume (need spelled S r) r d (model_answer a) effect) (sym new) row
+    new_row : (effect : Effect) → IsNew effect → Row (need spelled_length) S (length during.journal) volume delivery (Some (model_answer a)) effect
+    new_row effect row = subst (λ (d : Due). AnswersDue S (length during.journal) volume (need spelled_length S r) r d (model_answer a) effect) (sym new) row
 
     -- the journal went on
     moved : (done : List Request) (row : IsNew (record { done = done; blocks = length afterwards.journal - length during.journal })) → length during.journal ≤ length afterwards.journal
@@ -178,7 +178,7 @@ module _ (volume : ℕ) where
           let effect : Effect = record { done = r ∷ []; blocks = length afterwards.journal - length during.journal } in
           let told_is : model_answer a ≡ medium.Answer.Replied (reply_to S r) = ap model_answer is ∙ ap (λ x. medium.Answer.Replied x) d.reply_is in
           let row : IsNew (record { done = r ∷ []; blocks = length afterwards.journal - length during.journal }) =
-          subst (λ (x : medium.Answer). AnswersNew S (length during.journal) volume (need spelled S r) r x (record { done = r ∷ []; blocks = length afterwards.journal - length during.journal })) (sym told_is)
+          subst (λ (x : medium.Answer). AnswersNew S (length during.journal) volume (need spelled_length S r) r x (record { done = r ∷ []; blocks = length afterwards.journal - length during.journal })) (sym told_is)
           (committed (record { done = r ∷ []; blocks = length afterwards.journal - length during.journal }) refl (omega (arith, d.some)) (omega (arith, d.few)) d.room) in
           (after S (r ∷ []), moved (r ∷ []) row (omega (arith, d.some)) d.advances capacity (knows_kept (after S (r ∷ [])) d.knows))
 
@@ -186,7 +186,7 @@ module _ (volume : ℕ) where
       when_failed f is grows =
           let told_is : model_answer a ≡ medium.Answer.Fault = ap model_answer is in
           let row : IsNew (record { done = f.done; blocks = length afterwards.journal - length during.journal }) =
-          subst (λ (x : medium.Answer). AnswersNew S (length during.journal) volume (need spelled S r) r x (record { done = f.done; blocks = length afterwards.journal - length during.journal })) (sym told_is)
+          subst (λ (x : medium.Answer). AnswersNew S (length during.journal) volume (need spelled_length S r) r x (record { done = f.done; blocks = length afterwards.journal - length during.journal })) (sym told_is)
           (fails (record { done = f.done; blocks = length afterwards.journal - length during.journal }) (whether f.whether) (omega (arith, f.few)) (λ some. f.room (omega (arith, some)))) in
           (after S f.done, moved f.done row grows f.advances capacity (knows_kept (after S f.done) f.knows))
         where
@@ -198,8 +198,8 @@ module _ (volume : ℕ) where
       when_left once stands left row =
           (S, quiet delivery (Some (model_answer a)) S during afterwards (new_row nothing row) once stands left.journal capacity (knows_kept S left.knows))
 
-      as_new : (x : medium.Answer) (effect : Effect) → model_answer a ≡ x → AnswersNew S (length during.journal) volume (need spelled S r) r x effect → IsNew effect
-      as_new x effect e row = subst (λ (y : medium.Answer). AnswersNew S (length during.journal) volume (need spelled S r) r y effect) (sym e) row
+      as_new : (x : medium.Answer) (effect : Effect) → model_answer a ≡ x → AnswersNew S (length during.journal) volume (need spelled_length S r) r x effect → IsNew effect
+      as_new x effect e row = subst (λ (y : medium.Answer). AnswersNew S (length during.journal) volume (need spelled_length S r) r y effect) (sym e) row
 
       when_applied : Once during.journal → RecoversTo udf during.capacity volume (held during.journal) S → (result : _) → Applies during.capacity volume during.journal S r result afterwards.journal kept → a ≡ applied result
           → (S' : State) × IsStep volume delivery S during (Some (model_answer a)) S' afterwards
@@ -210,16 +210,16 @@ module _ (volume : ℕ) where
 
   -- a request for which another thing is due
   settled : (S : State) (r : Request) (during : Situation) (store : Store) (a : Answer) (afterwards : Situation) → IsOpenOn during.capacity volume during.journal S store → afterwards ≡ with_store (Some store) during
-      → AnswersDue S (length during.journal) volume (need spelled S r) r (due S r.client r.number) (model_answer a) nothing
+      → AnswersDue S (length during.journal) volume (need spelled_length S r) r (due S r.client r.number) (model_answer a) nothing
       → IsStep volume (medium.Delivery.Delivered (medium.Message.Asks r)) S during (Some (model_answer a)) S afterwards
   settled S r during store a afterwards knows same row =
       subst (λ (s : Situation). IsStep volume (medium.Delivery.Delivered (medium.Message.Asks r)) S during (Some (model_answer a)) S s) (sym same)
       (quiet (medium.Delivery.Delivered (medium.Message.Asks r)) (Some (model_answer a)) S during (with_store (Some store) during) row knows.once knows.stands refl refl
       (kept_knows volume S (with_store (Some store) during) store refl (λ here. knows)))
 
-  due_row : (S : State) (r : Request) (during : Situation) (a : Answer) (d : Due) → d ≡ due S r.client r.number → AnswersDue S (length during.journal) volume (need spelled S r) r d (model_answer a) nothing
-      → AnswersDue S (length during.journal) volume (need spelled S r) r (due S r.client r.number) (model_answer a) nothing
-  due_row S r during a d e row = subst (λ (x : Due). AnswersDue S (length during.journal) volume (need spelled S r) r x (model_answer a) nothing) e row
+  due_row : (S : State) (r : Request) (during : Situation) (a : Answer) (d : Due) → d ≡ due S r.client r.number → AnswersDue S (length during.journal) volume (need spelled_length S r) r d (model_answer a) nothing
+      → AnswersDue S (length during.journal) volume (need spelled_length S r) r (due S r.client r.number) (model_answer a) nothing
+  due_row S r during a d e row = subst (λ (x : Due). AnswersDue S (length during.journal) volume (need spelled_length S r) r x (model_answer a) nothing) e row
 
   dealt : (d : Due) (S : State) (r : asking.Request) (during : Situation) (store : Store) (a : Answer) (afterwards : Situation) → d ≡ due S r.client r.number → IsOpenOn during.capacity volume during.journal S store
       → IsDealt d volume S r during store a afterwards → (S' : State) × IsStep volume (medium.Delivery.Delivered (medium.Message.Asks (model_request r))) S during (Some (model_answer a)) S' afterwards
@@ -257,7 +257,7 @@ module _ (volume : ℕ) where
       )
   calls_step (message.Request r) S before a afterwards at (inl short) =
       short_step _ S before a afterwards at short
-      (short_due S (length before.journal) volume (need spelled S (model_request r)) (model_request r) (due S r.client r.number) (model_answer a) (short_fails before a afterwards short))
+      (short_due S (length before.journal) volume (need spelled_length S (model_request r)) (model_request r) (due S r.client r.number) (model_answer a) (short_fails before a afterwards short))
   calls_step (message.Request r) S before a afterwards at (inr (during, store, uses, done)) =
       use_step _ S before during store _ afterwards uses
       (dealt (due_of store r.client r.number) S r during store a afterwards (same_due S during store r.client r.number uses.knows) uses.knows done)

@@ -9,14 +9,14 @@ use Rattle.durability.specs.Journal.{Advances}
 use Rattle.durability.specs.Runs.{Delivery, Answer, Row, Runs}
 use Rattle.durability.proofs.OnJournals.{length-held, holds_on_journal}
 use Rattle.durability.proofs.Runs.{holds}
-use Rattle.udf.specs.Udf.{udf, spelled}
+use Rattle.udf.specs.Udf.{udf, spelled_length}
 use Rattle.engine.specs.Situation.{Situation}
 use Rattle.engine.specs.Steps.{HoldsState, AllSteps, StepsHold}
 
 -- what steps make of a medium
 record Made (volume capacity : ℕ) (ds : List Delivery) (S : State) (before : Situation) (answers : List Answer) (S' : State) (afterwards : Situation) : Type 0 where
   committed : List Request
-  runs : Runs udf (need spelled) capacity volume (held before.journal) S ds answers committed (held afterwards.journal) S'
+  runs : Runs udf (need spelled_length) capacity volume (held before.journal) S ds answers committed (held afterwards.journal) S'
   once : Once afterwards.journal
   front : take (length before.journal) afterwards.journal ≡ before.journal
   grows : length before.journal ≤ length afterwards.journal
@@ -49,12 +49,12 @@ module _ (volume capacity : ℕ) where
           step.effect,
           rest,
           later.committed,
-          subst (λ (n : ℕ). Row (need spelled) S n volume d a step.effect) (sym (length-held before.journal at.once)) step.row,
+          subst (λ (n : ℕ). Row (need spelled_length) S n volume d a step.effect) (sym (length-held before.journal at.once)) step.row,
           length-held during.journal now.once ∙ step.blocks ∙ ap (λ (n : ℕ). n + step.effect.blocks) (sym (length-held before.journal at.once)),
           subst (λ (U : State). Moves udf capacity volume (held before.journal) S (held during.journal) U) step.state now.moves,
           told,
           refl,
-          subst (λ (U : State). Runs udf (need spelled) capacity volume (held during.journal) U ds rest later.committed (held afterwards.journal) S') step.state later.runs,
+          subst (λ (U : State). Runs udf (need spelled_length) capacity volume (held during.journal) U ds rest later.committed (held afterwards.journal) S') step.state later.runs,
         );
         once = later.once;
         front = front_on before.journal during.journal afterwards.journal now.front (omega (arith, step.blocks)) later.front;
@@ -64,5 +64,5 @@ module _ (volume capacity : ℕ) where
 pub steps_hold : StepsHold
 steps_hold volume ds S before answers S' afterwards at steps =
     let m = made volume before.capacity ds S before answers S' afterwards at refl steps in
-    holds_on_journal udf before.capacity volume (need spelled) S before.journal afterwards.journal ds answers at.once m.once m.front
-    (holds udf (need spelled) before.capacity volume S (held before.journal) (held afterwards.journal) ds answers m.committed S' at.stands m.runs)
+    holds_on_journal udf before.capacity volume (need spelled_length) S before.journal afterwards.journal ds answers at.once m.once m.front
+    (holds udf (need spelled_length) before.capacity volume S (held before.journal) (held afterwards.journal) ds answers m.committed S' at.stands m.runs)

@@ -17,7 +17,7 @@ use Rattle.durability.specs.Runs.{Delivery, Answer}
 use Rattle.durability.specs.Runs.Delivery.{Delivered}
 use Rattle.durability.proofs.History.{past_now}
 use Rattle.durability.proofs.Lists.{side, take_past}
-use Rattle.udf.specs.Udf.{udf, spelled}
+use Rattle.udf.specs.Udf.{udf, spelled_length}
 use Rattle.request.specs.declared.answer.Answer as told
 use Rattle.request.specs.declared.message.Message.{Message}
 use Rattle.engine.specs.declared.runs.Delivery as delivered
@@ -42,7 +42,7 @@ cut_here : (volume : ℕ) (S : State) (before : Situation) (said : List Delivery
     → AllSteps volume said S before answers T during → during.capacity ≡ before.capacity → MessageSurvivesPowerLoss volume T asked failed during next → IsLost during next lost
     → (under : List Request) × IsRunCutShort before.capacity volume S before.journal (record { said = said; answers = answers; under = under }) lost × ((under ≡ []) ⊎ ((request : Request) × (under ≡ request ∷ []) × asked request))
 cut_here volume S before said answers T during next asked failed lost at steps size w l =
-    let run : HoldsOnJournal udf (need spelled) before.capacity volume S before.journal during.journal said answers = steps_hold volume said S before answers T during at steps in
+    let run : HoldsOnJournal udf (need spelled_length) before.capacity volume S before.journal during.journal said answers = steps_hold volume said S before answers T during at steps in
     let there : HoldsState volume T during = at_end volume said S before answers T during at steps in
     let stood : RecoversTo udf before.capacity volume (held during.journal) T = subst (λ (c : ℕ). RecoversTo udf c volume (held during.journal) T) size there.stands in
     let state : T ≡ after S run.holds.committed = held_ended volume before.capacity said S before.journal during.journal answers T run stood in

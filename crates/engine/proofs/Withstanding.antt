@@ -12,7 +12,7 @@ use Rattle.durability.specs.Commit.{need}
 use Rattle.durability.specs.Journal.{Advances, HoldsOnJournal}
 use Rattle.durability.specs.Runs as medium
 use Rattle.durability.specs.Volume.{RecoversTo}
-use Rattle.udf.specs.Udf.{udf, spelled}
+use Rattle.udf.specs.Udf.{udf, spelled_length}
 use Rattle.store.specs.Calls as store
 use Rattle.store.specs.Calls.{IsOpenOn}
 use Rattle.store.specs.declared.store.Store.{Store}
@@ -90,7 +90,7 @@ withstands_from volume S asked failed before during afterwards journal size writ
 
 -- where a run ended the state after all its commits is recovered
 pub held_stands : (volume capacity : ℕ) (deliveries : List medium.Delivery) (S : State) (before afterwards : List Event) (answers : List medium.Answer)
-    (run : HoldsOnJournal udf (need spelled) capacity volume S before afterwards deliveries answers) → RecoversTo udf capacity volume (held afterwards) (after S run.holds.committed)
+    (run : HoldsOnJournal udf (need spelled_length) capacity volume S before afterwards deliveries answers) → RecoversTo udf capacity volume (held afterwards) (after S run.holds.committed)
 held_stands volume capacity deliveries S before afterwards answers run =
     let committed = run.holds.committed in
     let size : length (held afterwards) ≡ length afterwards = ap (λ (bs : List Block). length bs) (held_once afterwards run.once) ∙ length-blocks_of afterwards in
@@ -102,7 +102,7 @@ held_stands volume capacity deliveries S before afterwards answers run =
 
 -- and no other
 pub held_ended : (volume capacity : ℕ) (deliveries : List medium.Delivery) (S : State) (before afterwards : List Event) (answers : List medium.Answer) (T : State)
-    (run : HoldsOnJournal udf (need spelled) capacity volume S before afterwards deliveries answers) → RecoversTo udf capacity volume (held afterwards) T → T ≡ after S run.holds.committed
+    (run : HoldsOnJournal udf (need spelled_length) capacity volume S before afterwards deliveries answers) → RecoversTo udf capacity volume (held afterwards) T → T ≡ after S run.holds.committed
 held_ended volume capacity deliveries S before afterwards answers T run stands =
     stands_one udf exact capacity volume capacity volume (held afterwards) T (after S run.holds.committed) stands (held_stands volume capacity deliveries S before afterwards answers run)
 

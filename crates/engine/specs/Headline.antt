@@ -10,7 +10,7 @@ use Rattle.durability.specs.Volume.{RecoversTo}
 use Rattle.durability.specs.Commit.{need}
 use Rattle.durability.specs.Journal.{HoldsOnJournal}
 use Rattle.durability.specs.Runs.{Delivery}
-use Rattle.udf.specs.Udf.{udf, spelled}
+use Rattle.udf.specs.Udf.{udf, spelled_length}
 use Rattle.engine.specs.declared.runs.Delivery as delivered
 use Rattle.engine.specs.declared.runs.Delivery.TheVariants.{Frame, Restart}
 use Rattle.store.specs.declared.store.Store.{Store}
@@ -53,7 +53,7 @@ RunsGoOn =
 pub record RunHolds (volume capacity : ℕ) (deliveries : List delivered.Delivery) (S : State) (before : List Event) (answers : List Answer) (afterwards : List Event) : Type 0 where
   pub said : List Delivery
   pub are_said : AllSaid deliveries said
-  pub holds : HoldsOnJournal udf (need spelled) capacity volume S before afterwards said (model_answers answers)
+  pub holds : HoldsOnJournal udf (need spelled_length) capacity volume S before afterwards said (model_answers answers)
 
 abbrev pub RunsAreHeld : Type 0
 RunsAreHeld =

@@ -12,7 +12,7 @@ use Rattle.durability.specs.Volume.{RecoversTo, RecoveredTo}
 use Rattle.durability.specs.Commit.{need}
 use Rattle.durability.specs.Journal.{Advances, HoldsOnJournal}
 use Rattle.durability.specs.Runs.{Delivery, Answer}
-use Rattle.udf.specs.Udf.{udf, spelled}
+use Rattle.udf.specs.Udf.{udf, spelled_length}
 use Rattle.engine.specs.declared.runs.Delivery as delivered
 use Rattle.engine.specs.Situation.{Situation, with_store}
 use Rattle.engine.specs.Said.{AllSaid, model_answers}
@@ -32,7 +32,7 @@ pub record Life : Type 0 where
 -- these is recovered, or the one after them and the new request that was under way.
 pub record IsRunCutShort (capacity volume : ℕ) (S : State) (before : List Event) (life : Life) (afterwards : List Event) : Type 0 where
   pub during : List Event
-  pub run : HoldsOnJournal udf (need spelled) capacity volume S before during life.said life.answers
+  pub run : HoldsOnJournal udf (need spelled_length) capacity volume S before during life.said life.answers
   pub few : (life.under ≡ []) ⊎ ((request : Request) × (life.under ≡ request ∷ []) × (due (after S run.holds.committed) request.client request.number ≡ New))
   pub advances : Advances udf capacity volume during (after S run.holds.committed) afterwards (after S (run.holds.committed ++ life.under))
 

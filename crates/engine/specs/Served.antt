@@ -11,7 +11,7 @@ use Rattle.durability.specs.Commit.{need}
 use Rattle.durability.specs.Journal.{HoldsOnJournal}
 use Rattle.durability.specs.Runs.{Delivery}
 use Rattle.durability.specs.Runs.Delivery.{Delivered}
-use Rattle.udf.specs.Udf.{udf, spelled}
+use Rattle.udf.specs.Udf.{udf, spelled_length}
 use Rattle.engine.specs.Situation.{Situation}
 use Rattle.engine.specs.declared.serving.ServeFault.{ServeFault}
 use Rattle.engine.specs.declared.serving.ServeFault.TheVariants as faults
@@ -37,7 +37,7 @@ brought messages = map (λ m. Delivered (model_message m)) messages
 abbrev pub ServedHolds : List Message → Situation → List Answer → Situation → Type 0
 ServedHolds messages before answers afterwards =
     (volume : ℕ) (S : State) → IsTrue afterwards.honest → HoldsState volume S before
-    → HoldsOnJournal udf (need spelled) before.capacity volume S before.journal afterwards.journal (brought messages) (model_answers answers)
+    → HoldsOnJournal udf (need spelled_length) before.capacity volume S before.journal afterwards.journal (brought messages) (model_answers answers)
 
 -- Of messages, one after another, from the recovered state where the first of them comes. Each is a step that the medium's
 -- runs allow, from the state that the one before it left and the journal as it was when the message came. And whatever a loss

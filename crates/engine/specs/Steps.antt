@@ -7,7 +7,7 @@ use Rattle.durability.specs.Volume.{RecoversTo}
 use Rattle.durability.specs.Commit.{need}
 use Rattle.durability.specs.Journal.{Advances, HoldsOnJournal}
 use Rattle.durability.specs.Runs.{Delivery, Answer, Effect, Row}
-use Rattle.udf.specs.Udf.{udf, spelled}
+use Rattle.udf.specs.Udf.{udf, spelled_length}
 use Rattle.store.specs.declared.store.Store.{Store}
 use Rattle.store.specs.Calls.{IsOpenOn}
 use Rattle.engine.specs.Situation.{Situation, IsOpen}
@@ -21,7 +21,7 @@ pub record HoldsState (volume : ℕ) (S : State) (s : Situation) : Type 0 where
 -- A delivery gets an answer, none at a restart, by a row of the medium's, and the journal goes on as the row says.
 pub record IsStep (volume : ℕ) (d : Delivery) (S : State) (before : Situation) (a : Option Answer) (S' : State) (afterwards : Situation) : Type 0 where
   pub effect : Effect
-  pub row : Row (need spelled) S (length before.journal) volume d a effect
+  pub row : Row (need spelled_length) S (length before.journal) volume d a effect
   pub blocks : length afterwards.journal ≡ length before.journal + effect.blocks
   pub state : S' ≡ after S effect.done
   pub advances : Advances udf before.capacity volume before.journal S afterwards.journal S'
@@ -40,4 +40,4 @@ abbrev pub StepsHold : Type 0
 StepsHold =
     (volume : ℕ) (deliveries : List Delivery) (S : State) (before : Situation) (answers : List Answer) (S' : State) (afterwards : Situation) → HoldsState volume S before
     → AllSteps volume deliveries S before answers S' afterwards
-    → HoldsOnJournal udf (need spelled) before.capacity volume S before.journal afterwards.journal deliveries answers
+    → HoldsOnJournal udf (need spelled_length) before.capacity volume S before.journal afterwards.journal deliveries answers

@@ -5,7 +5,7 @@ ghost use Rattle.model.specs.Session.{State};
 ghost use Rattle.model.specs.Tree.{Path};
 ghost use Rattle.drive.specs.Reads.{ReadsOnly};
 ghost use Rattle.drive.specs.Reads as drives;
-ghost use Rattle.recover.specs.Faults.{IsShortage, devices, failures_of};
+ghost use Rattle.recover.specs.Faults.{IsShortage, devices, device_failures};
 ghost use Rattle.request.specs.declared.answer.Answer.TheVariants as answers;
 ghost use Rattle.request.specs.declared.message.Message.TheVariants as messages;
 ghost use Rattle.request.specs.declared.message.Query.TheVariants as queries;
@@ -177,7 +177,7 @@ fn answer_query<D: Drive>(store: &mut Store, alloc: Global, drive: &mut D, query
 fn refusal(fault: StoreFault) -> Answer
     ensures refused { result ≡ refused fault }
     ensures may { (result ≡ answers.Full) ⊎ FailsOrIsDamaged result }
-    ensures device { faults result ≡ failures_of fault }
+    ensures device { faults result ≡ device_failures fault }
 {
     match fault {
         StoreFault::Full => Answer::Full,
@@ -189,7 +189,7 @@ fn refusal(fault: StoreFault) -> Answer
 fn get_refusal(fault: StoreFault) -> Answer
     ensures refused { result ≡ get_refused fault }
     ensures reported { (path : Path) → CanBeAnswered (queries.Get path) result }
-    ensures device { faults result ≡ failures_of fault }
+    ensures device { faults result ≡ device_failures fault }
 {
     match fault {
         StoreFault::NotFound => Answer::NotFound,
@@ -202,7 +202,7 @@ fn get_refusal(fault: StoreFault) -> Answer
 fn list_refusal(fault: StoreFault) -> Answer
     ensures refused { result ≡ list_refused fault }
     ensures reported { (path : Path) → CanBeAnswered (queries.List path) result }
-    ensures device { faults result ≡ failures_of fault }
+    ensures device { faults result ≡ device_failures fault }
 {
     match fault {
         StoreFault::NotFound => Answer::NotFound,
@@ -215,7 +215,7 @@ fn list_refusal(fault: StoreFault) -> Answer
 fn stat_refusal(fault: StoreFault) -> Answer
     ensures refused { result ≡ stat_refused fault }
     ensures reported { (path : Path) → CanBeAnswered (queries.Stat path) result }
-    ensures device { faults result ≡ failures_of fault }
+    ensures device { faults result ≡ device_failures fault }
 {
     match fault {
         StoreFault::NotFound => Answer::NotFound,
@@ -227,7 +227,7 @@ fn stat_refusal(fault: StoreFault) -> Answer
 fn failure(fault: StoreFault) -> Answer
     ensures fails { FailsOrIsDamaged result }
     ensures failed { result ≡ failed fault }
-    ensures device { faults result ≡ failures_of fault }
+    ensures device { faults result ≡ device_failures fault }
 {
     match fault {
         StoreFault::Device => Answer::Fault,

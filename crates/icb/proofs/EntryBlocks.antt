@@ -16,7 +16,7 @@ use Rattle.icb.specs.declared.entry.Place as source
 use Rattle.icb.specs.declared.entry.Place.TheVariants as places
 use Rattle.icb.specs.declared.planned.PlannedEntry.TheInside as planned
 use Rattle.ecma.specs.Blocks.{block_count}
-use Rattle.icb.specs.Entry.{Fields, FitsEntry, FitsPlace, IsEntry, Place, allocation, blocks_recorded, entry_parts, extent, file_type, flags_of, inside, permissions, place_of}
+use Rattle.icb.specs.Entry.{Fields, FitsEntry, FitsPlace, IsEntry, Place, allocation, blocks_recorded, entry_parts, long_descriptor, file_type, flags_of, inside, permissions, place_of}
 use Rattle.icb.specs.Entry.Place.{Nowhere, Extent, Inside}
 use Rattle.icb.specs.Planned.{entry_body, planned_block}
 
@@ -76,7 +76,7 @@ block_there p place is =
     ap (λ (q : source.Place). descriptor_block 261 p.location (entry_body (record { kind = p.entry.kind; moment = p.entry.moment; links = p.entry.links; unique = p.entry.unique; size = p.entry.size; place = place_of q }) p.stamp)) is
 
 -- the block of an entry with its bytes in an extent, as it is written
-pub block_extended : (p : planned.Inside) (first blocks : ℕ) (after : List ℕ) → p.entry.place ≡ places.Extent first → blocks ≡ block_count p.entry.size → after ≡ extent p.entry.size first
+pub block_extended : (p : planned.Inside) (first blocks : ℕ) (after : List ℕ) → p.entry.place ≡ places.Extent first → blocks ≡ block_count p.entry.size → after ≡ long_descriptor p.entry.size first
     → descriptor_block 261 p.location (concat (entry_parts (file_type p.entry.kind) 1 (permissions p.entry.kind) p.entry.links p.entry.size blocks p.stamp p.entry.unique (length after) after)) ≡ planned_block p
 block_extended p first blocks after is blocks-are after-is =
     let parts : ℕ → List ℕ → List ℕ = λ (n : ℕ) (x : List ℕ). concat (entry_parts (file_type p.entry.kind) 1 (permissions p.entry.kind) p.entry.links p.entry.size n p.stamp p.entry.unique (length x) x) in

@@ -13,7 +13,7 @@ use Rattle.model.specs.Graph.{Stored, Body, is_directory, content_in}
 use Rattle.model.specs.Graph.Body.{Bytes, Entries}
 use Rattle.durability.specs.Formats.{Block, NodePlace, NodeFields}
 use Rattle.durability.specs.Formats.NodePlace.{Nowhere, Extent, Inside}
-use Rattle.durability.specs.Volume.{Medium, HoldsBody, HoldsFile, IsWithin, bytes_in, extent}
+use Rattle.durability.specs.Volume.{Medium, HoldsBody, HoldsFile, IsWithin, bytes_in_blocks, extent}
 use Rattle.udf.specs.Udf.{udf}
 use Rattle.udf.specs.Words.{icb_fields, icb_place}
 use Rattle.lookup.specs.Shows.{graph_below}
@@ -53,11 +53,11 @@ within_entry medium size Nowhere bytes inside h e = cc
 within_entry medium size (Inside there) bytes inside h e = h ∙ sym (ap inside_of e)
 within_entry medium size (Extent first) bytes inside h e = cc
 
-after : (medium : Medium) (size : ℕ) (place : NodePlace) (bytes : List ℕ) (first : ℕ) → HoldsFile medium size place bytes → icb.Place.Extent first ≡ icb_place place → IsWithin medium first size × (bytes ≡ bytes_in size (extent medium first size))
+after : (medium : Medium) (size : ℕ) (place : NodePlace) (bytes : List ℕ) (first : ℕ) → HoldsFile medium size place bytes → icb.Place.Extent first ≡ icb_place place → IsWithin medium first size × (bytes ≡ bytes_in_blocks size (extent medium first size))
 unfolding first_of
 after medium size Nowhere bytes first h e = cc
 after medium size (Inside inside) bytes first h e = cc
-after medium size (Extent there) bytes first h e = subst (λ (n : ℕ). IsWithin medium n size × (bytes ≡ bytes_in size (extent medium n size))) (sym (ap first_of e)) h
+after medium size (Extent there) bytes first h e = subst (λ (n : ℕ). IsWithin medium n size × (bytes ≡ bytes_in_blocks size (extent medium n size))) (sym (ap first_of e)) h
 
 module _ (at : ℕ) (J : List Event) (s : Stored) (fields : NodeFields) (read : FileEntry) (h : HasBytes (take at (held J)) s fields) (same : icb.fields_of read ≡ icb_fields fields) where
   place_is : icb.place_of read.place ≡ icb_place fields.place
@@ -72,8 +72,8 @@ module _ (at : ℕ) (J : List Event) (s : Stored) (fields : NodeFields) (read : 
   pub stored_extent : (first : ℕ) → read.place ≡ places.Extent first → (first + PARTITION_START + div_ceil read.size BLOCK_BYTES ≤ at) × (s.body ≡ Bytes (medium_bytes_at (held J) (first + PARTITION_START) read.size))
   stored_extent first e =
       let size : fields.size ≡ read.size = sym (ap (λ (f : icb.Fields). f.size) same) in
-      let b = subst (λ (n : ℕ). IsWithin (take at (held J)) first n × (h.bytes ≡ bytes_in n (extent (take at (held J)) first n))) size
+      let b = subst (λ (n : ℕ). IsWithin (take at (held J)) first n × (h.bytes ≡ bytes_in_blocks n (extent (take at (held J)) first n))) size
       (after (take at (held J)) fields.size fields.place h.bytes first h.holds (sym (ap icb.place_of e) ∙ place_is)) in (
         omega (arith, b.0, shorter at (held J)),
-        h.body ∙ ap Bytes (b.1 ∙ ap (λ (bs : List Block). bytes_in read.size bs) (part_below (held J) at (first + PARTITION_START) (div_ceil read.size BLOCK_BYTES) b.0)),
+        h.body ∙ ap Bytes (b.1 ∙ ap (λ (bs : List Block). bytes_in_blocks read.size bs) (part_below (held J) at (first + PARTITION_START) (div_ceil read.size BLOCK_BYTES) b.0)),
       )

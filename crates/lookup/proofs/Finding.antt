@@ -10,7 +10,7 @@ use Rattle.recover.specs.declared.node.Node.{Node}
 use Rattle.udf.specs.Said.{names_directory}
 use Rattle.udf.specs.Udf.{udf}
 use Rattle.udf.proofs.Formats.{exact}
-use Rattle.lookup.specs.Lookups.{IsSound, Looks, OfDirectory, OfStoredNode, Sees, SeesDirectory, graph_seen}
+use Rattle.lookup.specs.Lookups.{IsReliable, Looks, OfDirectory, OfStoredNode, Sees, SeesDirectory, graph_seen}
 use Rattle.lookup.specs.Shows.{IsFound, IsFoundDirectory, IsNodeAt}
 use Rattle.lookup.specs.declared.lookup.Lookup.{Lookup}
 use Rattle.lookup.proofs.Looking.{directory_later, directory_seen, found_seen, sees_before, sees_next, sound_next, stored_seen}
@@ -36,10 +36,10 @@ module _ {D : Type 0} {drive : Ghosts D} where
       found_seen tree (path ++ name ∷ []) o p (found tree path (seen_between tree p q r s, directory_later p (record { node = parent; there = here; directory = directory; address_is = refl }))).0
 
   -- what is said of a directory, and of a node
-  pub opened_between : {n : ℕ} {a b c : Lookup D drive} (says : Stored → Type 0) (path : Path) (node : Node) → Looks drive 0 a b → Looks drive n b c → IsSound drive a c → (here : IsNodeAt (graph_seen drive a) path node) → names_directory node.kind ≡ true
+  pub opened_between : {n : ℕ} {a b c : Lookup D drive} (says : Stored → Type 0) (path : Path) (node : Node) → Looks drive 0 a b → Looks drive n b c → IsReliable drive a c → (here : IsNodeAt (graph_seen drive a) path node) → names_directory node.kind ≡ true
       → OfDirectory drive b c node.address says → says here.found.stored
   opened_between says path node p q k here directory said = said (sound_next p q k) here.found.stored (stored_seen path node here p) (sym here.kind ∙ directory)
 
-  pub stored_between : {n : ℕ} {a b c : Lookup D drive} (says : Stored → Type 0) (path : Path) (node : Node) → Looks drive 0 a b → Looks drive n b c → IsSound drive a c → (here : IsNodeAt (graph_seen drive a) path node)
+  pub stored_between : {n : ℕ} {a b c : Lookup D drive} (says : Stored → Type 0) (path : Path) (node : Node) → Looks drive 0 a b → Looks drive n b c → IsReliable drive a c → (here : IsNodeAt (graph_seen drive a) path node)
       → OfStoredNode drive b c node says → says here.found.stored
   stored_between says path node p q k here said = said (sound_next p q k) here.found.stored (stored_seen path node here p) here.kind

@@ -27,7 +27,7 @@ use Rattle.lookup.specs.declared.content.Content.{Content}
 use Rattle.lookup.specs.declared.nodes.Placed.{Placed}
 use Rattle.recover.specs.declared.node.Node.{Node}
 use Rattle.lookup.specs.Heights.{IsHeight, IsHeightSoFar}
-use Rattle.lookup.specs.Shows.{IsNodeAt, IsOpened, graph_below}
+use Rattle.lookup.specs.Shows.{IsNodeAt, MatchesStored, graph_below}
 use Rattle.lookup.proofs.Walks.{node_at, names_stored, said_names, step_some, step_file}
 
 -- ---- one name after another
@@ -159,15 +159,15 @@ module _ (graph : Graph) (tree : Tree) (one : IsFunctional graph) (is : IsTree t
   pub has_at : (path : Path) (node : Node) → IsNodeAt graph path node → Has tree path
   has_at path node at = ap is_some (node_at graph tree one is makes path node at)
 
-  pub names_opened : (path : Path) (node : Node) (at : IsNodeAt graph path node) (placed : Placed) (content : Content) → IsOpened at.found.stored placed content → names_at tree path ≡ map (λ (e : Name × DirEntry). e.0) content.dir.entries.entries
+  pub names_opened : (path : Path) (node : Node) (at : IsNodeAt graph path node) (placed : Placed) (content : Content) → MatchesStored at.found.stored placed content → names_at tree path ≡ map (λ (e : Name × DirEntry). e.0) content.dir.entries.entries
   names_opened path node at placed content shown =
       names_stored graph tree one is makes path node at ∙ (ap (λ (b : Body). names_in (content_in b)) shown.body ∙ said_names content.dir.entries.entries)
 
-  pub distinct_opened : (path : Path) (node : Node) (at : IsNodeAt graph path node) (placed : Placed) (content : Content) → IsOpened at.found.stored placed content → IsDistinct (pointwise nat_eq) (keys_of content.dir.entries.entries)
+  pub distinct_opened : (path : Path) (node : Node) (at : IsNodeAt graph path node) (placed : Placed) (content : Content) → MatchesStored at.found.stored placed content → IsDistinct (pointwise nat_eq) (keys_of content.dir.entries.entries)
   distinct_opened path node at placed content shown = subst (λ (ns : List Name). IsDistinct (pointwise nat_eq) ns) (names_opened path node at placed content shown) (is.distinct path)
 
   -- what an entry leads to
-  pub entry_leads : (path : Path) (node : Node) (at : IsNodeAt graph path node) (placed : Placed) (content : Content) → IsOpened at.found.stored placed content → (i : ℕ) (name : Name) (e : DirEntry) → slice_get content.dir.entries.entries i ≡ Some (name, e)
+  pub entry_leads : (path : Path) (node : Node) (at : IsNodeAt graph path node) (placed : Placed) (content : Content) → MatchesStored at.found.stored placed content → (i : ℕ) (name : Name) (e : DirEntry) → slice_get content.dir.entries.entries i ≡ Some (name, e)
       → IsNodeAt graph (path ++ name ∷ []) (record { kind = e.kind; address = e.virtual_address; unique = e.unique })
   entry_leads path node at placed content shown i name e found =
       step_some graph tree one is makes path node at placed content shown name e
@@ -198,13 +198,13 @@ module _ (at : ℕ) (entries : List (Option ℕ)) (J : List Event) (tree : Tree)
       subst (λ (K : List Event). graph_below at entries K address here.found.stored) (sym same) there
 
   -- the height below an entry, on a journal that is the same
-  pub leads_on : (J1 : List Event) → J1 ≡ J → (path : Path) (node : Node) (here : IsNodeAt (graph_below at entries J) path node) (placed : Placed) (content : Content) → IsOpened here.found.stored placed content → (i : ℕ) (name : Name) (e : DirEntry)
+  pub leads_on : (J1 : List Event) → J1 ≡ J → (path : Path) (node : Node) (here : IsNodeAt (graph_below at entries J) path node) (placed : Placed) (content : Content) → MatchesStored here.found.stored placed content → (i : ℕ) (name : Name) (e : DirEntry)
       → slice_get content.dir.entries.entries i ≡ Some (name, e) → IsNodeAt (graph_below at entries J1) (path ++ name ∷ []) (record { kind = e.kind; address = e.virtual_address; unique = e.unique })
   leads_on J1 same path node here placed content shown i name e found =
       subst (λ (K : List Event). IsNodeAt (graph_below at entries K) (path ++ name ∷ []) (record { kind = e.kind; address = e.virtual_address; unique = e.unique })) (sym same)
       (entry_leads (graph_below at entries J) tree (one_on at entries J) is makes path node here placed content shown i name e found)
 
-  pub height_opened : (path : Path) (node : Node) (here : IsNodeAt (graph_below at entries J) path node) (placed : Placed) (content : Content) → IsOpened here.found.stored placed content → (left count height : ℕ)
+  pub height_opened : (path : Path) (node : Node) (here : IsNodeAt (graph_below at entries J) path node) (placed : Placed) (content : Content) → MatchesStored here.found.stored placed content → (left count height : ℕ)
       → length content.dir.entries.entries ≤ count → IsHeightSoFar tree path left content.dir.entries.entries count height → IsHeight tree path left height
   height_opened path node here placed content shown left count height all so_far =
       height_all tree path left content.dir.entries.entries count height is (names_opened (graph_below at entries J) tree (one_on at entries J) is makes path node here placed content shown) all so_far

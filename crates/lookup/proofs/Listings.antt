@@ -12,7 +12,7 @@ use Rattle.model.specs.Graph.{Graph, Body, Entry, MakesTree, IsFunctional, entri
 use Rattle.model.specs.Graph.Body.{Bytes, Entries}
 use Rattle.model.proofs.Lists.{contains_here, contains_there, contains_map}
 use Rattle.model.proofs.Made.{has_stored}
-use Rattle.durability.specs.Runs.{listed, shown, told}
+use Rattle.durability.specs.Runs.{listed, answer_to_stat, told}
 use Rattle.durability.specs.Runs.Answer.{Names, NodeIs, NotFound, NotDirectory}
 use Rattle.durability.specs.Runs.Query.{List_, Stat}
 use Rattle.durability.proofs.Stored.{stored_one}
@@ -44,7 +44,7 @@ pub listed_none : (tree : Tree) (path : Path) → get tree path ≡ None → tol
 listed_none tree path none = ap (listed tree path) none
 
 pub shown_none : (tree : Tree) (path : Path) → get tree path ≡ None → told tree (Stat path) ≡ NotFound
-shown_none tree path none = ap shown none
+shown_none tree path none = ap answer_to_stat none
 
 file_listed : (tree : Tree) (path : Path) (identity moment : ℕ) (b : Body) → has_names (content_in b) ≡ false → listed tree path (Some (record { identity = identity; moment = moment; content = content_in b })) ≡ NotDirectory
 file_listed tree path identity moment (Bytes bytes) e = refl
@@ -89,20 +89,20 @@ module _ (at : ℕ) (entries : List (Option ℕ)) (J : List Event) (tree : Tree)
   pub shown_directory : (path : Path) (node : Node) (here : IsNodeAt (graph_below at entries J) path node) (moment size : ℕ) → names_directory node.kind ≡ true
       → moment ≡ here.found.stored.moment → size ≡ length (entries_of here.found.stored) → told tree (Stat path) ≡ NodeIs true moment size
   shown_directory path node here moment size dir same count =
-      ap shown (node_at (graph_below at entries J) tree one is makes path node here)
+      ap answer_to_stat (node_at (graph_below at entries J) tree one is makes path node here)
       ∙ (by here.found.stored.body (sym here.kind ∙ dir) ∙ (λ k. NodeIs true (sym same k) (sym count k)))
     where
-      by : (b : Body) → has_names (content_in b) ≡ true → shown (Some (record { identity = here.found.stored.identity; moment = here.found.stored.moment; content = content_in b })) ≡ NodeIs true here.found.stored.moment (length (entries_in b))
+      by : (b : Body) → has_names (content_in b) ≡ true → answer_to_stat (Some (record { identity = here.found.stored.identity; moment = here.found.stored.moment; content = content_in b })) ≡ NodeIs true here.found.stored.moment (length (entries_in b))
       by (Bytes bytes) e = absurd (true≢false (sym e))
       by (Entries parent entries) e = ap (λ (n : ℕ). NodeIs true here.found.stored.moment n) (length-map entries (λ (x : Entry). x.name))
 
   pub shown_file : (path : Path) (node : Node) (here : IsNodeAt (graph_below at entries J) path node) (moment size : ℕ) → names_directory node.kind ≡ false
       → moment ≡ here.found.stored.moment → ((bytes : List ℕ) → here.found.stored.body ≡ Bytes bytes → size ≡ length bytes) → told tree (Stat path) ≡ NodeIs false moment size
   shown_file path node here moment size file same count =
-      ap shown (node_at (graph_below at entries J) tree one is makes path node here)
+      ap answer_to_stat (node_at (graph_below at entries J) tree one is makes path node here)
       ∙ (by here.found.stored.body (sym here.kind ∙ file) count ∙ ap (λ (m : ℕ). NodeIs false m size) (sym same))
     where
       by : (b : Body) → has_names (content_in b) ≡ false → ((bytes : List ℕ) → b ≡ Bytes bytes → size ≡ length bytes)
-          → shown (Some (record { identity = here.found.stored.identity; moment = here.found.stored.moment; content = content_in b })) ≡ NodeIs false here.found.stored.moment size
+          → answer_to_stat (Some (record { identity = here.found.stored.identity; moment = here.found.stored.moment; content = content_in b })) ≡ NodeIs false here.found.stored.moment size
       by (Bytes bytes) e h = ap (λ (n : ℕ). NodeIs false here.found.stored.moment n) (sym (h bytes refl))
       by (Entries parent entries) e h = absurd (true≢false e)

@@ -12,12 +12,12 @@ use Rattle.durability.specs.Runs.Answer.{NotFound}
 use Rattle.model.specs.Tree.{Path, Tree}
 use Rattle.model.specs.Addresses.{free_address}
 use Rattle.model.specs.Graph.{Graph, MakesTree, is_directory}
-use Rattle.recover.specs.Faults.{devices, failures_of}
+use Rattle.recover.specs.Faults.{devices, device_failures}
 use Rattle.recover.specs.declared.fault.StoreFault.{StoreFault}
 use Rattle.recover.specs.declared.node.Node.{Node}
 use Rattle.lookup.specs.Cache.{AreKept, LiesThere}
 use Rattle.lookup.specs.Shows.{IsFound, IsFoundDirectory, IsNodeAt, graph_below}
-use Rattle.lookup.specs.Lookups.{IsDirectoryAt, IsSound, KeepsToo, Looks, Opens, Sees, free_seen, graph_seen}
+use Rattle.lookup.specs.Lookups.{IsDirectoryAt, IsReliable, KeepsToo, Looks, OpensDirectory, Sees, free_seen, graph_seen}
 use Rattle.lookup.specs.Queries.{IsMissing, IsQueryRefused}
 use Rattle.lookup.specs.declared.cache.DirectoryCache.{DirectoryCache}
 use Rattle.lookup.specs.declared.content.Content.{Content}
@@ -59,12 +59,12 @@ module _ {D : Type 0} {drive : Ghosts D} where
     kept = λ honest kept. kept_back c.cache.now p (q.kept honest (kept_on b.cache.now p (p.kept (q.reads.honest honest) kept)));
   }
 
-  pub looks_failed : {T : Type 0} {a b : Lookup D drive} (r : Result T StoreFault) (fault : StoreFault) → IsErrAnd r (λ f. f ≡ fault) → Looks drive (failures_of fault) a b → Looks drive (devices r) a b
+  pub looks_failed : {T : Type 0} {a b : Lookup D drive} (r : Result T StoreFault) (fault : StoreFault) → IsErrAnd r (λ f. f ≡ fault) → Looks drive (device_failures fault) a b → Looks drive (devices r) a b
   looks_failed (Ok x) fault e p = absurd e
-  looks_failed {a = a} {b = b} (Err f) fault e p = subst (λ (f : StoreFault). Looks drive (failures_of f) a b) (sym e) p
+  looks_failed {a = a} {b = b} (Err f) fault e p = subst (λ (f : StoreFault). Looks drive (device_failures f) a b) (sym e) p
 
   -- where the drive did not fail
-  pub looks_short : {T : Type 0} {a b : Lookup D drive} (r : Result T StoreFault) (fault : StoreFault) → IsErrAnd r (λ f. f ≡ fault) → failures_of fault ≡ 0 → Looks drive 0 a b → Looks drive (devices r) a b
+  pub looks_short : {T : Type 0} {a b : Lookup D drive} (r : Result T StoreFault) (fault : StoreFault) → IsErrAnd r (λ f. f ≡ fault) → device_failures fault ≡ 0 → Looks drive 0 a b → Looks drive (devices r) a b
   looks_short {a = a} {b = b} r fault e none p = looks_failed r fault e (subst (λ (n : ℕ). Looks drive n a b) (sym none) p)
 
   -- ---- a directory that is put into the cache
@@ -72,13 +72,13 @@ module _ {D : Type 0} {drive : Ghosts D} where
   pub honest_kept : {placed : Placed} {content : Content} {b c : Lookup D drive} → KeepsToo drive placed content b c → IsTrue (drive.honest c.drive.now) → IsTrue (drive.honest b.drive.now)
   honest_kept q = subst IsTrue (ap drive.honest q.drive_now)
 
-  pub sound_kept : {placed : Placed} {content : Content} {a b c : Lookup D drive} → KeepsToo drive placed content b c → IsSound drive a c → IsSound drive a b
+  pub sound_kept : {placed : Placed} {content : Content} {a b c : Lookup D drive} → KeepsToo drive placed content b c → IsReliable drive a c → IsReliable drive a b
   sound_kept q k = record { honest = honest_kept q k.honest; kept = k.kept }
 
   pub sees_kept : {placed : Placed} {content : Content} (a : Lookup D drive) {b c : Lookup D drive} (tree : Tree) → KeepsToo drive placed content b c → Sees drive a c tree → Sees drive a b tree
   sees_kept a tree q s = record { honest = honest_kept q s.honest; kept = s.kept; tree = s.tree; makes = s.makes; root = s.root }
 
-  pub looks_keep : {placed : Placed} {content : Content} {a b c : Lookup D drive} → Looks drive 0 a b → KeepsToo drive placed content b c → (IsSound drive a b → LiesThere (drive.journal a.drive.now) placed content) → Looks drive 0 a c
+  pub looks_keep : {placed : Placed} {content : Content} {a b c : Lookup D drive} → Looks drive 0 a b → KeepsToo drive placed content b c → (IsReliable drive a b → LiesThere (drive.journal a.drive.now) placed content) → Looks drive 0 a c
   looks_keep {placed} {content} {a} {b} {c} p q lies = record {
     same_drive = q.same_drive ∙ p.same_drive;
     same_cache = q.same_cache ∙ p.same_cache;
@@ -100,18 +100,18 @@ module _ {D : Type 0} {drive : Ghosts D} where
   pub free_same : {n : ℕ} {a b : Lookup D drive} → Looks drive n a b → free_seen b ≡ free_seen a
   free_same p = ap (λ (n : Nodes). free_address n.numbers.now) p.nodes
 
-  pub sound : {a c : Lookup D drive} {tree : Tree} → Sees drive a c tree → IsSound drive a c
+  pub sound : {a c : Lookup D drive} {tree : Tree} → Sees drive a c tree → IsReliable drive a c
   sound s = record { honest = s.honest; kept = s.kept }
 
   -- what is seen to the end was seen before
   pub sees_before : {n : ℕ} (a : Lookup D drive) {b c : Lookup D drive} (tree : Tree) → Looks drive n b c → Sees drive a c tree → Sees drive a b tree
   sees_before a tree q s = record { honest = q.reads.honest s.honest; kept = s.kept; tree = s.tree; makes = s.makes; root = s.root }
 
-  pub sound_before : {n : ℕ} {a b c : Lookup D drive} → Looks drive n b c → IsSound drive a c → IsSound drive a b
+  pub sound_before : {n : ℕ} {a b c : Lookup D drive} → Looks drive n b c → IsReliable drive a c → IsReliable drive a b
   sound_before q k = record { honest = q.reads.honest k.honest; kept = k.kept }
 
   -- and is seen from here
-  pub sound_next : {n : ℕ} {a b c : Lookup D drive} → Looks drive 0 a b → Looks drive n b c → IsSound drive a c → IsSound drive b c
+  pub sound_next : {n : ℕ} {a b c : Lookup D drive} → Looks drive 0 a b → Looks drive n b c → IsReliable drive a c → IsReliable drive b c
   sound_next {n} {a} {b} {c} p q k = record { honest = k.honest; kept = kept_on b.cache.now p (p.kept (q.reads.honest k.honest) k.kept) }
 
   pub sees_next : {n : ℕ} {a b c : Lookup D drive} (tree : Tree) → Looks drive 0 a b → Looks drive n b c → Sees drive a c tree → Sees drive b c tree
@@ -124,7 +124,7 @@ module _ {D : Type 0} {drive : Ghosts D} where
   }
 
   -- what was opened lies there, by what was in the cache before other calls
-  pub lies_back : {n : ℕ} {placed : Placed} {content : Content} {a b c : Lookup D drive} → Looks drive 0 a b → Looks drive n b c → Opens drive b c placed content → IsSound drive a c → LiesThere (drive.journal a.drive.now) placed content
+  pub lies_back : {n : ℕ} {placed : Placed} {content : Content} {a b c : Lookup D drive} → Looks drive 0 a b → Looks drive n b c → OpensDirectory drive b c placed content → IsReliable drive a c → LiesThere (drive.journal a.drive.now) placed content
   lies_back {n} {placed} {content} p q o k = subst (λ (K : List Event). LiesThere K placed content) p.reads.journal (o.lies (sound_next p q k))
 
   -- ---- what stands at a node

@@ -32,12 +32,12 @@ use Rattle.lookup.specs.declared.content.Content.{Content}
 use Rattle.lookup.specs.declared.nodes.Placed.{Placed}
 use Rattle.recover.specs.declared.node.Node.{Node}
 use Rattle.lookup.specs.Cache.{LiesThere}
-use Rattle.lookup.specs.Shows.{graph_below, LiesIn, IsOpened, IsNodeAt, IsFound, IsFoundDirectory}
+use Rattle.lookup.specs.Shows.{graph_below, LiesIn, MatchesStored, IsNodeAt, IsFound, IsFoundDirectory}
 
 -- ---- one directory
 
 -- what was read where a directory's data lie is that directory
-pub opened : (J : List Event) (placed : Placed) (s : Stored) (content : Content) → LiesIn J placed s → LiesThere J placed content → IsOpened s placed content
+pub opened : (J : List Event) (placed : Placed) (s : Stored) (content : Content) → LiesIn J placed s → LiesThere J placed content → MatchesStored s placed content
 opened J placed s content lies there =
     let blocks = data_of (held J) placed.extent in
     let holds = (directories_agree content.dir.parent placed.extent.first placed.extent.size content.dir.entries.entries blocks lies.is.blocks_are lies.is.low).0 there.is in
@@ -102,7 +102,7 @@ module _ (graph : Graph) (tree : Tree) (one : IsFunctional graph) (is : IsTree t
       }
 
   -- a name in the directory
-  pub step_some : (path : Path) (node : Node) (at : IsNodeAt graph path node) (placed : Placed) (content : Content) → IsOpened at.found.stored placed content → (name : Name) (e : DirEntry)
+  pub step_some : (path : Path) (node : Node) (at : IsNodeAt graph path node) (placed : Placed) (content : Content) → MatchesStored at.found.stored placed content → (name : Name) (e : DirEntry)
       → lookup (pointwise nat_eq name) content.dir.entries.entries ≡ Some e → IsNodeAt graph (path ++ name ∷ []) (record { kind = e.kind; address = e.virtual_address; unique = e.unique })
   step_some path node at placed content shown name e found =
       let es = content.dir.entries.entries in
@@ -122,7 +122,7 @@ module _ (graph : Graph) (tree : Tree) (one : IsFunctional graph) (is : IsTree t
       }
 
   -- a name that is not in it
-  pub step_none : (path : Path) (node : Node) (at : IsNodeAt graph path node) (placed : Placed) (content : Content) → IsOpened at.found.stored placed content → (name : Name)
+  pub step_none : (path : Path) (node : Node) (at : IsNodeAt graph path node) (placed : Placed) (content : Content) → MatchesStored at.found.stored placed content → (name : Name)
       → lookup (pointwise nat_eq name) content.dir.entries.entries ≡ None → get tree (path ++ name ∷ []) ≡ None
   step_none path node at placed content shown name none =
       let es = content.dir.entries.entries in
@@ -158,11 +158,11 @@ module _ (at : ℕ) (entries : List (Option ℕ)) (J : List Event) (tree : Tree)
       subst (λ (p : Path). IsNodeAt (graph_below at entries J) p node) (sym front) there
 
   -- what a directory has under a name
-  pub child_some : (path : Path) (node : Node) (here : IsNodeAt (graph_below at entries J) path node) (placed : Placed) (content : Content) → IsOpened here.found.stored placed content → (name : Name) (e : DirEntry)
+  pub child_some : (path : Path) (node : Node) (here : IsNodeAt (graph_below at entries J) path node) (placed : Placed) (content : Content) → MatchesStored here.found.stored placed content → (name : Name) (e : DirEntry)
       → lookup (pointwise nat_eq name) content.dir.entries.entries ≡ Some e → IsNodeAt (graph_below at entries J) (path ++ name ∷ []) (record { kind = e.kind; address = e.virtual_address; unique = e.unique })
   child_some path node here placed content shown name e found = step_some (graph_below at entries J) tree one is makes path node here placed content shown name e found
 
-  pub child_none : (path : Path) (node : Node) (here : IsNodeAt (graph_below at entries J) path node) (placed : Placed) (content : Content) → IsOpened here.found.stored placed content → (name : Name)
+  pub child_none : (path : Path) (node : Node) (here : IsNodeAt (graph_below at entries J) path node) (placed : Placed) (content : Content) → MatchesStored here.found.stored placed content → (name : Name)
       → lookup (pointwise nat_eq name) content.dir.entries.entries ≡ None → get tree (path ++ name ∷ []) ≡ None
   child_none path node here placed content shown name none = step_none (graph_below at entries J) tree one is makes path node here placed content shown name none
 

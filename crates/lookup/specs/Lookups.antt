@@ -28,7 +28,7 @@ abbrev pub free_seen : {D : Type 0} {drive : Ghosts D} → Lookup D drive → �
 free_seen l = free_address l.nodes.numbers.now
 
 -- the drive is honest to the end, and what was in the cache at first lies there
-pub record IsSound {D : Type 0} (drive : Ghosts D) (old new : Lookup D drive) : Type 0 where
+pub record IsReliable {D : Type 0} (drive : Ghosts D) (old new : Lookup D drive) : Type 0 where
   pub honest : IsTrue (drive.honest new.drive.now)
   pub kept : AreKept (drive.journal old.drive.now) old.cache.now
 
@@ -58,11 +58,11 @@ OfNode drive old new address says = IsTrue (drive.honest new.drive.now) → (s :
 
 -- of a directory that is stored there, where the cache is right too
 abbrev pub OfDirectory : {D : Type 0} (drive : Ghosts D) → Lookup D drive → Lookup D drive → ℕ → (Stored → Type 0) → Type 0
-OfDirectory drive old new address says = IsSound drive old new → (s : Stored) → graph_seen drive old address s → is_directory s ≡ true → says s
+OfDirectory drive old new address says = IsReliable drive old new → (s : Stored) → graph_seen drive old address s → is_directory s ≡ true → says s
 
 -- of what is stored at the virtual address of a node that has its kind
 abbrev pub OfStoredNode : {D : Type 0} (drive : Ghosts D) → Lookup D drive → Lookup D drive → Node → (Stored → Type 0) → Type 0
-OfStoredNode drive old new node says = IsSound drive old new → (s : Stored) → graph_seen drive old node.address s → names_directory node.kind ≡ is_directory s → says s
+OfStoredNode drive old new node says = IsReliable drive old new → (s : Stored) → graph_seen drive old node.address s → names_directory node.kind ≡ is_directory s → says s
 
 -- what is answered, and that nothing is refused but for the drive's failure or for memory
 abbrev pub Answers : {T : Type 0} → Result T StoreFault → (T → Type 0) → Type 0
@@ -87,6 +87,6 @@ pub record KeepsToo {D : Type 0} (drive : Ghosts D) (placed : Placed) (content :
   pub kept : LiesThere (drive.journal old.drive.now) placed content → AreKept (drive.journal old.drive.now) old.cache.now → AreKept (drive.journal old.drive.now) new.cache.now
 
 -- a directory that was read or taken from the cache lies there, below the table of this state
-pub record Opens {D : Type 0} (drive : Ghosts D) (old new : Lookup D drive) (placed : Placed) (content : Content) : Type 0 where
-  pub lies : IsSound drive old new → LiesThere (drive.journal old.drive.now) placed content
+pub record OpensDirectory {D : Type 0} (drive : Ghosts D) (old new : Lookup D drive) (placed : Placed) (content : Content) : Type 0 where
+  pub lies : IsReliable drive old new → LiesThere (drive.journal old.drive.now) placed content
   pub below : placed.extent.first + PARTITION_START + div_ceil placed.extent.size BLOCK_BYTES ≤ old.nodes.vat_icb_address

@@ -32,7 +32,7 @@ pub record LiesIn (journal : List Event) (placed : Placed) (s : Stored) : Type 0
   pub moment : placed.moment ≡ s.moment
 
 -- what was read is the directory that is stored
-pub record IsOpened (s : Stored) (placed : Placed) (content : Content) : Type 0 where
+pub record MatchesStored (s : Stored) (placed : Placed) (content : Content) : Type 0 where
   pub body : s.body ≡ Entries content.dir.parent (said_entries content.dir.entries.entries)
   pub moment : placed.moment ≡ s.moment
 

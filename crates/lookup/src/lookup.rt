@@ -29,7 +29,7 @@ impl<'s, 'n, D: Drive> Lookup<'s, 'n, D> {
     ghost use Rattle.std.specs.Prelude.{◌≡◌, ◌≢◌, ◌≤◌, ℕ, IfOk, IfErr, Some, slice_get, true};
     ghost use Rattle.drive.specs.Journal.{next_of};
     ghost use Rattle.model.specs.Graph.{Stored, is_directory};
-    ghost use Rattle.recover.specs.Faults.{devices, failures_of};
+    ghost use Rattle.recover.specs.Faults.{devices, device_failures};
     ghost use Rattle.recover.specs.declared.cause.TheConstants.{IDENTITY};
     ghost use Rattle.recover.specs.declared.fault.StoreFault.TheVariants.{Damaged, Device};
     ghost use Rattle.recover.specs.Below.{AreBelow};
@@ -74,7 +74,7 @@ impl<'s, 'n, D: Drive> Lookup<'s, 'n, D> {
     /// What the table leads to is not what was looked for.
     pub fn damaged(&self) -> StoreFault
         ensures reported { result ≡ Damaged self.now.nodes.vat_icb_address IDENTITY }
-        ensures failures { failures_of result ≡ 0 }
+        ensures failures { device_failures result ≡ 0 }
     {
         damaged(self.nodes.vat_icb_address, cause::IDENTITY)
     }

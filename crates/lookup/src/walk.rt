@@ -4,8 +4,8 @@ ghost use Rattle.std.specs.Prelude.{◌≤◌, [], ◌∷◌, ◌++◌, IfOk};
 ghost use Rattle.model.specs.Tree.{Path, Tree};
 ghost use Rattle.recover.specs.Faults.{devices};
 ghost use Rattle.lookup.specs.Heights.{IsHeight};
-ghost use Rattle.lookup.specs.Lookups.{Answers, KeepsToo, Looks, OfDirectory, Opens, Sees, SeesDirectory, graph_seen};
-ghost use Rattle.lookup.specs.Shows.{IsFound, IsFoundDirectory, IsOpened};
+ghost use Rattle.lookup.specs.Lookups.{Answers, KeepsToo, Looks, OfDirectory, OpensDirectory, Sees, SeesDirectory, graph_seen};
+ghost use Rattle.lookup.specs.Shows.{IsFound, IsFoundDirectory, MatchesStored};
 
 use crate::content::Content;
 use crate::lookup::Lookup;
@@ -18,8 +18,8 @@ use recover::{Node, ROOT, StoreFault, read_directory};
 impl<D: Drive> Lookup<'_, '_, D> {
     /// The directory at a virtual address, which is not kept any longer, and where it lies.
     pub fn open(&mut self, address: u32) -> Result<(Placed, Content), StoreFault>
-        ensures opened { OfDirectory D.Drive self.old self.new address (λ s. Answers result (λ read. IsOpened s read.0 read.1)) }
-        ensures lies { IfOk result (λ read. Opens D.Drive self.old self.new read.0 read.1) }
+        ensures opened { OfDirectory D.Drive self.old self.new address (λ s. Answers result (λ read. MatchesStored s read.0 read.1)) }
+        ensures lies { IfOk result (λ read. OpensDirectory D.Drive self.old self.new read.0 read.1) }
         ensures looks { Looks D.Drive (devices result) self.old self.new }
     {
         let at = self.entry_at(address)?;

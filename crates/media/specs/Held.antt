@@ -16,9 +16,9 @@ abbrev pub SameBut : {A : Type 0} → List ℕ → (List ℕ → A) → (List �
 SameBut path old new = (other : List ℕ) → bytes_eq other path ≡ false → new other ≡ old other
 
 -- the journal of an image that is made where it is missing
-abbrev pub begun : Option (List Event) → List Event
-begun None = []
-begun (Some journal) = journal
+abbrev pub initial_journal : Option (List Event) → List Event
+initial_journal None = []
+initial_journal (Some journal) = journal
 
 -- Each path has what it had, or an image of no blocks was made at this one, where none was.
 abbrev pub SameOrMade : List ℕ → Held → Held → Type 0

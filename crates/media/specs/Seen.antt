@@ -2,20 +2,20 @@
 use Rattle.std.specs.Prelude.{ℕ, ◌==◌, ◌&&◌, Bool, true, false, if◌then◌else◌, List, [], ◌∷◌, Option, Some, None, bytes_eq}
 use Rattle.drive.specs.Journal.{Event, event_blocks}
 
-abbrev pub Images : Type 0
-Images = List (List ℕ × List Event)
+abbrev pub ImageJournals : Type 0
+ImageJournals = List (List ℕ × List Event)
 
 -- the first journal at this path
-abbrev pub lookup : Images → List ℕ → Option (List Event)
+abbrev pub lookup : ImageJournals → List ℕ → Option (List Event)
 lookup [] path = None
 lookup (image ∷ images) path = if bytes_eq path image.0 then Some image.1 else lookup images path
 
 -- what was found after the last whole block of images, by their paths, the last look first
-abbrev pub Looks : Type 0
-Looks = List (List ℕ × Option (List ℕ))
+abbrev pub LookLog : Type 0
+LookLog = List (List ℕ × Option (List ℕ))
 
 -- what the last look at the image at this path found
-abbrev pub found_by : Looks → List ℕ → Option (List ℕ)
+abbrev pub found_by : LookLog → List ℕ → Option (List ℕ)
 found_by [] path = None
 found_by (look ∷ looks) path = if bytes_eq path look.0 then look.1 else found_by looks path
 
@@ -37,6 +37,6 @@ missed None found = 1
 missed (Some held) found = if same_events held found then 0 else 1
 
 -- the images, with one of no blocks at this path where none is held there
-abbrev pub with_made : Option (List Event) → List ℕ → Images → Images
-with_made None path images = (path, []) ∷ images
-with_made (Some journal) path images = images
+abbrev pub with_new_image : Option (List Event) → List ℕ → ImageJournals → ImageJournals
+with_new_image None path images = (path, []) ∷ images
+with_new_image (Some journal) path images = images

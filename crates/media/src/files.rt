@@ -3,7 +3,7 @@ ghost use Rattle.std.specs.Prelude.{◌≡◌, ◌==◌, ◌<◌, List, [], ℕ,
 ghost use Rattle.drive.specs.FileDrive.{BeginsWith, capacity_of, journal_of};
 ghost use Rattle.drive.specs.Journal.{Event};
 ghost use Rattle.media.specs.Held.{FoundAsHeld};
-ghost use Rattle.media.specs.Seen.{Images, lookup};
+ghost use Rattle.media.specs.Seen.{ImageJournals, lookup};
 
 use crate::Media;
 use crate::seen::Seen;
@@ -30,7 +30,7 @@ impl<'a, R: Files<File = File>> FileMedia<'a, R> {
     /// The files of this runtime, whatever they hold at first: each clause on what is held is for any images, under the
     /// premise that what is found agrees with them.
     pub fn over(rt: &'a R) -> FileMedia<'a, R>
-        ghost first: { Images }
+        ghost first: { ImageJournals }
         ensures held { result.seen.images ≡ first }
         ensures looked { result.seen.looks ≡ [] }
         ensures honest { result.seen.misses ≡ 0 }

@@ -12,7 +12,7 @@
 ghost use Rattle.limits.specs.declared.TheConstants.{BLOCK_BYTES};
 ghost use Rattle.std.specs.Prelude.{◌≡◌, ◌<◌, ℕ, Bool, List, Option, Some, take, IsTrue, IfOk, OnOk, OnErr};
 ghost use Rattle.drive.specs.Journal.{Event};
-ghost use Rattle.media.specs.Held.{FoundAsHeld, IsFresh, Same, SameBut, SameOrMade, begun};
+ghost use Rattle.media.specs.Held.{FoundAsHeld, IsFresh, Same, SameBut, SameOrMade, initial_journal};
 
 mod files;
 mod memory;
@@ -73,9 +73,9 @@ pub trait Media {
     /// Takes out the image at this path, to write it, which is made, of no blocks, where it is missing. Where it
     /// fails, the image may have been made.
     fn create(&mut self, path: &str, capacity: u32) -> Result<Self::Drive, DriveFault>
-        ensures opened { IfOk result (λ d. IsTrue (honest self.new) → begun (held self.old path.now) ≡ Self.Drive.journal d) }
-        ensures agreed { IfOk result (λ d. begun (held self.old path.now) ≡ Self.Drive.journal d → honest self.new ≡ honest self.old) }
-        ensures alike { IfOk result (λ d. FoundAsHeld (begun (held self.old path.now)) (Self.Drive.journal d)) }
+        ensures opened { IfOk result (λ d. IsTrue (honest self.new) → initial_journal (held self.old path.now) ≡ Self.Drive.journal d) }
+        ensures agreed { IfOk result (λ d. initial_journal (held self.old path.now) ≡ Self.Drive.journal d → honest self.new ≡ honest self.old) }
+        ensures alike { IfOk result (λ d. FoundAsHeld (initial_journal (held self.old path.now)) (Self.Drive.journal d)) }
         ensures fresh { IfOk result (λ d. IsFresh Self.Drive.Drive capacity d) }
         ensures place { OnOk result (IsTrue (takes_back self.new path.now)) }
         ensures others { SameBut path.now (held self.old) (held self.new) }

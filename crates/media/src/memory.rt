@@ -2,7 +2,7 @@
 ghost use Rattle.std.specs.Prelude.{◌≡◌, ◌++◌, ◌∷◌, ◌<◌, ◌↔◌, List, ℕ, [], true, false, None, Some, length, IsTrue, IfOk, IfNone, IfSome, OnErr, OnOk};
 ghost use Rattle.drive.specs.Journal.{Event, InOrder};
 ghost use Rattle.drive.specs.MemDrive.{journal_of, capacity_of, failures_of, writes_of};
-ghost use Rattle.media.specs.Held.{FoundAsHeld, IsFresh, Same, SameBut, SameOrMade, begun};
+ghost use Rattle.media.specs.Held.{FoundAsHeld, IsFresh, Same, SameBut, SameOrMade, initial_journal};
 ghost use Rattle.media.specs.InMemory.{AreOthers, IsFit, IsPlace, IsUnfit, held_by, is_out, journal_in};
 
 use crate::Media;
@@ -124,8 +124,8 @@ impl Media for MemMedia {
     }
 
     fn create(&mut self, path: &str, capacity: u32) -> Result<MemDrive, DriveFault>
-        ensures opened { IfOk result (λ d. begun (held_by self.old path.now) ≡ journal_of d) }
-        ensures alike { IfOk result (λ d. FoundAsHeld (begun (held_by self.old path.now)) (journal_of d)) }
+        ensures opened { IfOk result (λ d. initial_journal (held_by self.old path.now) ≡ journal_of d) }
+        ensures alike { IfOk result (λ d. FoundAsHeld (initial_journal (held_by self.old path.now)) (journal_of d)) }
         ensures fresh { IfOk result (λ d. IsFresh ⟦<MemDrive as Drive>⟧ capacity d) }
         ensures place { OnOk result (IsTrue (is_out self.new path.now)) }
         ensures others { SameBut path.now (held_by self.old) (held_by self.new) }

@@ -2,7 +2,7 @@
 ghost use Rattle.std.specs.Prelude.{◌≡◌, ◌+◌, ◌∷◌, [], ℕ};
 ghost use Rattle.std.specs.Borrow.{ftrue};
 ghost use Rattle.drive.specs.FileDrive.{journal_of, misreads_of};
-ghost use Rattle.media.specs.Seen.{Images, Looks, held_blocks, lookup, missed, with_made};
+ghost use Rattle.media.specs.Seen.{ImageJournals, LookLog, held_blocks, lookup, missed, with_new_image};
 
 use drive::{FileDrive, HeldBlocks, Look};
 use std::marker::Model;
@@ -10,9 +10,9 @@ use std::marker::Model;
 /// It takes no memory, and its functions do nothing when they run.
 #[derive(Drop)]
 pub(crate) struct Seen {
-    pub ghost images: { Images },
+    pub ghost images: { ImageJournals },
     pub ghost misses: { ℕ },
-    pub ghost looks: { Looks },
+    pub ghost looks: { LookLog },
 }
 
 impl Model for Seen {
@@ -22,7 +22,7 @@ impl Model for Seen {
 impl Seen {
     /// Nothing was found yet.
     pub(crate) fn new(_none: &[u8]) -> Seen
-        ghost first: { Images }
+        ghost first: { ImageJournals }
         ensures { (result.images ≡ first) × (result.misses ≡ 0) × (result.looks ≡ []) }
     {
         Seen {}
@@ -44,7 +44,7 @@ impl Seen {
 
     /// There is a file at this path, which was made where there was none.
     pub(crate) fn after_made(_seen: &Seen, _path: &[u8]) -> Seen
-        ensures { (result.images ≡ with_made (lookup _seen.now.images _path.now) _path.now _seen.now.images) × (result.misses ≡ _seen.now.misses) × (result.looks ≡ _seen.now.looks) }
+        ensures { (result.images ≡ with_new_image (lookup _seen.now.images _path.now) _path.now _seen.now.images) × (result.misses ≡ _seen.now.misses) × (result.looks ≡ _seen.now.looks) }
     {
         Seen {}
     }

@@ -9,7 +9,7 @@ use Rattle.std.specs.FinMap.{entries, find, len, len-entries, get-entries}
 use Rattle.model.specs.Tree.{Path, Node, Tree, IsTree, Has, path_cmp}
 use Rattle.model.specs.Graph.{Graph, Stored, MakesTree, IsFunctional}
 use Rattle.model.specs.Change.{IsReached, stored_in}
-use Rattle.model.specs.Addresses.{Table, HoldsNodes, is_used, used_in, used_first, free_address, with_address}
+use Rattle.model.specs.Addresses.{AddressTable, HoldsNodes, is_used, used_in, used_first, free_address, with_address}
 use Rattle.model.specs.LawsAddresses.{IsLeastFree, IsWith, IsWithout}
 use Rattle.model.proofs.Lists.{contains_here, contains_there, contains_cons, not_in_nil, contains_map, map_contains, all_contains}
 use Rattle.model.proofs.Paths.{path_cases}
@@ -20,37 +20,37 @@ use Rattle.model.proofs.Counts.{one, EntriesApart, keys_apart}
 use Rattle.model.proofs.Entries.{out_here, set_beside, with_used, without_used}
 
 -- how many addresses are used, entry by entry
-used : Table → ℕ
+used : AddressTable → ℕ
 used [] = 0
 used (None ∷ table) = used table
 used (Some start ∷ table) = suc (used table)
 
-used-in : (table : Table) → used_in table ≡ used table
+used-in : (table : AddressTable) → used_in table ≡ used table
 unfolding used
 used-in [] = refl
 used-in (None ∷ table) = let a = sum_by-cons (λ (e : Option ℕ). one (is_some e)) None table in let b = used-in table in omega arith
 used-in (Some start ∷ table) = let a = sum_by-cons (λ (e : Option ℕ). one (is_some e)) (Some start) table in let b = used-in table in omega arith
 
-none_used : (table : Table) → ((a : ℕ) → is_used table a ≡ true → ⊥) → used table ≡ 0
+none_used : (table : AddressTable) → ((a : ℕ) → is_used table a ≡ true → ⊥) → used table ≡ 0
 unfolding used
 none_used [] none = refl
 none_used (None ∷ table) none = none_used table (λ a e. none (suc a) e)
 none_used (Some start ∷ table) none = absurd (none 0 refl)
 
-all_used : (table : Table) → ((a : ℕ) → a < length table → is_used table a ≡ true) → used table ≡ length table
+all_used : (table : AddressTable) → ((a : ℕ) → a < length table → is_used table a ≡ true) → used table ≡ length table
 unfolding used
 all_used [] all = refl
 all_used (None ∷ table) all = absurd (false≢true (all 0 (omega arith)))
 all_used (Some start ∷ table) all = ap suc (all_used table (λ a l. all (suc a) (omega arith)))
 
-used_most : (table : Table) → used table ≤ length table
+used_most : (table : AddressTable) → used table ≤ length table
 unfolding used
 used_most [] = omega arith
 used_most (None ∷ table) = let l = used_most table in omega arith
 used_most (Some start ∷ table) = let l = used_most table in omega arith
 
 -- an unused entry
-used_less : (table : Table) (a : ℕ) → a < length table → is_used table a ≡ false → used table < length table
+used_less : (table : AddressTable) (a : ℕ) → a < length table → is_used table a ≡ false → used table < length table
 unfolding used
 used_less [] a l e = absurd (omega arith)
 used_less (None ∷ table) zero l e = let m = used_most table in omega arith
@@ -58,13 +58,13 @@ used_less (Some start ∷ table) zero l e = absurd (true≢false e)
 used_less (None ∷ table) (suc a) l e = let m = used_less table a (omega arith) e in omega arith
 used_less (Some start ∷ table) (suc a) l e = let m = used_less table a (omega arith) e in omega arith
 
-within : (table : Table) (a : ℕ) → is_used table a ≡ true → a < length table
+within : (table : AddressTable) (a : ℕ) → is_used table a ≡ true → a < length table
 within [] a e = absurd (false≢true e)
 within (x ∷ table) zero e = omega arith
 within (x ∷ table) (suc a) e = let l = within table a e in omega arith
 
 -- one entry more, and one less
-set_more : (table : Table) (a start : ℕ) → a < length table → is_used table a ≡ false → used (slice_set table a (Some start)) ≡ used table + 1
+set_more : (table : AddressTable) (a start : ℕ) → a < length table → is_used table a ≡ false → used (slice_set table a (Some start)) ≡ used table + 1
 unfolding used
 set_more [] a start l e = absurd (omega arith)
 set_more (None ∷ table) zero start l e = omega arith
@@ -72,7 +72,7 @@ set_more (Some s ∷ table) zero start l e = absurd (true≢false e)
 set_more (None ∷ table) (suc a) start l e = set_more table a start (omega arith) e
 set_more (Some s ∷ table) (suc a) start l e = let m = set_more table a start (omega arith) e in omega arith
 
-set_less : (table : Table) (a : ℕ) → is_used table a ≡ true → used (slice_set table a None) + 1 ≡ used table
+set_less : (table : AddressTable) (a : ℕ) → is_used table a ≡ true → used (slice_set table a None) + 1 ≡ used table
 unfolding used
 set_less [] a e = absurd (false≢true e)
 set_less (None ∷ table) zero e = absurd (false≢true e)
@@ -80,7 +80,7 @@ set_less (Some s ∷ table) zero e = omega arith
 set_less (None ∷ table) (suc a) e = set_less table a e
 set_less (Some s ∷ table) (suc a) e = let m = set_less table a e in omega arith
 
-push_used : (table : Table) (start : ℕ) → used (table ++ Some start ∷ []) ≡ used table + 1
+push_used : (table : AddressTable) (start : ℕ) → used (table ++ Some start ∷ []) ≡ used table + 1
 unfolding used
 push_used [] start = refl
 push_used (None ∷ table) start = push_used table start
@@ -92,7 +92,7 @@ Apart [] = Unit {0}
 Apart (x ∷ xs) = (Contains xs x → ⊥) × Apart xs
 
 -- where just these are used, so many are
-filled : (xs : List ℕ) (table : Table) → Apart xs → ((a : ℕ) → (is_used table a ≡ true) ↔ Contains xs a) → used table ≡ length xs
+filled : (xs : List ℕ) (table : AddressTable) → Apart xs → ((a : ℕ) → (is_used table a ≡ true) ↔ Contains xs a) → used table ≡ length xs
 unfolding Apart
 filled [] table apart same = none_used table (λ a e. not_in_nil a ((same a).0 e))
 filled (x ∷ xs) table apart same =
@@ -127,7 +127,7 @@ entry_found e (x ∷ es) c none = elim (path_cases e.0 x.0) [
   ]
 ]
 
-module _ (graph : Graph) (tree : Tree) (place : Path → ℕ) (one : IsFunctional graph) (is : IsTree tree) (placed : Placed graph tree place) (table : Table) (holds : HoldsNodes graph table) where
+module _ (graph : Graph) (tree : Tree) (place : Path → ℕ) (one : IsFunctional graph) (is : IsTree tree) (placed : Placed graph tree place) (table : AddressTable) (holds : HoldsNodes graph table) where
   places : List ℕ
   places = map (λ e. place e.0) (entries tree)
 
@@ -182,53 +182,53 @@ module _ (graph : Graph) (tree : Tree) (place : Path → ℕ) (one : IsFunctiona
       let count = used-in table in
       omega arith
 
-pub used_are_nodes : (graph : ℕ → Option Stored) (tree : Tree) (table : Table) → IsTree tree → MakesTree (stored_in graph) tree → HoldsNodes (stored_in graph) table → used_in table ≡ 1 + len tree
+pub used_are_nodes : (graph : ℕ → Option Stored) (tree : Tree) (table : AddressTable) → IsTree tree → MakesTree (stored_in graph) tree → HoldsNodes (stored_in graph) table → used_in table ≡ 1 + len tree
 used_are_nodes graph tree table is makes holds =
     used_nodes (stored_in graph) tree (place_of (stored_in graph) tree (one_in graph) is makes) (one_in graph) is (placed_from_makes (stored_in graph) tree (one_in graph) is makes) table holds
 
 -- the first unused entry
-first_unused : (table : Table) → is_used table (used_first table) ≡ false
+first_unused : (table : AddressTable) → is_used table (used_first table) ≡ false
 first_unused [] = refl
 first_unused (None ∷ table) = refl
 first_unused (Some start ∷ table) = first_unused table
 
-first_within : (table : Table) → used_first table ≤ length table
+first_within : (table : AddressTable) → used_first table ≤ length table
 first_within [] = omega arith
 first_within (None ∷ table) = omega arith
 first_within (Some start ∷ table) = let l = first_within table in omega arith
 
-first_least : (table : Table) (k : ℕ) → k < used_first table → is_used table k ≡ true
+first_least : (table : AddressTable) (k : ℕ) → k < used_first table → is_used table k ≡ true
 first_least [] k l = absurd (omega arith)
 first_least (None ∷ table) k l = absurd (omega arith)
 first_least (Some start ∷ table) zero l = refl
 first_least (Some start ∷ table) (suc k) l = first_least table k (omega arith)
 
-after_two : (table : Table) → 2 ≤ length table → (x y : Option ℕ) × (rest : Table) × (table ≡ x ∷ y ∷ rest)
+after_two : (table : AddressTable) → 2 ≤ length table → (x y : Option ℕ) × (rest : AddressTable) × (table ≡ x ∷ y ∷ rest)
 after_two [] l = absurd (omega arith)
 after_two (x ∷ []) l = absurd (omega arith)
 after_two (x ∷ y ∷ rest) l = (x, y, rest, refl)
 
 -- what is known of the least free address of a table
-record Least (table : Table) (address : ℕ) : Type 0 where
+record Least (table : AddressTable) (address : ℕ) : Type 0 where
   unused : is_used table address ≡ false
   from_two : 2 ≤ address
   within_it : address ≤ length table
   least : (other : ℕ) → 2 ≤ other → other < address → is_used table other ≡ true
 
-least_free : (table : Table) → 2 ≤ length table → Least table (free_address table)
-least_free table l = let t = after_two table l in subst (λ (z : Table). Least z (free_address z)) (sym t.3) (record {
+least_free : (table : AddressTable) → 2 ≤ length table → Least table (free_address table)
+least_free table l = let t = after_two table l in subst (λ (z : AddressTable). Least z (free_address z)) (sym t.3) (record {
   unused = first_unused t.2;
   from_two = omega arith;
   within_it = let m = first_within t.2 in omega arith;
   least = λ other two below. later t.0 t.1 t.2 other two below;
 })
   where
-    later : (x y : Option ℕ) (rest : Table) (other : ℕ) → 2 ≤ other → other < suc (suc (used_first rest)) → is_used (x ∷ y ∷ rest) other ≡ true
+    later : (x y : Option ℕ) (rest : AddressTable) (other : ℕ) → 2 ≤ other → other < suc (suc (used_first rest)) → is_used (x ∷ y ∷ rest) other ≡ true
     later x y rest zero two below = absurd (omega arith)
     later x y rest (suc zero) two below = absurd (omega arith)
     later x y rest (suc (suc k)) two below = first_least rest k (omega arith)
 
-pub free_is_free : (graph : ℕ → Option Stored) (table : Table) → HoldsNodes (stored_in graph) table → 2 ≤ length table → IsLeastFree graph table (free_address table)
+pub free_is_free : (graph : ℕ → Option Stored) (table : AddressTable) → HoldsNodes (stored_in graph) table → 2 ≤ length table → IsLeastFree graph table (free_address table)
 free_is_free graph table holds l =
     let f = least_free table l in
     let two = f.from_two in
@@ -240,7 +240,7 @@ free_is_free graph table holds l =
       least = f.least;
     }
 
-pub new_entries : (table : Table) (nodes start : ℕ) → 2 ≤ length table → is_used table 0 ≡ true → is_used table 1 ≡ true → used_in table ≡ 1 + nodes → IsWith table nodes start
+pub new_entries : (table : AddressTable) (nodes start : ℕ) → 2 ≤ length table → is_used table 0 ≡ true → is_used table 1 ≡ true → used_in table ≡ 1 + nodes → IsWith table nodes start
 new_entries table nodes start two set root many = go (nat_lt (free_address table) (length table)) refl
   where
     f : Least table (free_address table)
@@ -260,7 +260,7 @@ new_entries table nodes start two set root many = go (nat_lt (free_address table
         record {
           used = ap used_in is ∙ used-in (slice_set table (free_address table) (Some start)) ∙ more ∙ ap (λ n. n + 1) (sym (used-in table));
           each = λ other. with_used table (free_address table) start other (inl below);
-          long = ap (λ (t : Table). length t) is ∙ long ∙ (let m : length table ≡ max (length table) (1 + (nodes + 1)) = omega arith in m);
+          long = ap (λ (t : AddressTable). length t) is ∙ long ∙ (let m : length table ≡ max (length table) (1 + (nodes + 1)) = omega arith in m);
         }
     go false e =
         let past = ltb-false (free_address table) (length table) e in
@@ -272,7 +272,7 @@ new_entries table nodes start two set root many = go (nat_lt (free_address table
         record {
           used = ap used_in is ∙ used-in (table ++ Some start ∷ []) ∙ push_used table start ∙ ap (λ n. n + 1) (sym (used-in table));
           each = λ other. with_used table (free_address table) start other (inr (omega arith));
-          long = ap (λ (t : Table). length t) is ∙ (let m : length (table ++ Some start ∷ []) ≡ max (length table) (1 + (nodes + 1)) = omega arith in m);
+          long = ap (λ (t : AddressTable). length t) is ∙ (let m : length (table ++ Some start ∷ []) ≡ max (length table) (1 + (nodes + 1)) = omega arith in m);
         }
       where
         every : (k : ℕ) → k < length table → is_used table k ≡ true
@@ -280,7 +280,7 @@ new_entries table nodes start two set root many = go (nat_lt (free_address table
         every (suc zero) l = root
         every (suc (suc k)) l = let at = ltb-false (free_address table) (length table) e in f.least (suc (suc k)) (omega arith) (omega arith)
 
-pub gone_entries : (table : Table) (address : ℕ) → is_used table address ≡ true → IsWithout table address
+pub gone_entries : (table : AddressTable) (address : ℕ) → is_used table address ≡ true → IsWithout table address
 gone_entries table address e = record {
   used = ap (λ n. n + 1) (used-in (slice_set table address None)) ∙ set_less table address e ∙ sym (used-in table);
   long = length-set table address None;

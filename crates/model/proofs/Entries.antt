@@ -7,32 +7,32 @@ use Rattle.model.specs.Operation.{Operation, code_of}
 use Rattle.model.specs.Operation.Operation.{Create, Replace, MakeDir, Rename, Remove}
 use Rattle.model.specs.Graph.{Graph, Stored, MakesTree}
 use Rattle.model.specs.Change.{ChangesNodes, IsReached, stored_in}
-use Rattle.model.specs.Addresses.{Table, HoldsNodes, UsedAfter, is_used, with_address, without_entry}
+use Rattle.model.specs.Addresses.{AddressTable, HoldsNodes, UsedAfter, is_used, with_address, without_entry}
 use Rattle.model.proofs.Made.{one_in}
 use Rattle.model.proofs.Operations.{reached_after}
 
-set_here : (table : Table) (a start : ℕ) → a < length table → is_used (slice_set table a (Some start)) a ≡ true
+set_here : (table : AddressTable) (a start : ℕ) → a < length table → is_used (slice_set table a (Some start)) a ≡ true
 set_here [] a start l = absurd (omega arith)
 set_here (x ∷ table) zero start l = refl
 set_here (x ∷ table) (suc a) start l = set_here table a start (omega arith)
 
-pub out_here : (table : Table) (a : ℕ) → is_used (slice_set table a None) a ≡ false
+pub out_here : (table : AddressTable) (a : ℕ) → is_used (slice_set table a None) a ≡ false
 out_here [] a = refl
 out_here (x ∷ table) zero = refl
 out_here (x ∷ table) (suc a) = out_here table a
 
-pub set_beside : (table : Table) (a : ℕ) (entry : Option ℕ) (b : ℕ) → (b ≡ a → ⊥) → is_used (slice_set table a entry) b ≡ is_used table b
+pub set_beside : (table : AddressTable) (a : ℕ) (entry : Option ℕ) (b : ℕ) → (b ≡ a → ⊥) → is_used (slice_set table a entry) b ≡ is_used table b
 set_beside [] a entry b apart = refl
 set_beside (x ∷ table) zero entry zero apart = absurd (apart refl)
 set_beside (x ∷ table) zero entry (suc b) apart = refl
 set_beside (x ∷ table) (suc a) entry zero apart = refl
 set_beside (x ∷ table) (suc a) entry (suc b) apart = set_beside table a entry b (λ e. apart (ap suc e))
 
-push_here : (table : Table) (start : ℕ) → is_used (table ++ Some start ∷ []) (length table) ≡ true
+push_here : (table : AddressTable) (start : ℕ) → is_used (table ++ Some start ∷ []) (length table) ≡ true
 push_here [] start = refl
 push_here (x ∷ table) start = push_here table start
 
-push_beside : (table : Table) (start b : ℕ) → (b ≡ length table → ⊥) → is_used (table ++ Some start ∷ []) b ≡ is_used table b
+push_beside : (table : AddressTable) (start b : ℕ) → (b ≡ length table → ⊥) → is_used (table ++ Some start ∷ []) b ≡ is_used table b
 push_beside [] start zero apart = absurd (apart refl)
 push_beside [] start (suc b) apart = refl
 push_beside (x ∷ table) start zero apart = refl
@@ -47,7 +47,7 @@ by_test a other got new old here beside = go (other == a) refl
     go false e = beside (eqb-false other a e)
 
 -- the address is used then, and any other as before
-pub with_used : (table : Table) (address start other : ℕ) → (address < length table) ⊎ (address ≡ length table) → is_used (with_address address start table) other ≡ (if other == address then true else is_used table other)
+pub with_used : (table : AddressTable) (address start other : ℕ) → (address < length table) ⊎ (address ≡ length table) → is_used (with_address address start table) other ≡ (if other == address then true else is_used table other)
 with_used table address start other at = go (nat_lt address (length table)) refl at
   where
     go : (b : Bool) → nat_lt address (length table) ≡ b → (address < length table) ⊎ (address ≡ length table)
@@ -58,11 +58,11 @@ with_used table address start other at = go (nat_lt address (length table)) refl
     go false e (inr t) = by_test address other _ true (is_used table other)
         (λ s. ap (is_used (table ++ Some start ∷ [])) (s ∙ t) ∙ push_here table start) (λ s. push_beside table start other (λ u. s (u ∙ sym t)))
 
-pub without_used : (table : Table) (address other : ℕ) → is_used (without_entry address table) other ≡ (if other == address then false else is_used table other)
+pub without_used : (table : AddressTable) (address other : ℕ) → is_used (without_entry address table) other ≡ (if other == address then false else is_used table other)
 without_used table address other = by_test address other _ false (is_used table other)
     (λ s. ap (is_used (without_entry address table)) s ∙ out_here table address) (λ s. set_beside table address None other s)
 
-module _ (graph graph' : Graph) (table table' : Table) (holds : HoldsNodes graph table) where
+module _ (graph graph' : Graph) (table table' : AddressTable) (holds : HoldsNodes graph table) where
   -- the same addresses are reached and used
   same_follow : ((a : ℕ) → IsReached graph' a ↔ IsReached graph a) → ((a : ℕ) → is_used table' a ≡ is_used table a) → HoldsNodes graph' table'
   same_follow reached used = record {
@@ -110,7 +110,7 @@ module _ (graph graph' : Graph) (table table' : Table) (holds : HoldsNodes graph
       back a above true t r = absurd (r.1 (eqb-true a gone t))
       back a above false t r = (holds.nodes a above).1 r.0
 
-pub entries_follow : (op : Operation) (moment identity : ℕ) (tree : Tree) (before after : ℕ → Option Stored) (table table' : Table) → IsTree tree → code_of op tree ≡ 0
+pub entries_follow : (op : Operation) (moment identity : ℕ) (tree : Tree) (before after : ℕ → Option Stored) (table table' : AddressTable) → IsTree tree → code_of op tree ≡ 0
     → MakesTree (stored_in before) tree → HoldsNodes (stored_in before) table → (change : ChangesNodes (stored_in before) (stored_in after) op moment identity)
     → UsedAfter (stored_in before) (stored_in after) op moment identity change table table' → HoldsNodes (stored_in after) table'
 entries_follow (Create path bytes) moment identity tree before after table table' is e makes holds change used =

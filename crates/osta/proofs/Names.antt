@@ -8,7 +8,7 @@ use Rattle.std.proofs.lemmas.List.Concat.{flat_map-append}
 use Rattle.std.proofs.lemmas.List.Folds.{list_all-append}
 use Rattle.std.proofs.lemmas.Str.{chars-encodes, chars-append, chars-IsAscii, IsUtf8-from_ascii}
 use Rattle.osta.specs.FirstFault.{first_text_fault}
-use Rattle.osta.specs.Compressed.{is_narrow, two_bytes, spelling, compressed, characters, spelling_faults, writing_faults, Named}
+use Rattle.osta.specs.Compressed.{is_narrow, two_bytes, compressed_unicode, compressed, characters, spelling_faults, writing_faults, Named}
 use Rattle.osta.specs.Dstring.{field_of, dstring, Dstring, dstring_count, dstring_spelling, dstring_faults}
 use Rattle.osta.specs.Name.{has_character, name_faults, IsName, IsStoredName, kept_spelling}
 use Rattle.osta.specs.Label.{label_faults, IsLabel, dstring_text, IsLabelDstring, IsLabelField}
@@ -49,7 +49,7 @@ kept_ascii text spelled other ascii name is none =
     record {
       front = is ∙ ap (λ (t : List ℕ). 8 ∷ t) (sym same);
       name = subst IsName (sym same) name;
-      spelling =
+      compressed_unicode =
           ap (kept_spelling spelled) none ∙ is ∙ sym (ascii_compressed text ascii (text_some text name)) ∙ ap compressed (sym same);
     }
 
@@ -64,7 +64,7 @@ kept_other text spelled other name is told =
     record {
       front = is ∙ ap (λ (t : List ℕ). 8 ∷ t) (sym same);
       name = subst IsName (sym same) name;
-      spelling = kept_some spelled other (omega (arith, ap length told, name_some text name)) ∙ told ∙ ap compressed (sym same);
+      compressed_unicode = kept_some spelled other (omega (arith, ap length told, name_some text name)) ∙ told ∙ ap compressed (sym same);
     }
 
 -- the spelling of a kept name
@@ -160,7 +160,7 @@ label_told text field told =
     }
 
 -- ---- ASCII characters before a text
-narrow_only : (cs rest : List ℕ) → spelling cs ≡ 8 ∷ rest → (list_all is_narrow cs ≡ true) × (cs ≡ rest)
+narrow_only : (cs rest : List ℕ) → compressed_unicode cs ≡ 8 ∷ rest → (list_all is_narrow cs ≡ true) × (cs ≡ rest)
 narrow_only [] rest told = absurd (omega (arith, ap length told))
 narrow_only (c ∷ cs) rest told =
     ⊎_elim
@@ -168,7 +168,7 @@ narrow_only (c ∷ cs) rest told =
     (λ wide. absurd (omega (arith, ap (λ (xs : List ℕ). get_or xs 0 0) (sym (spelling_wide (c ∷ cs) (omega arith) wide) ∙ told))))
     (cases_Bool (list_all is_narrow (c ∷ cs)))
 
-wide_only : (cs rest : List ℕ) → spelling cs ≡ 16 ∷ rest → (list_all is_narrow cs ≡ false) × (flat_map two_bytes cs ≡ rest)
+wide_only : (cs rest : List ℕ) → compressed_unicode cs ≡ 16 ∷ rest → (list_all is_narrow cs ≡ false) × (flat_map two_bytes cs ≡ rest)
 wide_only [] rest told = absurd (omega (arith, ap length told))
 wide_only (c ∷ cs) rest told =
     ⊎_elim
@@ -188,7 +188,7 @@ narrow_after front text rest some ascii told =
     let cs = chars text in
     let only = narrow_only cs rest told in
     let narrow = and_from _ _ (bytes_narrow front (λ i. omega (arith, ascii i))) only.0 in
-    ap spelling (chars_after front text ascii)
+    ap compressed_unicode (chars_after front text ascii)
     ∙ (spelling_narrow (front ++ cs) (some_after front cs some) (list_all-append is_narrow front cs ∙ narrow)
     ∙ ap (λ (xs : List ℕ). 8 ∷ (front ++ xs)) only.1)
 
@@ -197,7 +197,7 @@ wide_after front text rest some ascii told =
     let cs = chars text in
     let only = wide_only cs rest told in
     let wide = and_right (list_all is_narrow front) _ only.0 in
-    ap spelling (chars_after front text ascii)
+    ap compressed_unicode (chars_after front text ascii)
     ∙ (spelling_wide (front ++ cs) (some_after front cs some) (list_all-append is_narrow front cs ∙ wide)
     ∙ ap (λ (xs : List ℕ). 16 ∷ xs) (flat_map-append two_bytes front cs ∙ ap (λ (xs : List ℕ). flat_map two_bytes front ++ xs) only.1))
 

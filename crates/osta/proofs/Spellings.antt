@@ -4,15 +4,15 @@ use Rattle.std.specs.List.{list_all, flat_map}
 use Rattle.std.proofs.lemmas.Bool.{cases_Bool, and_parts, and_from, or_cases, not_from_false, not-true, ne_eqb, eq-eqb, eqb-true, eqb-false, cond-true, lt-ltb, ltb-true}
 use lib.Utf8.{scalar, scalars, low_scalar}
 use Rattle.osta.specs.FirstFault.{first_text_fault}
-use Rattle.osta.specs.Compressed.{is_narrow, has_spelling, two_bytes, spelling, units, is_unit, unit_character, characters, spelling_faults}
+use Rattle.osta.specs.Compressed.{is_narrow, has_spelling, two_bytes, compressed_unicode, units, is_unit, unit_character, characters, spelling_faults}
 use Rattle.osta.proofs.Rows.{all_hold, faultless}
 
 -- ---- the cases of a spelling
-pub spelling_narrow : (cs : List ℕ) → 0 < length cs → list_all is_narrow cs ≡ true → spelling cs ≡ 8 ∷ cs
+pub spelling_narrow : (cs : List ℕ) → 0 < length cs → list_all is_narrow cs ≡ true → compressed_unicode cs ≡ 8 ∷ cs
 spelling_narrow [] some narrow = absurd (omega arith)
 spelling_narrow (c ∷ cs) some narrow = rw narrow refl
 
-pub spelling_wide : (cs : List ℕ) → 0 < length cs → list_all is_narrow cs ≡ false → spelling cs ≡ 16 ∷ flat_map two_bytes cs
+pub spelling_wide : (cs : List ℕ) → 0 < length cs → list_all is_narrow cs ≡ false → compressed_unicode cs ≡ 16 ∷ flat_map two_bytes cs
 spelling_wide [] some wide = absurd (omega arith)
 spelling_wide (c ∷ cs) some wide = rw wide refl
 
@@ -20,10 +20,10 @@ pub length-two_bytes : (cs : List ℕ) → length (flat_map two_bytes cs) ≡ 2 
 length-two_bytes [] = refl
 length-two_bytes (c ∷ cs) = omega (arith, length-two_bytes cs)
 
-pub length-spelling_narrow : (cs : List ℕ) → 0 < length cs → list_all is_narrow cs ≡ true → length (spelling cs) ≡ length cs + 1
+pub length-spelling_narrow : (cs : List ℕ) → 0 < length cs → list_all is_narrow cs ≡ true → length (compressed_unicode cs) ≡ length cs + 1
 length-spelling_narrow cs some narrow = omega (arith, ap length (spelling_narrow cs some narrow))
 
-pub length-spelling_wide : (cs : List ℕ) → 0 < length cs → list_all is_narrow cs ≡ false → length (spelling cs) ≡ 2 * length cs + 1
+pub length-spelling_wide : (cs : List ℕ) → 0 < length cs → list_all is_narrow cs ≡ false → length (compressed_unicode cs) ≡ 2 * length cs + 1
 length-spelling_wide cs some wide = omega (arith, ap length (spelling_wide cs some wide), length-two_bytes cs)
 
 -- ---- tests of characters
@@ -91,7 +91,7 @@ two_bytes-units (h ∷ l ∷ bytes) even fits =
     ∙ ap (λ (xs : List ℕ). h ∷ l ∷ xs) (two_bytes-units bytes left (λ i. fits (suc (suc i)))))
 
 -- ---- what is written is read back
-pub characters-spelling : (cs : List ℕ) → characters (spelling cs) ≡ cs
+pub characters-spelling : (cs : List ℕ) → characters (compressed_unicode cs) ≡ cs
 characters-spelling [] = refl
 characters-spelling (c ∷ cs) =
     ⊎_elim
@@ -116,7 +116,7 @@ wide_faultless cs wide units_all =
       ),
     )
 
-pub spelling-faultless : (cs : List ℕ) → scalars cs ≡ true → list_all has_spelling cs ≡ true → first_text_fault (spelling_faults (spelling cs)) ≡ None
+pub spelling-faultless : (cs : List ℕ) → scalars cs ≡ true → list_all has_spelling cs ≡ true → first_text_fault (spelling_faults (compressed_unicode cs)) ≡ None
 spelling-faultless [] scalar spelled = refl
 spelling-faultless (c ∷ cs) scalar spelled =
     ⊎_elim
@@ -126,7 +126,7 @@ spelling-faultless (c ∷ cs) scalar spelled =
 
 -- ---- what is read is written so
 pub record IsRead (bytes : List ℕ) : Type 0 where
-  pub again : spelling (characters bytes) ≡ bytes
+  pub again : compressed_unicode (characters bytes) ≡ bytes
   pub scalar : scalars (characters bytes) ≡ true
   pub spelled : list_all has_spelling (characters bytes) ≡ true
 

@@ -7,11 +7,11 @@ use Rattle.std.proofs.lemmas.Bool.{cases_lt, cases_Bool}
 use Rattle.std.proofs.lemmas.Str.{chars-nil, chars-encodes, encodes-chars, scalars-chars}
 use lib.Utf8.{encodes}
 use Rattle.osta.specs.FirstFault.{first_text_fault}
-use Rattle.osta.specs.Compressed.{is_narrow, has_spelling, spelling, compressed, characters, expanded, spelling_faults, Named}
+use Rattle.osta.specs.Compressed.{is_narrow, has_spelling, compressed_unicode, compressed, characters, expanded, spelling_faults, Named}
 use Rattle.osta.proofs.Spellings.{read_back, spelling-faultless, characters-spelling, length-spelling_narrow, length-spelling_wide}
 
 pub compressed-nil : (text : List ℕ) → length text ≡ 0 → compressed text ≡ []
-compressed-nil text none = ap compressed (nil_from_length text none) ∙ ap spelling chars-nil
+compressed-nil text none = ap compressed (nil_from_length text none) ∙ ap compressed_unicode chars-nil
 
 -- a text that is not empty has a character
 pub some_characters : (text : List ℕ) → IsUtf8 text → 0 < length text → 0 < length (chars text)
@@ -34,7 +34,7 @@ Named-expanded bytes fits none =
     record {
       utf8 = (characters bytes, (told.scalar, refl));
       spellable = ap (list_all has_spelling) same ∙ told.spelled;
-      spelled = sym (ap spelling same ∙ told.again);
+      spelled = sym (ap compressed_unicode same ∙ told.again);
     }
 
 -- a spelling has no fault, and gives its text

@@ -21,13 +21,13 @@ abbrev pub two_bytes : ℕ → List ℕ
 two_bytes c = c / 256 ∷ c % 256 ∷ []
 
 -- the bytes for characters: none for none; 8 and a byte each, where each fits one; else 16 and two bytes each
-abbrev pub spelling : List ℕ → List ℕ
-spelling [] = []
-spelling (c ∷ cs) = if list_all is_narrow (c ∷ cs) then 8 ∷ c ∷ cs else 16 ∷ flat_map two_bytes (c ∷ cs)
+abbrev pub compressed_unicode : List ℕ → List ℕ
+compressed_unicode [] = []
+compressed_unicode (c ∷ cs) = if list_all is_narrow (c ∷ cs) then 8 ∷ c ∷ cs else 16 ∷ flat_map two_bytes (c ∷ cs)
 
 -- the same for a text, which is seen as its bytes in UTF-8
 abbrev pub compressed : List ℕ → List ℕ
-compressed text = spelling (chars text)
+compressed text = compressed_unicode (chars text)
 
 -- each character of the text has a spelling
 abbrev pub is_spellable : List ℕ → Bool

@@ -24,7 +24,7 @@ use Rattle.planning.specs.declared.change.NewContent.TheVariants as thing
 use Rattle.lookup.specs.declared.content.Content.{Content}
 use Rattle.recover.specs.declared.node.Node.{Node}
 use Rattle.lookup.specs.declared.nodes.Placed.{Placed}
-use Rattle.lookup.specs.Shows.{IsNodeAt, IsOpened}
+use Rattle.lookup.specs.Shows.{IsNodeAt, MatchesStored}
 use Rattle.planning.specs.Writings.{directory_writing, new_file, change_writings}
 use Rattle.table_update.specs.NextTable.{made_by, RemovesNode}
 use Rattle.planning.specs.Changes.{addition, content_of_thing, code_by_names, addresses_in, gone_of, IsChangeOf}
@@ -62,7 +62,7 @@ module _ (path above : Path) (name : Name) (split : path ≡ above ++ name ∷ [
       ∙ ap (λ (p : Path). add_code false (nat_lt 16 (length path)) (is_directory_at tree p) (rest_code path tree)) above_is)
 
   module _ (graph : Graph) (one : IsFunctional graph) (is : IsTree tree) (makes : MakesTree graph tree) (parent : Node) (here : IsNodeAt graph above parent) (directory : names_directory parent.kind ≡ true)
-      (placed : Placed) (content : Content) (shown : IsOpened here.found.stored placed content) where
+      (placed : Placed) (content : Content) (shown : MatchesStored here.found.stored placed content) where
     there : (o : Option DirEntry) → lookup (pointwise nat_eq name) content.dir.entries.entries ≡ o → contains_key tree (above ++ name ∷ []) ≡ is_some o
     there None e = ap is_some (step_none graph tree one is makes above parent here placed content shown name e)
     there (Some entry) e =
@@ -110,7 +110,7 @@ takes_none path (thing.File bytes) tree gone taken none = none
 takes_none path thing.Directory tree gone taken none = none
 
 -- the directory above with one entry more
-pub listed : (above : Path) (name : Name) (graph : Graph) (parent : Node) (here : IsNodeAt graph above parent) (placed : Placed) (content : Content) → IsOpened here.found.stored placed content → (moment : ℕ) (entry : DirEntry) (d : NewDirectory)
+pub listed : (above : Path) (name : Name) (graph : Graph) (parent : Node) (here : IsNodeAt graph above parent) (placed : Placed) (content : Content) → MatchesStored here.found.stored placed content → (moment : ℕ) (entry : DirEntry) (d : NewDirectory)
     → d.address ≡ parent.address → d.unique ≡ parent.unique → d.moment ≡ moment → d.content.dir.parent ≡ content.dir.parent → d.content.dir.entries.entries ≡ content.dir.entries.entries ++ (name, entry) ∷ []
     → directory_writing d ≡ record { address = here.found.address; stored = as_stored here.found.stored.identity moment (with_entries (λ entries. entries ++ said_entry (name, entry) ∷ []) here.found.stored.body) }
 listed above name graph parent here placed content shown moment entry d address unique when parent_is entries_are =
@@ -122,7 +122,7 @@ listed above name graph parent here placed content shown moment entry d address 
 
 -- the node is put there
 pub adds : (graph : Graph) (free moment identity : ℕ) (path above : Path) (name : Name) (split : path ≡ above ++ name ∷ []) (what : NewContent) (tree : Tree) (parent : Node) (here : IsNodeAt graph above parent) (placed : Placed) (content : Content)
-    → IsOpened here.found.stored placed content → (before change : Change) (entry : DirEntry) (d : NewDirectory) → code_of (addition path what) tree ≡ 0 → change.code ≡ code.Done → change.made ≡ made_by (addition path what) free → change.removed ≡ None
+    → MatchesStored here.found.stored placed content → (before change : Change) (entry : DirEntry) (d : NewDirectory) → code_of (addition path what) tree ≡ 0 → change.code ≡ code.Done → change.made ≡ made_by (addition path what) free → change.removed ≡ None
     → change_writings moment before ≡ record { address = free; stored = as_stored identity moment (new_body parent.address (content_of_thing what)) } ∷ [] → change.file ≡ before.file → change.directories.items ≡ before.directories.items ++ d ∷ []
     → d.address ≡ parent.address → d.unique ≡ parent.unique → d.moment ≡ moment → d.content.dir.parent ≡ content.dir.parent → d.content.dir.entries.entries ≡ content.dir.entries.entries ++ (name, entry) ∷ []
     → names_directory entry.kind ≡ has_names (content_of_thing what) → entry.virtual_address ≡ free → entry.unique ≡ identity → IsChangeOf graph free tree (addition path what) moment identity change

@@ -9,7 +9,7 @@ use Rattle.ecma.specs.Crc.{crc_of}
 use Rattle.ecma.specs.Descriptor.{padded}
 use Rattle.ecma.specs.EntityId.{developer}
 use Rattle.ecma.specs.Tag.{tag_cells}
-use Rattle.osta.specs.Compressed.{is_narrow, has_spelling, two_bytes, spelling, compressed}
+use Rattle.osta.specs.Compressed.{is_narrow, has_spelling, two_bytes, compressed_unicode, compressed}
 use Rattle.osta.specs.Name.{IsName}
 use Rattle.std.specs.Str.{chars}
 use Rattle.osta.proofs.Names.{name_few, name_spelled}
@@ -83,7 +83,7 @@ wide (c ∷ cs) e =
     let small : c < 0x1_0000 = ltb-true c 0x1_0000 (and_parts _ _ parts.0).0 in
     one_more (c / 256) (c % 256 ∷ flat_map two_bytes cs) (omega arith) (one_more (c % 256) (flat_map two_bytes cs) (omega arith) (wide cs parts.1))
 
-spelled_bytes : (cs : List ℕ) → list_all has_spelling cs ≡ true → AreBytes (spelling cs)
+spelled_bytes : (cs : List ℕ) → list_all has_spelling cs ≡ true → AreBytes (compressed_unicode cs)
 spelled_bytes [] e = none
 spelled_bytes (c ∷ cs) e = by (list_all is_narrow (c ∷ cs)) refl
   where

@@ -32,7 +32,7 @@ use Rattle.planning.specs.declared.change.NewDirectory.{NewDirectory}
 use Rattle.lookup.specs.declared.content.Content.{Content}
 use Rattle.recover.specs.declared.node.Node.{Node}
 use Rattle.lookup.specs.declared.nodes.Placed.{Placed}
-use Rattle.lookup.specs.Shows.{IsNodeAt, IsOpened}
+use Rattle.lookup.specs.Shows.{IsNodeAt, MatchesStored}
 use Rattle.planning.specs.Moves.{IsMoveWithin, IsBetween, Turns}
 use Rattle.planning.specs.Writings.{directory_writing, new_file, new_directories, change_writings}
 use Rattle.planning.specs.Changes.{addresses_in, gone_of, IsChangeOf}
@@ -157,7 +157,7 @@ found_above graph path above name node split at = record {
 
 module _ (graph : Graph) (tree : Tree) (one : IsFunctional graph) (is : IsTree tree) (makes : MakesTree graph tree) where
   -- a name that leads nowhere is not listed
-  pub not_listed : (above : Path) (node : Node) (at : IsNodeAt graph above node) (placed : Placed) (content : Content) → IsOpened at.found.stored placed content → (name : Name) → get tree (above ++ name ∷ []) ≡ None
+  pub not_listed : (above : Path) (node : Node) (at : IsNodeAt graph above node) (placed : Placed) (content : Content) → MatchesStored at.found.stored placed content → (name : Name) → get tree (above ++ name ∷ []) ≡ None
       → lookup (pointwise nat_eq name) content.dir.entries.entries ≡ None
   not_listed above node at placed content shown name none = go (lookup (pointwise nat_eq name) content.dir.entries.entries) refl
     where
@@ -168,7 +168,7 @@ module _ (graph : Graph) (tree : Tree) (one : IsFunctional graph) (is : IsTree t
           absurd (not_none tree (above ++ name ∷ []) none (has_at graph tree one is makes (above ++ name ∷ []) (record { kind = entry.kind; address = entry.virtual_address; unique = entry.unique }) next))
 
   -- one that leads somewhere is
-  pub is_listed : (above : Path) (node : Node) (at : IsNodeAt graph above node) (placed : Placed) (content : Content) → IsOpened at.found.stored placed content → (name : Name) → Has tree (above ++ name ∷ [])
+  pub is_listed : (above : Path) (node : Node) (at : IsNodeAt graph above node) (placed : Placed) (content : Content) → MatchesStored at.found.stored placed content → (name : Name) → Has tree (above ++ name ∷ [])
       → lookup (pointwise nat_eq name) content.dir.entries.entries ≡ None → ⊥
   is_listed above node at placed content shown name has none = not_none tree (above ++ name ∷ []) (step_none graph tree one is makes above node at placed content shown name none) has
 
@@ -184,7 +184,7 @@ module _ (graph : Graph) (tree : Tree) (one : IsFunctional graph) (is : IsTree t
 -- ---- what is written
 
 -- a directory with other entries
-rewritten : (graph : Graph) (path : Path) (node : Node) (at : IsNodeAt graph path node) (placed : Placed) (content : Content) → IsOpened at.found.stored placed content → (change : List Entry → List Entry) (moment : ℕ) (d : NewDirectory)
+rewritten : (graph : Graph) (path : Path) (node : Node) (at : IsNodeAt graph path node) (placed : Placed) (content : Content) → MatchesStored at.found.stored placed content → (change : List Entry → List Entry) (moment : ℕ) (d : NewDirectory)
     → d.address ≡ node.address → d.unique ≡ node.unique → d.moment ≡ moment → d.content.dir.parent ≡ content.dir.parent → said_entries d.content.dir.entries.entries ≡ change (said_entries content.dir.entries.entries)
     → directory_writing d ≡ record { address = at.found.address; stored = as_stored at.found.stored.identity moment (with_entries change at.found.stored.body) }
 rewritten graph path node at placed content shown change moment d address unique when parent_is entries_are =
@@ -194,13 +194,13 @@ rewritten graph path node at placed content shown change moment d address unique
 said_more : (es fs : List (Name × DirEntry)) (name : Name) (entry : DirEntry) → fs ≡ es ++ (name, entry) ∷ [] → said_entries fs ≡ said_entries es ++ said_entry (name, entry) ∷ []
 said_more es fs name entry e = ap said_entries e ∙ map-append said_entry es ((name, entry) ∷ [])
 
-contains_said : (s : Stored) (content : Content) (placed : Placed) → IsOpened s placed content → (name : Name) (entry : DirEntry) → lookup (pointwise nat_eq name) content.dir.entries.entries ≡ Some entry → Contains (entries_of s) (said_entry (name, entry))
+contains_said : (s : Stored) (content : Content) (placed : Placed) → MatchesStored s placed content → (name : Name) (entry : DirEntry) → lookup (pointwise nat_eq name) content.dir.entries.entries ≡ Some entry → Contains (entries_of s) (said_entry (name, entry))
 contains_said s content placed shown name entry found =
     subst (λ (b : Body). Contains (entries_in b) (said_entry (name, entry))) (sym shown.body)
     (contains_map said_entry content.dir.entries.entries (name, entry) (Contains-from_lookup texts_exact name entry content.dir.entries.entries found))
 
 -- a directory that is moved is written with its new parent
-pub turned_is : (s : Stored) (moved : Entry) (above : ℕ) (placed : Placed) (content : Content) (d : NewDirectory) → IsOpened s placed content → is_directory s ≡ true → d.address ≡ moved.address → d.unique ≡ s.identity → d.moment ≡ placed.moment
+pub turned_is : (s : Stored) (moved : Entry) (above : ℕ) (placed : Placed) (content : Content) (d : NewDirectory) → MatchesStored s placed content → is_directory s ≡ true → d.address ≡ moved.address → d.unique ≡ s.identity → d.moment ≡ placed.moment
     → d.content.dir.parent ≡ above → d.content.dir.entries.entries ≡ content.dir.entries.entries → directory_writing d ∷ [] ≡ turned moved s above
 turned_is s moved above placed content d shown directory address unique when parent_is entries_are =
     let body : Entries d.content.dir.parent (said_entries d.content.dir.entries.entries) ≡ with_parent above s.body = (λ i. Entries (parent_is i) (said_entries (entries_are i))) ∙ sym (ap (with_parent above) shown.body) in
@@ -213,7 +213,7 @@ turned_none s moved above file = sym (ap (λ (b : Bool). if b then record { addr
 
 module _ (graph : Graph) (tree : Tree) (one : IsFunctional graph) (is : IsTree tree) (makes : MakesTree graph tree) (free moment identity : ℕ) (from to : Path) where
   -- another name in one directory
-  pub renames_within : (parent : Node) (old new : Name) (w : IsMoveWithin graph tree from to parent old new) (placed : Placed) (content : Content) → IsOpened w.parent_at.found.stored placed content
+  pub renames_within : (parent : Node) (old new : Name) (w : IsMoveWithin graph tree from to parent old new) (placed : Placed) (content : Content) → MatchesStored w.parent_at.found.stored placed content
       → (entry : DirEntry) → lookup (pointwise nat_eq old) content.dir.entries.entries ≡ Some entry → (change : Change) (d : NewDirectory)
       → change.code ≡ code.Done → change.file ≡ None → change.made ≡ None → change.removed ≡ None → change.directories.items ≡ d ∷ []
       → d.address ≡ parent.address → d.unique ≡ parent.unique → d.moment ≡ moment → d.content.dir.parent ≡ content.dir.parent
@@ -252,7 +252,7 @@ module _ (graph : Graph) (tree : Tree) (one : IsFunctional graph) (is : IsTree t
 
   -- to another directory
   pub moves_between : (node source_dir target_dir : Node) (old new : Name) (b : IsBetween graph tree from to node source_dir target_dir old new) → code_of (Rename from to) tree ≡ 0
-      → (lost gained : Placed) (losing gaining : Content) → IsOpened b.loses_at.found.stored lost losing → IsOpened b.gains_at.found.stored gained gaining
+      → (lost gained : Placed) (losing gaining : Content) → MatchesStored b.loses_at.found.stored lost losing → MatchesStored b.gains_at.found.stored gained gaining
       → (entry : DirEntry) → lookup (pointwise nat_eq old) losing.dir.entries.entries ≡ Some entry → (change : Change) (before : List NewDirectory) (l g : NewDirectory)
       → Turns node.address b.node_at.found.stored target_dir.address (new_directories before)
       → change.code ≡ code.Done → change.file ≡ None → change.made ≡ None → change.removed ≡ None → change.directories.items ≡ (before ++ l ∷ []) ++ g ∷ []
@@ -299,17 +299,17 @@ module _ (graph : Graph) (tree : Tree) (one : IsFunctional graph) (is : IsTree t
 
 module _ (graph : Graph) (tree : Tree) (one : IsFunctional graph) (is : IsTree tree) (makes : MakesTree graph tree) (from to : Path) where
   -- whether the directory that gains is full
-  gained_count : (node source_dir target_dir : Node) (old new : Name) (b : IsBetween graph tree from to node source_dir target_dir old new) (gained : Placed) (gaining : Content) → IsOpened b.gains_at.found.stored gained gaining → (full : Bool) → nat_le DIRECTORY_NAMES (length gaining.dir.entries.entries) ≡ full
+  gained_count : (node source_dir target_dir : Node) (old new : Name) (b : IsBetween graph tree from to node source_dir target_dir old new) (gained : Placed) (gaining : Content) → MatchesStored b.gains_at.found.stored gained gaining → (full : Bool) → nat_le DIRECTORY_NAMES (length gaining.dir.entries.entries) ≡ full
       → code_of (Rename from to) tree ≡ (if full then 9 else 0)
   gained_count node source_dir target_dir old new b gained gaining shown full e =
       let count : length (names_at tree b.beyond) ≡ length gaining.dir.entries.entries =
       ap length (names_opened graph tree one is makes b.beyond target_dir b.gains_at gained gaining shown) ∙ length-map gaining.dir.entries.entries (λ (x : Name × DirEntry). x.0) in
       b.code_is ∙ (ap (λ (n : ℕ). if nat_le DIRECTORY_NAMES n then 9 else 0) count ∙ ap (λ (t : Bool). if t then 9 else 0) e)
 
-  pub gained_full : (node source_dir target_dir : Node) (old new : Name) (b : IsBetween graph tree from to node source_dir target_dir old new) (gained : Placed) (gaining : Content) → IsOpened b.gains_at.found.stored gained gaining → DIRECTORY_NAMES ≤ length gaining.dir.entries.entries
+  pub gained_full : (node source_dir target_dir : Node) (old new : Name) (b : IsBetween graph tree from to node source_dir target_dir old new) (gained : Placed) (gaining : Content) → MatchesStored b.gains_at.found.stored gained gaining → DIRECTORY_NAMES ≤ length gaining.dir.entries.entries
       → code_of (Rename from to) tree ≡ 9
   gained_full node source_dir target_dir old new b gained gaining shown le = gained_count node source_dir target_dir old new b gained gaining shown true (le-leb DIRECTORY_NAMES (length gaining.dir.entries.entries) le)
 
-  pub gained_room : (node source_dir target_dir : Node) (old new : Name) (b : IsBetween graph tree from to node source_dir target_dir old new) (gained : Placed) (gaining : Content) → IsOpened b.gains_at.found.stored gained gaining → length gaining.dir.entries.entries < DIRECTORY_NAMES
+  pub gained_room : (node source_dir target_dir : Node) (old new : Name) (b : IsBetween graph tree from to node source_dir target_dir old new) (gained : Placed) (gaining : Content) → MatchesStored b.gains_at.found.stored gained gaining → length gaining.dir.entries.entries < DIRECTORY_NAMES
       → code_of (Rename from to) tree ≡ 0
   gained_room node source_dir target_dir old new b gained gaining shown lt = gained_count node source_dir target_dir old new b gained gaining shown false (lt-leb DIRECTORY_NAMES (length gaining.dir.entries.entries) lt)

@@ -29,7 +29,7 @@ use Rattle.planning.specs.declared.change.NewDirectory.{NewDirectory}
 use Rattle.lookup.specs.declared.content.Content.{Content}
 use Rattle.recover.specs.declared.node.Node.{Node}
 use Rattle.lookup.specs.declared.nodes.Placed.{Placed}
-use Rattle.lookup.specs.Shows.{IsNodeAt, IsOpened}
+use Rattle.lookup.specs.Shows.{IsNodeAt, MatchesStored}
 use Rattle.planning.specs.Writings.{directory_writing, new_file, change_writings}
 use Rattle.table_update.specs.NextTable.{RemovesNode}
 use Rattle.planning.specs.Changes.{addresses_in, gone_of, IsChangeOf}
@@ -122,7 +122,7 @@ left name (e ∷ es) d = go (left name es d.1) (pointwise nat_eq name e.0) refl
         ∙ sym (ap (λ (b : Bool). cond b (said_entry e ∷ rest) rest) (other_apart name e.0 (λ same. not_same name e.0 apart (sym same))))
 
 -- the directory above without the entry
-unlisted : (path above : Path) (name : Name) (split : path ≡ above ++ name ∷ []) (graph : Graph) (parent : Node) (up : IsNodeAt graph above parent) (placed : Placed) (content : Content) → IsOpened up.found.stored placed content → IsDistinct (pointwise nat_eq) (keys_of content.dir.entries.entries)
+unlisted : (path above : Path) (name : Name) (split : path ≡ above ++ name ∷ []) (graph : Graph) (parent : Node) (up : IsNodeAt graph above parent) (placed : Placed) (content : Content) → MatchesStored up.found.stored placed content → IsDistinct (pointwise nat_eq) (keys_of content.dir.entries.entries)
     → (moment : ℕ) (d : NewDirectory) → d.address ≡ parent.address → d.unique ≡ parent.unique → d.moment ≡ moment → d.content.dir.parent ≡ content.dir.parent → d.content.dir.entries.entries ≡ remove_entry (pointwise nat_eq name) content.dir.entries.entries
     → directory_writing d ≡ record { address = up.found.address; stored = as_stored up.found.stored.identity moment (with_entries (without path) up.found.stored.body) }
 unlisted path above name split graph parent up placed content shown distinct moment d address unique when parent_is entries_are =
@@ -140,7 +140,7 @@ kind_back kinds.File = refl
 -- the node is taken away
 pub removes : (graph : Graph) (one : IsFunctional graph) (free moment identity : ℕ) (path above : Path) (name : Name) (split : path ≡ above ++ name ∷ []) (tree : Tree) (is : IsTree tree) (makes : MakesTree graph tree)
     (parent : Node) (up : IsNodeAt graph above parent) (placed : Placed) (content : Content)
-    → IsOpened up.found.stored placed content → IsDistinct (pointwise nat_eq) (keys_of content.dir.entries.entries) → (node : Node) (here : IsNodeAt graph path node) (change : Change) (d : NewDirectory) → code_of (Remove path) tree ≡ 0
+    → MatchesStored up.found.stored placed content → IsDistinct (pointwise nat_eq) (keys_of content.dir.entries.entries) → (node : Node) (here : IsNodeAt graph path node) (change : Change) (d : NewDirectory) → code_of (Remove path) tree ≡ 0
     → change.code ≡ code.Done → change.made ≡ None → change.removed ≡ Some node → change.file ≡ None → change.directories.items ≡ d ∷ []
     → d.address ≡ parent.address → d.unique ≡ parent.unique → d.moment ≡ moment → d.content.dir.parent ≡ content.dir.parent → d.content.dir.entries.entries ≡ remove_entry (pointwise nat_eq name) content.dir.entries.entries
     → IsChangeOf graph free tree (Remove path) moment identity change

@@ -12,7 +12,7 @@ use Rattle.durability.specs.Formats.{identifier_size}
 use Rattle.durability.specs.Volume.{blocks_for}
 use Rattle.durability.specs.Commit.{table_size}
 use Rattle.udf.specs.Said.{said_entries}
-use Rattle.udf.specs.Udf.{spelled}
+use Rattle.udf.specs.Udf.{spelled_length}
 use Rattle.vat.specs.Table.{Table}
 use Rattle.planning.specs.declared.change.Change.{Change}
 use Rattle.planning.specs.declared.change.NewDirectory.{NewDirectory}
@@ -34,11 +34,11 @@ abbrev pub all_names : List NewDirectory → List (List Name)
 all_names [] = []
 all_names (d ∷ ds) = names_of d ∷ all_names ds
 
-names_size : (es : List (List ℕ × Entry)) → plain_sizes (name_sizes es) ≡ sum (map (λ (name : Name). identifier_size (spelled name)) (map (λ (e : graphs.Entry). e.name) (said_entries es)))
+names_size : (es : List (List ℕ × Entry)) → plain_sizes (name_sizes es) ≡ sum (map (λ (name : Name). identifier_size (spelled_length name)) (map (λ (e : graphs.Entry). e.name) (said_entries es)))
 names_size [] = refl
 names_size (e ∷ es) =
     ap (λ (n : ℕ). plain_size (length (compressed e.0)) + n) (names_size es)
-    ∙ sym (sum_by-cons (λ (n : ℕ). n) (identifier_size (spelled e.0)) (map (λ (name : Name). identifier_size (spelled name)) (map (λ (x : graphs.Entry). x.name) (said_entries es))))
+    ∙ sym (sum_by-cons (λ (n : ℕ). n) (identifier_size (spelled_length e.0)) (map (λ (name : Name). identifier_size (spelled_length name)) (map (λ (x : graphs.Entry). x.name) (said_entries es))))
 
 directories_most : (ds : List NewDirectory) → directories_need ds ≡ most_for_directories (all_names ds)
 directories_most [] = refl

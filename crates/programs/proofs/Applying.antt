@@ -10,7 +10,7 @@ use Rattle.request.specs.declared.message.Message.{Message}
 use Rattle.model.specs.Session.{formatted}
 use Rattle.durability.specs.Commit.{need}
 use Rattle.durability.specs.Runs.{Fits}
-use Rattle.udf.specs.Udf.{spelled}
+use Rattle.udf.specs.Udf.{spelled_length}
 use Rattle.osta.specs.FirstFault.{first_text_fault}
 use Rattle.osta.specs.Label.{label_faults}
 use Rattle.recover.specs.declared.fault.StoreFault.{StoreFault}
@@ -81,8 +81,8 @@ module _ (capacity : ℕ) (label : List ℕ) (J : List Event) (made : IsFormatte
         marks = all.holds.marks;
         counts = all.holds.counts;
         committed = all.holds.committed;
-        fits = subst (λ (n : ℕ). Fits (need spelled) n (length (held afterwards.journal)) (formatted 0) 262 0 (brought messages) (model_answers answers) all.holds.marks all.holds.counts all.holds.committed) volume
-            (subst (λ (n : ℕ). Fits (need spelled) (min capacity GREATEST_CAPACITY) (length (held afterwards.journal)) (formatted 0) n 0 (brought messages) (model_answers answers) all.holds.marks all.holds.counts all.holds.committed) new_long all.holds.fits);
+        fits = subst (λ (n : ℕ). Fits (need spelled_length) n (length (held afterwards.journal)) (formatted 0) 262 0 (brought messages) (model_answers answers) all.holds.marks all.holds.counts all.holds.committed) volume
+            (subst (λ (n : ℕ). Fits (need spelled_length) (min capacity GREATEST_CAPACITY) (length (held afterwards.journal)) (formatted 0) n 0 (brought messages) (model_answers answers) all.holds.marks all.holds.counts all.holds.committed) new_long all.holds.fits);
         all_new = all.holds.new;
         each_once = all.holds.once;
       }

@@ -9,7 +9,7 @@ use Rattle.drive.specs.Journal.{Event, Once, held, next_of, written}
 use Rattle.drive.specs.Writes.{IsLeft}
 use Rattle.request.specs.declared.answer.Answer.{Answer}
 use Rattle.request.specs.declared.message.Message.{Message}
-use Rattle.media.specs.Held.{SameOrMade, begun}
+use Rattle.media.specs.Held.{SameOrMade, initial_journal}
 use Rattle.model.specs.Session.{State, Request, after}
 use Rattle.model.proofs.Lists.{bytes_cases}
 use Rattle.model.specs.Tree as tree
@@ -18,7 +18,7 @@ use Rattle.durability.specs.Commit.{need}
 use Rattle.durability.specs.Journal.{Advances, HoldsOnJournal}
 use Rattle.durability.specs.Volume.{RecoversTo}
 use Rattle.durability.proofs.Lists.{side}
-use Rattle.udf.specs.Udf.{udf, spelled}
+use Rattle.udf.specs.Udf.{udf, spelled_length}
 use Rattle.formatting.specs.NewVolume.{Words, HoldsPrefixes, IsFormatOf, IsFormatted, IsFormatRefused, words_on}
 use Rattle.formatting.specs.NewVolume as new_volumes
 use Rattle.formatting.proofs.NewVolumes.{format_long}
@@ -120,7 +120,7 @@ advances_none volume T T' journal once stands = record {
 }
 
 some_same : (a b : List Event) → Some a ≡ Some b → a ≡ b
-some_same a b e = ap begun e
+some_same a b e = ap initial_journal e
 
 -- A format finds nothing to write where a state is recovered: nothing is recovered before the last of its blocks.
 module _ (capacity volume : ℕ) (words : Words) (S : State) (before afterwards : List Event) (blocks : List (List ℕ)) (stands : RecoversTo udf GREATEST_CAPACITY volume (held before) S) (is : IsFormatOf words blocks) (fronts : HoldsPrefixes capacity words blocks before afterwards) (front : take (length before) afterwards ≡ before) where
@@ -196,7 +196,7 @@ record Run (volume : ℕ) (S : State) (before afterwards : List Event) (Are : Li
   pub messages : List Message
   pub answers : List Answer
   pub are : Are messages answers
-  pub holds : HoldsOnJournal udf (need spelled) GREATEST_CAPACITY volume S before afterwards (brought messages) (model_answers answers)
+  pub holds : HoldsOnJournal udf (need spelled_length) GREATEST_CAPACITY volume S before afterwards (brought messages) (model_answers answers)
 
 module _ (volume : ℕ) (S : State) (J : List Event) (once : Once J) (stands : RecoversTo udf GREATEST_CAPACITY volume (held J) S) (last : Situation) (honest : IsTrue last.honest) where
   at_start : HoldsState volume S (situation None J 0 GREATEST_CAPACITY true [])
@@ -243,7 +243,7 @@ module _ (path : List ℕ) (volume : ℕ) (S : State) (J : List Event) (once : O
   cut_off Are life K cut held_is are =
       record { lives = life ∷ []; done = (cut.run.holds.committed ++ life.under) ++ []; afterwards = K; are = are; cuts = (K, cut, [], refl, (refl, refl)); held_is = held_is }
 
-  ran : (Are : List Life → Type 0) (messages : List Message) (answers : List Answer) (K : List Event) → HoldsOnJournal udf (need spelled) GREATEST_CAPACITY volume S J K (brought messages) (model_answers answers) → new.held path ≡ Some K
+  ran : (Are : List Life → Type 0) (messages : List Message) (answers : List Answer) (K : List Event) → HoldsOnJournal udf (need spelled_length) GREATEST_CAPACITY volume S J K (brought messages) (model_answers answers) → new.held path ≡ Some K
       → Are (life_of messages answers ∷ []) → Left path volume S J new Are
   ran Are messages answers K run held_is are =
       let committed : List Request = run.holds.committed in
@@ -262,7 +262,7 @@ module _ (path : List ℕ) (volume : ℕ) (S : State) (J : List Event) (once : O
       → (lost : List Event) → LosesServing messages (situation None J 0 GREATEST_CAPACITY true []) answers last all lost → new.held path ≡ Some lost
       → ((life : Life) → IsLifeCut messages answers life → Are (life ∷ [])) → Left path volume S J new Are
   lost_serving Are messages answers last all sure holds withstands lost (inl same) held_is are =
-      ran Are messages answers lost (subst (λ (K : List Event). HoldsOnJournal udf (need spelled) GREATEST_CAPACITY volume S J K (brought messages) (model_answers answers)) (sym same) (holds volume S sure (at_start volume S J once stands last sure))) held_is
+      ran Are messages answers lost (subst (λ (K : List Event). HoldsOnJournal udf (need spelled_length) GREATEST_CAPACITY volume S J K (brought messages) (model_answers answers)) (sym same) (holds volume S sure (at_start volume S J once stands last sure))) held_is
       (are (life_of messages answers) (inl refl))
   lost_serving Are messages answers last all sure holds withstands lost (inr loses) held_is are =
       let start : Situation = situation None J 0 GREATEST_CAPACITY true [] in
@@ -328,7 +328,7 @@ module _ (path : List ℕ) (volume : ℕ) (S : State) (J : List Event) (once : O
   same_there image journal is was = some_same journal J (sym is ∙ was)
 
   same_made : (image : Option (List Event)) (journal : List Event) → IsThereOrMade image journal → image ≡ Some J → journal ≡ J
-  same_made image journal is was = sym is ∙ ap begun was
+  same_made image journal is was = sym is ∙ ap initial_journal was
 
   -- ---- by the task
 

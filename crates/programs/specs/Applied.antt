@@ -13,7 +13,7 @@ use Rattle.model.specs.Runs.{AllNew, EachOnce}
 use Rattle.durability.specs.Commit.{need}
 use Rattle.durability.specs.Formats.{Block}
 use Rattle.durability.specs.Runs.{Fits}
-use Rattle.udf.specs.Udf.{spelled}
+use Rattle.udf.specs.Udf.{spelled_length}
 use Rattle.formatting.specs.NewVolume.{IsFormatOf, words_on}
 use Rattle.recover.specs.declared.fault.StoreFault.{StoreFault}
 use Rattle.recover.specs.declared.fault.StoreFault.TheVariants as stores
@@ -69,7 +69,7 @@ pub record IsRunOfNew (capacity : ℕ) (messages : List Message) (answers : List
   pub marks : List ℕ
   pub counts : List ℕ
   pub committed : List Request
-  pub fits : Fits (need spelled) capacity end (formatted 0) FORMAT_BLOCKS 0 (brought messages) (model_answers answers) marks counts committed
+  pub fits : Fits (need spelled_length) capacity end (formatted 0) FORMAT_BLOCKS 0 (brought messages) (model_answers answers) marks counts committed
   pub all_new : AllNew (formatted 0) committed
   pub each_once : EachOnce committed
 

@@ -3,7 +3,7 @@ use Rattle.std.specs.Prelude.{◌≡◌, ℕ, true, Bool, List, [], Option, Some
 use Rattle.std.specs.Io.KnownBytes.{Keeps}
 use Rattle.drive.specs.Journal.{Event, Once}
 use Rattle.drive.specs.declared.Drive.{Ghosts as DriveGhosts}
-use Rattle.media.specs.Held.{Held, IsFresh, Same, SameBut, SameOrMade, begun}
+use Rattle.media.specs.Held.{Held, IsFresh, Same, SameBut, SameOrMade, initial_journal}
 use Rattle.media.specs.declared.Media.{Ghosts}
 use Rattle.recover.specs.declared.fault.StoreFault.TheVariants.{Device}
 use Rattle.engine.specs.Situation.{Situation, situation}
@@ -31,7 +31,7 @@ IsThere image journal = image ≡ Some journal
 
 -- the same, or nothing, where there was no image and one was made
 abbrev pub IsThereOrMade : Option (List Event) → List Event → Type 0
-IsThereOrMade image journal = begun image ≡ journal
+IsThereOrMade image journal = initial_journal image ≡ journal
 
 -- A drive was taken out of the media, for the image at this path. Where they are honest then, it has what was held there; and
 -- media that were honest before are so where the drive has that.

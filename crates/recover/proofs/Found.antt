@@ -16,7 +16,7 @@ use Rattle.recover.specs.declared.walk.Named.{Named}
 use Rattle.recover.specs.declared.walk.Walk.{Walk}
 use Rattle.recover.specs.Forest.{IsAssigned, InsertsNumber}
 use Rattle.recover.specs.Seen.{AreSeen, WalksOn, IsFileSeen, IsNameSeen, VisitsName}
-use Rattle.recover.specs.Walk.{Begun, HasNode, LeadsTo, LiesBelow, Tallied, Visits, nodes_of, reached_in, uniques_in}
+use Rattle.recover.specs.Walk.{Begun, HasEntry, LeadsTo, LiesBelow, Tallied, Visits, nodes_of, reached_in, uniques_in}
 use Rattle.recover.proofs.Held.{length-held, lies_there}
 use Rattle.recover.proofs.Walks.{begun_more, file_seen, file_visits, visits_same}
 
@@ -25,7 +25,7 @@ lies_higher : (top at : ℕ) → top ≤ at → (o : Option Extent) → IfSome o
 lies_higher top at low None h = tt
 lies_higher top at low (Some e) h = record { some = h.some; first = h.first; below = let b = h.below in omega (arith, b, low) }
 
-higher : (H : List (List ℕ)) (top at entry_at : ℕ) (node : Named) → top ≤ at → HasNode (take top H) top entry_at node → HasNode (take at H) at entry_at node
+higher : (H : List (List ℕ)) (top at entry_at : ℕ) (node : Named) → top ≤ at → HasEntry (take top H) top entry_at node → HasEntry (take at H) at entry_at node
 higher H top at entry_at node low (body, entry, below) =
     let within = slice_get_within (take top H) entry_at entry.block entry.there in
     let long = length-take top H in

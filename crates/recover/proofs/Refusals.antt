@@ -14,7 +14,7 @@ use Rattle.model.specs.Session.{State as ModelState}
 use Rattle.model.proofs.Lists.{bytes_eq-itself}
 use Rattle.durability.specs.Formats.{NodeFields, NodePlace, Table_}
 use Rattle.durability.specs.Formats.NodePlace.{Nowhere, Extent, Inside}
-use Rattle.durability.specs.Volume.{HasTable, IsWithin, Describes, bytes_in, extent, graph_of}
+use Rattle.durability.specs.Volume.{HasTable, IsWithin, Describes, bytes_in_blocks, extent, graph_of}
 use Rattle.udf.specs.Said.{said_fields, model_table}
 use Rattle.udf.specs.Udf.{udf}
 use Rattle.udf.specs.Words.{icb_fields, icb_kind_of, table_of}
@@ -30,7 +30,7 @@ use Rattle.volume.proofs.ReadingLaws.{front_tells, one_told}
 use Rattle.recover.specs.declared.fault.StoreFault.{StoreFault}
 use Rattle.recover.specs.declared.fault.StoreFault.TheVariants.{Device, Memory, Damaged}
 use Rattle.recover.specs.declared.table.TableEntry.{TableEntry}
-use Rattle.recover.specs.State.{HasFileSet, CountsTree, IsFrontRefused, IsSetRefused, IsStateRefused, IsTreeRefused, IsUntold}
+use Rattle.recover.specs.State.{HasFileSet, CountsTree, IsFrontRefused, IsSetRefused, IsStateRefused, IsTreeRefused, DescribesNoState}
 use Rattle.recover.specs.Tables.{HasDataBelow, HasVatIcb, IsEntryAt, IsEntryRefused, IsTableRefused, table_data_of, table_fields}
 use Rattle.recover.proofs.Walks.{part_below}
 
@@ -71,10 +71,10 @@ module _ (M : List (List ℕ)) (at : ℕ) (low : 257 ≤ at) (long : at < length
     told_table =
         let below = data_below in
         let part = part_below (e.first + 257) (div_ceil e.size 2048) at M below in
-        let same : bytes_in e.size (extent (take at M) e.first e.size) ≡ table_data_of M e = ap (λ (blocks : List (List ℕ)). take e.size (flat_map (λ b. b) blocks)) part in
+        let same : bytes_in_blocks e.size (extent (take at M) e.first e.size) ≡ table_data_of M e = ap (λ (blocks : List (List ℕ)). take e.size (flat_map (λ b. b) blocks)) part in
         subst (udf.IsTable table (at - 257)) same
-        (subst (λ (n : ℕ). udf.IsTable table (at - 257) (bytes_in e.size (extent (take at M) n e.size))) same_first
-        (subst (λ (n : ℕ). udf.IsTable table (at - 257) (bytes_in n (extent (take at M) h.first n))) same_size h.is))
+        (subst (λ (n : ℕ). udf.IsTable table (at - 257) (bytes_in_blocks e.size (extent (take at M) n e.size))) same_first
+        (subst (λ (n : ℕ). udf.IsTable table (at - 257) (bytes_in_blocks n (extent (take at M) h.first n))) same_size h.is))
 
   -- a table that is there is not refused
   pub entry_is_read : (block : List ℕ) (table : Table_) (moment : ℕ) → slice_get M at ≡ Some block → HasTable udf (take at M) at block table moment → (b c : ℕ) → IsEntryRefused M at (Damaged b c) → ⊥
@@ -122,7 +122,7 @@ module _ (M : List (List ℕ)) (at : ℕ) (low : 257 ≤ at) (long : at < length
     one_capacity = ap (λ (f : Front). f.capacity) one_front
 
   -- a volume that is larger than the drive
-  pub too_large : (label : List ℕ) (formatted size capacity : ℕ) → IsFront label formatted size (take 257 M) → capacity < size → IsUntold capacity M at
+  pub too_large : (label : List ℕ) (formatted size capacity : ℕ) → IsFront label formatted size (take 257 M) → capacity < size → DescribesNoState capacity M at
   too_large label formatted size capacity front lt volume block said there tells =
       let same = one_capacity label formatted size front capacity volume block said tells in
       let fits = tells.fits in
@@ -143,7 +143,7 @@ module _ (M : List (List ℕ)) (at : ℕ) (low : 257 ≤ at) (long : at < length
 
   module _ (e : TableEntry) (is : IsEntryAt M at e) (vat : Vat) (read : IsTableAt (at - 257) (view vat) (table_data_of M e)) (label : List ℕ) (formatted size : ℕ) (front : IsFront label formatted size (take 257 M)) (capacity : ℕ) where
     -- labels that `!=` distinguishes
-    pub other_label : (r : Bool) → r ≡ not (pointwise nat_eq vat.label label) → r ≡ true → IsUntold capacity M at
+    pub other_label : (r : Bool) → r ≡ not (pointwise nat_eq vat.label label) → r ≡ true → DescribesNoState capacity M at
     other_label r is_not apart volume block said there tells =
         let same : vat.label ≡ label = sym (ap (λ (t : Table_). t.label) (one_table e is vat read capacity volume block said there tells)) ∙ one_label label formatted size front capacity volume block said tells in
         let equal : pointwise nat_eq vat.label label ≡ true = ap (λ (l : List ℕ). pointwise nat_eq l label) same ∙ bytes_eq-itself label in

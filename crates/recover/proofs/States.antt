@@ -14,7 +14,7 @@ use Rattle.model.specs.Identities.{HasIdentities}
 use Rattle.model.specs.Tree.{files_of, directories_of}
 use Rattle.model.proofs.Lists.{bytes_same}
 use Rattle.model.proofs.Made.{one_tree}
-use Rattle.durability.specs.Volume.{HasTable, bytes_in, extent, graph_of}
+use Rattle.durability.specs.Volume.{HasTable, bytes_in_blocks, extent, graph_of}
 use Rattle.durability.proofs.Stored.{stored_one}
 use Rattle.udf.specs.Said.{said_fields, model_table}
 use Rattle.udf.specs.Udf.{udf}
@@ -33,7 +33,7 @@ use Rattle.recover.specs.declared.walk.Walk.{Walk}
 use Rattle.recover.specs.Forest.{Adds, AreAssigned, IsWholeForest, IsWalked, by_address, by_identity, directories_in, files_in, whole}
 use Rattle.recover.specs.Forest.Forest.{End, Seen}
 use Rattle.recover.specs.Laws.{LastRecovers}
-use Rattle.recover.specs.State.{CountsTree, IsCounted, IsDescribed, IsShown, IsTreeRefused}
+use Rattle.recover.specs.State.{CountsTree, HasPlausibleCounts, IsDescribed, IsShown, IsTreeRefused}
 use Rattle.recover.specs.Refused.{IsVisitRefused}
 use Rattle.recover.specs.Tables.{HasDataBelow, IsEntryAt, table_data_of, table_fields}
 use Rattle.recover.specs.Walk.{Visits, reached_in, uniques_in}
@@ -143,12 +143,12 @@ has_table medium at entry is read long below table = record {
   within = (let l = length-take at medium in omega (arith, l, long, below));
   is =
       let part = part_below (entry.first + 257) (div_ceil entry.size 2048) at medium below in
-      let same : table_data_of medium entry ≡ bytes_in entry.size (extent (take at medium) entry.first entry.size) = ap (λ (blocks : List (List ℕ)). take entry.size (flat_map (λ b. b) blocks)) (sym part) in
+      let same : table_data_of medium entry ≡ bytes_in_blocks entry.size (extent (take at medium) entry.first entry.size) = ap (λ (blocks : List (List ℕ)). take entry.size (flat_map (λ b. b) blocks)) (sym part) in
       tables_agree read (at - 257) _ (subst (IsTableAt (at - 257) read) same table);
 }
 
 pub is_shown : (capacity : ℕ) (medium : List (List ℕ)) (at : ℕ) (state : State) → 257 ≤ at → at < length medium → IsDescribed capacity medium at state
-    → CountsTree (take at medium) state.vat → IsCounted at state.vat → IsShown capacity medium at state
+    → CountsTree (take at medium) state.vat → HasPlausibleCounts at state.vat → IsShown capacity medium at state
 is_shown capacity medium at state low long described tree counted =
     let entry = described.entry in
     let is = described.is_entry in

@@ -21,7 +21,7 @@ use Rattle.model.specs.Tree.{Name}
 use Rattle.model.specs.Graph.{Graph, Stored, Entry, entries_of, is_directory as stored_is_directory}
 use Rattle.model.specs.Graph.Body.{Bytes, Entries}
 use Rattle.durability.specs.Formats.Kind.{File as MediumFile, Directory as MediumDirectory}
-use Rattle.durability.specs.Volume.{HoldsFile, HoldsDirectory, bytes_in, extent, graph_of}
+use Rattle.durability.specs.Volume.{HoldsFile, HoldsDirectory, bytes_in_blocks, extent, graph_of}
 use Rattle.udf.specs.Said.{said_entries, said_entry, said_fields, said_kind, said_place, names_directory}
 use Rattle.udf.specs.Udf.{IsBlock, udf}
 use Rattle.udf.proofs.Said.{entries_agree, directories_agree}
@@ -152,7 +152,7 @@ more_counts before now after depth a i s t n f b next c d =
 
 file_bytes : List (List ℕ) → ℕ → Place → List ℕ
 file_bytes M size Nowhere = []
-file_bytes M size (IcbExtent first) = bytes_in size (extent M first size)
+file_bytes M size (IcbExtent first) = bytes_in_blocks size (extent M first size)
 file_bytes M size (Inside bytes) = bytes
 
 module _ (M : List (List ℕ)) (at : ℕ) (long : at ≤ length M) where

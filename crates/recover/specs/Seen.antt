@@ -9,13 +9,13 @@ use Rattle.recover.specs.declared.checked.CheckedFile.{CheckedFile}
 use Rattle.recover.specs.declared.checked.CheckedFiles.{CheckedFiles}
 use Rattle.recover.specs.declared.walk.Named.{Named}
 use Rattle.recover.specs.declared.walk.Walk.{Walk}
-use Rattle.recover.specs.Walk.{Begun, HasNode, Visits, nodes_of}
+use Rattle.recover.specs.Walk.{Begun, HasEntry, Visits, nodes_of}
 
 -- this file: whatever directory names it so, its entry says the same, and it lies below its top with all its bytes
 pub record IsFileSeen (medium : List (List ℕ)) (file : CheckedFile) : Type 0 where
   pub is_no_root : file.address ≡ 1 → ⊥
   pub drawn : FIRST_UNIQUE ≤ file.unique
-  pub has : (node : Named) → node.kind ≡ File → node.address ≡ file.address → node.unique ≡ file.unique → HasNode (take file.top medium) file.top (file.number + PARTITION_START) node
+  pub has : (node : Named) → node.kind ≡ File → node.address ≡ file.address → node.unique ≡ file.unique → HasEntry (take file.top medium) file.top (file.number + PARTITION_START) node
 
 -- it is the one that the name at this place stands for
 pub record IsNameSeen (medium : List (List ℕ)) (entries : List (List ℕ × Entry)) (index : ℕ) (file : CheckedFile) : Type 0 where

@@ -19,7 +19,7 @@ use Rattle.recover.specs.declared.table.TableEntry.{TableEntry}
 use Rattle.recover.specs.Tables.{HasDataBelow, IsEntryAt, table_data_of}
 
 -- the table counts the root, and no more commits and unique IDs than the blocks below its entry leave room for
-pub record IsCounted (at : ℕ) (vat : Vat) : Type 0 where
+pub record HasPlausibleCounts (at : ℕ) (vat : Vat) : Type 0 where
   pub root : 1 ≤ vat.directories
   pub few_commits : 2 * vat.sessions.commits + (FORMAT_BLOCKS - 1) ≤ at
   pub few_unique : vat.sessions.next_unique ≤ FIRST_UNIQUE + vat.sessions.commits
@@ -31,7 +31,7 @@ pub record HasSoundTable (at capacity : ℕ) (state : State) : Type 0 where
   pub fits : state.capacity ≤ capacity
   pub bytes : List ℕ
   pub table : IsTableAt (at - PARTITION_START) (view state.vat) bytes
-  pub counted : IsCounted at state.vat
+  pub counted : HasPlausibleCounts at state.vat
   -- each node has an entry beside that of the file set
   pub nodes : 1 + (state.vat.files + state.vat.directories) ≤ length state.vat.entries.items
 
@@ -96,12 +96,12 @@ pub record IsShown (capacity : ℕ) (medium : List (List ℕ)) (at : ℕ) (state
   pub label : state.vat.label ≡ state.label
 
 -- no state is described there, on a drive of this capacity
-abbrev pub IsUntold : ℕ → List (List ℕ) → ℕ → Type 0
-IsUntold capacity medium at = (volume : ℕ) (block : List ℕ) (said : ModelState) → slice_get medium at ≡ Some block → Describes udf capacity volume (take at medium) at block said → ⊥
+abbrev pub DescribesNoState : ℕ → List (List ℕ) → ℕ → Type 0
+DescribesNoState capacity medium at = (volume : ℕ) (block : List ℕ) (said : ModelState) → slice_get medium at ≡ Some block → Describes udf capacity volume (take at medium) at block said → ⊥
 
 -- why no state was read: the drive failed, memory was short, or none is described
 abbrev pub IsStateRefused : ℕ → List (List ℕ) → ℕ → StoreFault → Type 0
 IsStateRefused capacity medium at Device = ⊤
 IsStateRefused capacity medium at Memory = ⊤
-IsStateRefused capacity medium at (Damaged block cause) = IsUntold capacity medium at
+IsStateRefused capacity medium at (Damaged block cause) = DescribesNoState capacity medium at
 IsStateRefused capacity medium at _ = ⊥

@@ -54,8 +54,8 @@ pub record HasFileEntry (medium : List (List ℕ)) (entry_at : ℕ) (node : Name
   pub extent : body.extent ≡ extent_in fields.size fields.place
 
 -- such an entry is there, and the bytes that it names lie below an address
-abbrev pub HasNode : List (List ℕ) → ℕ → ℕ → Named → Type 0
-HasNode medium at entry_at node = (body : Body) × HasFileEntry medium entry_at node body × IfSome body.extent (LiesBelow at)
+abbrev pub HasEntry : List (List ℕ) → ℕ → ℕ → Named → Type 0
+HasEntry medium at entry_at node = (body : Body) × HasFileEntry medium entry_at node body × IfSome body.extent (LiesBelow at)
 
 -- It was read so if the drive is honest, and the bytes that it names lie below an address.
 pub record IsBodyRead (honest : Bool) (medium : List (List ℕ)) (at entry_at : ℕ) (node : Named) (body : Body) : Type 0 where

@@ -8,7 +8,7 @@ ghost use Rattle.volume.specs.Front.{IsFront};
 ghost use Rattle.drive.specs.Reads.{ReadsOnly};
 ghost use Rattle.recover.specs.Faults.{devices};
 ghost use Rattle.recover.specs.ReadCache.{IsKnown, ReadsAndKnows};
-ghost use Rattle.recover.specs.State.{HasFileSet, CountsTree, IsCounted, IsDescribed, IsFrontRefused, IsSetRefused, IsShown, HasSoundTable, IsStateRefused, IsTreeRefused};
+ghost use Rattle.recover.specs.State.{HasFileSet, CountsTree, HasPlausibleCounts, IsDescribed, IsFrontRefused, IsSetRefused, IsShown, HasSoundTable, IsStateRefused, IsTreeRefused};
 ghost use Rattle.recover.specs.Tables.{HasTableAt};
 ghost use Rattle.recover.specs.Walk.{IsInPartition};
 
@@ -197,7 +197,7 @@ fn check_tree<D: Drive>(
     requires next { FIRST_UNIQUE ≤ vat.now.sessions.next_unique }
     requires few { vat.now.files + vat.now.directories ≤ NODES }
     ensures tree { OnOk result (IsTrue (D.honest drive.new) → CountsTree (take at (held (D.journal drive.old))) vat.now) }
-    ensures counts { OnOk result (IsCounted at vat.now) }
+    ensures counts { OnOk result (HasPlausibleCounts at vat.now) }
     ensures refused { IfErr result (λ fault. IsTrue (D.honest drive.new) → IsTreeRefused (take at (held (D.journal drive.old))) at vat.now fault) }
     ensures reads { ReadsAndKnows D.Drive (devices result) drive.old drive.new known.new }
 {

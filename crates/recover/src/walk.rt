@@ -8,7 +8,7 @@ ghost use Rattle.recover.specs.Faults.{devices};
 ghost use Rattle.recover.specs.ReadCache.{IsKnown, ReadsAndKnows};
 ghost use Rattle.recover.specs.Refused.{IsNamesRefused};
 ghost use Rattle.recover.specs.Seen.{AreSeen};
-ghost use Rattle.recover.specs.Walk.{HasListing, HasNode, LeadsTo, icb_kind};
+ghost use Rattle.recover.specs.Walk.{HasListing, HasEntry, LeadsTo, icb_kind};
 ghost use Rattle.dir.specs.declared.entry.Kind.TheVariants.{Directory, File};
 
 use crate::cause;
@@ -450,7 +450,7 @@ fn seen_at(known: &ReadCache, node: &Named, entry_at: u32) -> Option<CheckedFile
     requires high { entry_at + 1 < 2 ^ 32 }
     ensures address { IfSome result (λ file. node.now.address ≡ file.address) }
     ensures unique { IfSome result (λ file. node.now.unique ≡ file.unique) }
-    ensures has { (medium : List (List ℕ)) → IsKnown medium known.now → IfSome result (λ file. HasNode (take file.top medium) file.top (file.number + PARTITION_START) node.now) }
+    ensures has { (medium : List (List ℕ)) → IsKnown medium known.now → IfSome result (λ file. HasEntry (take file.top medium) file.top (file.number + PARTITION_START) node.now) }
 {
     let place = EntryPlace {
         at: entry_at,
@@ -498,7 +498,7 @@ fn leads_to(entries: &[Option<u32>], file: &CheckedFile) -> bool
 /// Whether the node's entry is known, and is as its directory says, with bytes below `at`.
 fn is_known(known: &ReadCache, node: &Named, entry_at: u32, at: u32) -> bool
     requires { entry_at < at }
-    ensures { (medium : List (List ℕ)) → IsTrue result → IsKnown medium known.now → HasNode (take at medium) at entry_at node.now }
+    ensures { (medium : List (List ℕ)) → IsTrue result → IsKnown medium known.now → HasEntry (take at medium) at entry_at node.now }
 {
     let place = EntryPlace {
         at: entry_at,

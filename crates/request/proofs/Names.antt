@@ -14,7 +14,7 @@ use Rattle.osta.specs.declared.fault.NameFault.{NameFault}
 use Rattle.osta.specs.Fault.{text_fault}
 use Rattle.osta.specs.FirstFault.{first_text_fault}
 use Rattle.osta.specs.Name.{name_faults, IsName}
-use Rattle.osta.specs.Compressed.{is_narrow, spelling}
+use Rattle.osta.specs.Compressed.{is_narrow, compressed_unicode}
 use Rattle.osta.proofs.Rows.{all_hold}
 use Rattle.osta.proofs.Names.{name_few}
 use Rattle.osta.proofs.Spellings.{length-spelling_narrow, length-spelling_wide}
@@ -81,11 +81,11 @@ length_of_encodes [] = omega arith
 length_of_encodes (c ∷ cs) =
     omega (arith, length_of_encodes cs, length-append (encode c) (encodes cs), length-encode c, (len_utf8_bounds c).1)
 
-length_of_spelling : (cs : List ℕ) → length cs ≤ length (spelling cs)
+length_of_spelling : (cs : List ℕ) → length cs ≤ length (compressed_unicode cs)
 length_of_spelling [] = omega arith
 length_of_spelling (c ∷ cs) =
     let some : 0 < length (c ∷ cs) = omega arith in
-    let chosen : (b : Bool) → list_all is_narrow (c ∷ cs) ≡ b → length (c ∷ cs) ≤ length (spelling (c ∷ cs)) = λ b. elim b as (λ v. list_all is_narrow (c ∷ cs) ≡ v → length (c ∷ cs) ≤ length (spelling (c ∷ cs))) [
+    let chosen : (b : Bool) → list_all is_narrow (c ∷ cs) ≡ b → length (c ∷ cs) ≤ length (compressed_unicode (c ∷ cs)) = λ b. elim b as (λ v. list_all is_narrow (c ∷ cs) ≡ v → length (c ∷ cs) ≤ length (compressed_unicode (c ∷ cs))) [
       | true ↦ λ e. omega (arith, length-spelling_narrow (c ∷ cs) some e)
       | false ↦ λ e. omega (arith, length-spelling_wide (c ∷ cs) some e)
     ] in

@@ -18,14 +18,14 @@ use Rattle.durability.specs.Volume.{Medium, RecoversTo}
 use Rattle.durability.proofs.OnJournals.{torn_advances}
 use Rattle.durability.proofs.Writes.{joined_writes, left_more}
 use Rattle.udf.proofs.Formats.{exact, bounded, distinct}
-use Rattle.recover.specs.Faults.{IsShortage, devices, failures_of}
+use Rattle.recover.specs.Faults.{IsShortage, devices, device_failures}
 use Rattle.recover.specs.declared.fault.StoreFault.{StoreFault}
 use Rattle.recover.specs.declared.fault.StoreFault.TheVariants as fault
 use Rattle.request.specs.Numbers.{code_number}
 use Rattle.request.specs.declared.answer.Reply as told
 use Rattle.request.specs.declared.message.Request as asking
 use Rattle.udf.specs.Said.{model_table}
-use Rattle.udf.specs.Udf.{udf, spelled}
+use Rattle.udf.specs.Udf.{udf, spelled_length}
 use Rattle.vat.specs.Table.{view}
 use Rattle.planning.specs.declared.change.Change.{Change}
 use Rattle.planning.specs.declared.plan.Plan.{Plan}
@@ -89,7 +89,7 @@ module _ (capacity volume : ℕ) (J : List Event) (S : State) (store : Store) (k
     abbrev most : ℕ
     most = next_of J + change_need change (begun store.vat_icb_address r.client r.number (code_number change.code) change.made (view store.vat))
 
-    most_is : most ≡ length J + need spelled S (model_request r)
+    most_is : most ≡ length J + need spelled_length S (model_request r)
     most_is = λ i. next_is capacity volume J S store knows i + need_is capacity volume J S store knows r change does i
 
     -- there may be no room
@@ -102,7 +102,7 @@ module _ (capacity volume : ℕ) (J : List Event) (S : State) (store : Store) (k
       abbrev blocks : List Block
       blocks = planned_blocks capacity volume J S store knows r change does plan makes is
 
-      roomy : length J + need spelled S (model_request r) ≤ volume
+      roomy : length J + need spelled_length S (model_request r) ≤ volume
       roomy = omega (arith, room, most_is, knows.capacity_is)
 
       all_is : plan_blocks plan ≡ blocks ++ plan.table.entry ∷ []
@@ -159,7 +159,7 @@ module _ (capacity volume : ℕ) (J : List Event) (S : State) (store : Store) (k
           whole_of (Ok reply) ok done part none =
               let every : plan_blocks plan ≡ joined sends.added = planned_is ∙ ap (λ (ws : List (List Block)). joined (sends.added ++ ws)) (none refl) ∙ ap joined (append-nil sends.added) in
               done.journal ∙ (λ i. J ++ written (next i) (every i))
-          whole_of (Err refusal) ok done part none = let bad : 1 ≡ 0 = ap failures_of (sym part.device) ∙ ok in absurd (omega (arith, bad))
+          whole_of (Err refusal) ok done part none = let bad : 1 ≡ 0 = ap device_failures (sym part.device) ∙ ok in absurd (omega (arith, bad))
 
       -- all is written
       module _ (J' : List Event) (whole_is : J' ≡ J ++ written (next_of J) (plan_blocks plan)) where

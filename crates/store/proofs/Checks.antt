@@ -11,13 +11,13 @@ use Rattle.vat.specs.Table.{Table}
 use Rattle.recover.specs.declared.fault.StoreFault.{StoreFault}
 use Rattle.recover.specs.declared.fault.StoreFault.TheVariants.{Device, Memory, Damaged}
 use Rattle.recover.specs.declared.state.State.{State}
-use Rattle.recover.specs.State.{IsShown, IsStateRefused, IsUntold}
+use Rattle.recover.specs.State.{IsShown, IsStateRefused, DescribesNoState}
 use Rattle.recover.specs.Tables.{HasTableAt}
 use Rattle.recover.proofs.Told.{one_read}
 use Rattle.store.specs.declared.history.Commit.{Commit}
 use Rattle.store.specs.declared.store.Store.{Store}
 use Rattle.store.specs.Calls.{IsOpenOn}
-use Rattle.store.specs.History.{AreShown, HasUntold, IsChain, IsChecked, IsHistory, IsUnchecked, told_of}
+use Rattle.store.specs.History.{AreShown, HasUntold, IsChain, IsChecked, IsHistory, IsUnchecked, report_of}
 use Rattle.store.specs.Past.{IsCheckRefused}
 use Rattle.store.proofs.Histories.{GoesOn, ends, goes_on}
 use Rattle.store.proofs.Wholes.{history_stood, unshown}
@@ -51,10 +51,10 @@ module _ (M : List (List ℕ)) (capacity at : ℕ) where
 
   pub first_seen : (t : Table) → HasTableAt M at t → (state : State) → IsShown capacity M at state → Seen M capacity at t
   first_seen t has state shown = record {
-    seen = told_of at t ∷ [];
+    seen = report_of at t ∷ [];
     goes = λ rest chain. (t, has, rest, refl, chain);
-    shown = All-cons IsAt (told_of at t) [] (state, shown) (All-nil IsAt);
-    left = λ all (u, there, earlier, is, chain). (told_of at u ∷ [], earlier, is, subst (λ (x : Table_). IsChain M x.previous x.commits earlier) (one_read M at u t there has) chain);
+    shown = All-cons IsAt (report_of at t) [] (state, shown) (All-nil IsAt);
+    left = λ all (u, there, earlier, is, chain). (report_of at u ∷ [], earlier, is, subst (λ (x : Table_). IsChain M x.previous x.commits earlier) (one_read M at u t there has) chain);
   }
 
   next_left : (number : ℕ) (t u : Table) → t.previous ≡ Some number → HasTableAt M (number + 257) u → (all : List Commit) → IsLeftToCheck M t all → IsLeftToCheck M u all
@@ -70,7 +70,7 @@ module _ (M : List (List ℕ)) (capacity at : ℕ) where
   pub next_seen : (number : ℕ) (t u : Table) → Seen M capacity at t → t.previous ≡ Some number → HasTableAt M (number + 257) u → u.commits + 1 ≡ t.commits → (state : State) → IsShown capacity M (number + 257) state
       → Seen M capacity at u
   next_seen number t u so_far link has fewer state shown =
-      let c = told_of (number + 257) u in record {
+      let c = report_of (number + 257) u in record {
         seen = so_far.seen ++ c ∷ [];
         goes = goes_on M at number t u so_far.seen (so_far.seen ++ c ∷ []) c so_far.goes link has fewer refl refl;
         shown = All-append IsAt so_far.seen (c ∷ []) so_far.shown (All-cons IsAt c [] (state, shown) (All-nil IsAt));
@@ -88,7 +88,7 @@ module _ (M : List (List ℕ)) (capacity at : ℕ) where
   first_unseen (Damaged b c) r = λ all (t, has, earlier, is, chain). (
     0,
     (let some : 0 < length all = omega (arith, ap (λ (cs : List Commit). length cs) is) in some),
-    λ d. subst (λ (cs : List Commit). IsUntold capacity M (slice_index_or cs 0 d).vat_icb_address) (sym is) r,
+    λ d. subst (λ (cs : List Commit). DescribesNoState capacity M (slice_index_or cs 0 d).vat_icb_address) (sym is) r,
   )
   first_unseen _ r = absurd r
 
@@ -103,8 +103,8 @@ module _ (M : List (List ℕ)) (capacity at : ℕ) where
           let place : number + 257 ≡ c.vat_icb_address = ap (λ (k : ℕ). k + 257) (sym (same_Some n number (sym is ∙ link))) ∙ sym (ap (λ (e : Commit). e.vat_icb_address) says) in (
             length before,
             (let less : length before < length all = omega (arith, length-append before (c ∷ earlier), ap (λ (cs : List Commit). length cs) same) in less),
-            λ d. subst (λ (cs : List Commit). IsUntold capacity M (slice_index_or cs (length before) d).vat_icb_address) (sym same)
-                (subst (λ (e : Commit). IsUntold capacity M e.vat_icb_address) (sym (get_or-append_seam before c earlier d)) (subst (IsUntold capacity M) place r)),
+            λ d. subst (λ (cs : List Commit). DescribesNoState capacity M (slice_index_or cs (length before) d).vat_icb_address) (sym same)
+                (subst (λ (e : Commit). DescribesNoState capacity M e.vat_icb_address) (sym (get_or-append_seam before c earlier d)) (subst (DescribesNoState capacity M) place r)),
           )
   next_unseen number t so_far link _ r = absurd r
 

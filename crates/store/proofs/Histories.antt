@@ -4,19 +4,19 @@ use Rattle.std.proofs.lemmas.List.Elements.{All-append, All-cons, All-nil}
 use Rattle.vat.specs.Table.{Table}
 use Rattle.recover.specs.Tables.{HasTableAt, IsBefore}
 use Rattle.store.specs.declared.history.Commit.{Commit}
-use Rattle.store.specs.History.{IsChain, IsHistory, told_of}
+use Rattle.store.specs.History.{IsChain, IsHistory, report_of}
 
 -- with the commits that a chain goes on to, those that were found are all
 abbrev pub GoesOn : List (List ℕ) → ℕ → Table → List Commit → Type 0
 GoesOn M at t found = (rest : List Commit) → IsChain M t.previous t.commits rest → IsHistory M at (found ++ rest)
 
-pub begins : (M : List (List ℕ)) (at : ℕ) (t : Table) (none found : List Commit) (c : Commit) → HasTableAt M at t → none ≡ [] → c ≡ told_of at t → found ≡ none ++ c ∷ [] → GoesOn M at t found
+pub begins : (M : List (List ℕ)) (at : ℕ) (t : Table) (none found : List Commit) (c : Commit) → HasTableAt M at t → none ≡ [] → c ≡ report_of at t → found ≡ none ++ c ∷ [] → GoesOn M at t found
 begins M at t none found c has empty is_c is = λ rest chain.
-    let first : found ≡ told_of at t ∷ [] = is ∙ ap (λ (cs : List Commit). cs ++ c ∷ []) empty ∙ ap (λ (d : Commit). d ∷ []) is_c in
+    let first : found ≡ report_of at t ∷ [] = is ∙ ap (λ (cs : List Commit). cs ++ c ∷ []) empty ∙ ap (λ (d : Commit). d ∷ []) is_c in
     (t, has, rest, ap (λ (cs : List Commit). cs ++ rest) first, chain)
 
 pub goes_on : (M : List (List ℕ)) (at number : ℕ) (t u : Table) (found more : List Commit) (c : Commit) → GoesOn M at t found → t.previous ≡ Some number → HasTableAt M (number + 257) u
-    → u.commits + 1 ≡ t.commits → c ≡ told_of (number + 257) u → more ≡ found ++ c ∷ [] → GoesOn M at u more
+    → u.commits + 1 ≡ t.commits → c ≡ report_of (number + 257) u → more ≡ found ++ c ∷ [] → GoesOn M at u more
 goes_on M at number t u found more c before link has fewer is_c is = λ rest chain.
     let same : more ++ rest ≡ found ++ c ∷ rest = ap (λ (cs : List Commit). cs ++ rest) is ∙ append_assoc found (c ∷ []) rest in
     subst (IsHistory M at) (sym same) (before (c ∷ rest) (number, link, u, has, fewer, is_c, chain))
@@ -30,13 +30,13 @@ ends M at t found before none first =
 abbrev pub AreWithin : ℕ → List Commit → Type 0
 AreWithin next found = All (λ (c : Commit). (257 ≤ c.vat_icb_address) × (c.vat_icb_address < next)) found
 
-pub first_within : (next at : ℕ) (t : Table) (none found : List Commit) (c : Commit) → 257 ≤ at → at < next → none ≡ [] → c ≡ told_of at t → found ≡ none ++ c ∷ [] → AreWithin next found
+pub first_within : (next at : ℕ) (t : Table) (none found : List Commit) (c : Commit) → 257 ≤ at → at < next → none ≡ [] → c ≡ report_of at t → found ≡ none ++ c ∷ [] → AreWithin next found
 first_within next at t none found c low high empty is_c is =
     let P = λ (d : Commit). (257 ≤ d.vat_icb_address) × (d.vat_icb_address < next) in
-    let first : found ≡ told_of at t ∷ [] = is ∙ ap (λ (cs : List Commit). cs ++ c ∷ []) empty ∙ ap (λ (d : Commit). d ∷ []) is_c in
-    subst (AreWithin next) (sym first) (All-cons P (told_of at t) [] (low, high) (All-nil P))
+    let first : found ≡ report_of at t ∷ [] = is ∙ ap (λ (cs : List Commit). cs ++ c ∷ []) empty ∙ ap (λ (d : Commit). d ∷ []) is_c in
+    subst (AreWithin next) (sym first) (All-cons P (report_of at t) [] (low, high) (All-nil P))
 
-pub more_within : (next at : ℕ) (t : Table) (found more : List Commit) (c : Commit) → AreWithin next found → 257 ≤ at → at < next → c ≡ told_of at t → more ≡ found ++ c ∷ [] → AreWithin next more
+pub more_within : (next at : ℕ) (t : Table) (found more : List Commit) (c : Commit) → AreWithin next found → 257 ≤ at → at < next → c ≡ report_of at t → more ≡ found ++ c ∷ [] → AreWithin next more
 more_within next at t found more c before low high is_c is =
     let P = λ (d : Commit). (257 ≤ d.vat_icb_address) × (d.vat_icb_address < next) in
     let one : P c = subst P (sym is_c) (low, high) in

@@ -18,7 +18,7 @@ use Rattle.durability.specs.Formats.NodePlace.{Extent}
 use Rattle.durability.specs.Plan.{Writing, Written, WritesNodes, IsPlaced, IsPlanned}
 use Rattle.durability.proofs.OnJournals.{length-held}
 use Rattle.udf.specs.Said.{model_table}
-use Rattle.udf.specs.Udf.{udf, spelled}
+use Rattle.udf.specs.Udf.{udf, spelled_length}
 use Rattle.udf.proofs.Formats.{bounded}
 use Rattle.request.specs.Numbers.{code_number}
 use Rattle.request.specs.declared.message.Request as asking
@@ -119,7 +119,7 @@ module _ (capacity volume : ℕ) (J : List Event) (S : State) (store : Store) (k
         (subst (λ (n : ℕ). AreTaken change.made written change.removed (committed knows.stands.at r.client r.number n (view store.vat))) (sym does.code_is) there)
 
     -- what is computed is what the request may need
-    pub need_is : change_need change (begun store.vat_icb_address r.client r.number (code_number change.code) change.made (view store.vat)) ≡ need spelled S request
+    pub need_is : change_need change (begun store.vat_icb_address r.client r.number (code_number change.code) change.made (view store.vat)) ≡ need spelled_length S request
     need_is =
         change_reckoned change (begun store.vat_icb_address r.client r.number (code_number change.code) change.made (view store.vat))
         ∙ (λ i. reckoned (bytes_of change.file) (all_names change.directories.items) (begun (knows.at i) r.client r.number (does.code_is i) change.made (view store.vat)))
@@ -154,7 +154,7 @@ module _ (capacity volume : ℕ) (J : List Event) (S : State) (store : Store) (k
           let entry_there = subst (λ (m : ℕ). udf.IsEntry (record { kind = TableEntry; moment = m; links = 0; identity = 0; size = length plan.table.bytes.items; place = Extent plan.table.first }) plan.table.entry (plan.table.at - 257)) makes.moment is.table.mark in
           record {
             placed = subst (λ (n : ℕ). IsPlaced udf plan.table.bytes.items (n - 257 + length (node_list plan)) plan.table.first (table_data plan.table)) size_is is.table.placed;
-            spelled = subst (λ (n : ℕ). IsTableAt n (next_table knows.stands.at r.client r.number (code_of (model_operation r.op) S.tree) change.made (plan_written plan) change.removed (view store.vat)) plan.table.bytes.items) number spelled_there;
+            spelled_length = subst (λ (n : ℕ). IsTableAt n (next_table knows.stands.at r.client r.number (code_of (model_operation r.op) S.tree) change.made (plan_written plan) change.removed (view store.vat)) plan.table.bytes.items) number spelled_there;
             entry = subst (λ (n : ℕ). udf.IsEntry (record { kind = TableEntry; moment = r.moment; links = 0; identity = 0; size = length plan.table.bytes.items; place = Extent plan.table.first }) plan.table.entry n) number entry_there;
           }
 

@@ -4,7 +4,7 @@ use Rattle.std.specs.Prelude.{IfOk, IfErr, Option, Some, None, Result, Ok, Err}
 use Rattle.model.specs.Tree.{Content, Node, Path, Tree}
 use Rattle.model.specs.Tree.Content.{File, Directory}
 use Rattle.model.specs.Session.{State}
-use Rattle.durability.specs.Runs.{Answer, got, listed, shown, told}
+use Rattle.durability.specs.Runs.{Answer, got, listed, answer_to_stat, told}
 use Rattle.durability.specs.Runs as runs
 use Rattle.durability.specs.Runs.Query.{Get, List_, Stat}
 use Rattle.recover.specs.declared.fault.StoreFault.{StoreFault}
@@ -32,12 +32,12 @@ listed_elsewhere tree path (Some node) e = go node.content e
     go (File bytes) h = cc
     go (Directory names) h = cc
 
-shown_elsewhere : (o : Option Node) → (shown o ≡ runs.Answer.IsDirectory) ⊎ (shown o ≡ runs.Answer.NotDirectory) → ⊥
+shown_elsewhere : (o : Option Node) → (answer_to_stat o ≡ runs.Answer.IsDirectory) ⊎ (answer_to_stat o ≡ runs.Answer.NotDirectory) → ⊥
 shown_elsewhere None (inl e) = cc
 shown_elsewhere None (inr e) = cc
 shown_elsewhere (Some node) e = go node.content e
   where
-    go : (c : Content) → (shown (Some (record { identity = node.identity; moment = node.moment; content = c })) ≡ runs.Answer.IsDirectory) ⊎ (shown (Some (record { identity = node.identity; moment = node.moment; content = c })) ≡ runs.Answer.NotDirectory) → ⊥
+    go : (c : Content) → (answer_to_stat (Some (record { identity = node.identity; moment = node.moment; content = c })) ≡ runs.Answer.IsDirectory) ⊎ (answer_to_stat (Some (record { identity = node.identity; moment = node.moment; content = c })) ≡ runs.Answer.NotDirectory) → ⊥
     go (File bytes) (inl h) = cc
     go (File bytes) (inr h) = cc
     go (Directory names) (inl h) = cc

@@ -10,13 +10,13 @@ use Rattle.vat.specs.Table.{Table}
 use Rattle.recover.specs.declared.fault.StoreFault.{StoreFault}
 use Rattle.recover.specs.declared.fault.StoreFault.TheVariants.{Device, Memory, Damaged}
 use Rattle.recover.specs.declared.state.State.{State}
-use Rattle.recover.specs.State.{IsShown, IsUntold}
+use Rattle.recover.specs.State.{IsShown, DescribesNoState}
 use Rattle.recover.specs.Tables.{HasTableAt, IsAtRefused, IsLinkRefused}
 use Rattle.recover.proofs.Told.{is_read, one_read}
 use Rattle.store.specs.declared.history.Commit.{Commit}
 use Rattle.store.specs.declared.store.Store.{Store}
 use Rattle.store.specs.Calls.{IsOpenOn}
-use Rattle.store.specs.History.{AreShown, HasUntold, IsChain, IsHistory, IsHistoryRefused, told_of}
+use Rattle.store.specs.History.{AreShown, HasUntold, IsChain, IsHistory, IsHistoryRefused, report_of}
 use Rattle.store.specs.Past.{AllRecovered}
 use Rattle.store.proofs.Chains.{EndsAt, goes_back, shown_stood, step_back, step_on, stood_told}
 use Rattle.store.proofs.Chains as chains
@@ -98,31 +98,31 @@ module _ (M : Medium) where
     stood_in at all low (t, has, earlier, is, chain) shown i less =
         go i (subst (λ (cs : List Commit). AreShown capacity M cs) is shown) (subst (λ (cs : List Commit). i < length cs) is less)
       where
-        go : (j : ℕ) → AreShown capacity M (told_of at t ∷ earlier) → j < length (told_of at t ∷ earlier) → (S : model.State) × chains.StoodAt capacity volume M at j S
-        go zero s l = let here = s 0 (told_of at t) (omega arith) in (here.1.said, shown_stood capacity volume M at here.0 low here.1 (sized at here.0 low here.1))
+        go : (j : ℕ) → AreShown capacity M (report_of at t ∷ earlier) → j < length (report_of at t ∷ earlier) → (S : model.State) × chains.StoodAt capacity volume M at j S
+        go zero s l = let here = s 0 (report_of at t) (omega arith) in (here.1.said, shown_stood capacity volume M at here.0 low here.1 (sized at here.0 low here.1))
         go (suc j) s l = stood_in_chain at t earlier has chain (λ k d lt. s (suc k) d (omega (arith, lt))) j (omega (arith, l))
 
   module _ (capacity volume : ℕ) where
     -- ---- none was recovered where none is described
 
     not_in_chain : (at : ℕ) (t : Table) (earlier : List Commit) → HasTableAt M at t → IsChain M t.previous t.commits earlier → (i : ℕ) → i < length earlier → (S : model.State) (N : Medium) → EndsAt M at N
-        → RecoveredBefore udf (suc i) capacity volume N S → ((d : Commit) → IsUntold capacity M (slice_index_or earlier i d).vat_icb_address) → ⊥
+        → RecoveredBefore udf (suc i) capacity volume N S → ((d : Commit) → DescribesNoState capacity M (slice_index_or earlier i d).vat_icb_address) → ⊥
     not_in_chain at t [] has chain i less S N ends stood untold = absurd (omega (arith, less))
     not_in_chain at t (c ∷ earlier) has (n, is, v, there, fewer, says, chain) zero less S N ends stood untold =
         let on = step_on capacity volume M at (n + 257) 0 S N ends (one_before M at n t v has is there fewer) stood in
         let told = stood_told capacity volume M (n + 257) v S on.0 there on.1 on.2 in
-        subst (λ (d : Commit). IsUntold capacity M d.vat_icb_address) says (untold c) volume on.2.block S told.0 told.1
+        subst (λ (d : Commit). DescribesNoState capacity M d.vat_icb_address) says (untold c) volume on.2.block S told.0 told.1
     not_in_chain at t (c ∷ earlier) has (n, is, v, there, fewer, says, chain) (suc i) less S N ends stood untold =
         let on = step_on capacity volume M at (n + 257) (suc i) S N ends (one_before M at n t v has is there fewer) stood in
         not_in_chain (n + 257) v earlier there chain i (omega (arith, less)) S on.0 on.1 on.2 untold
 
     pub not_in : (at : ℕ) (all : List Commit) → IsHistory M at all → (i : ℕ) → i < length all → (S : model.State) (N : Medium) → EndsAt M at N → RecoveredBefore udf i capacity volume N S
-        → ((d : Commit) → IsUntold capacity M (slice_index_or all i d).vat_icb_address) → ⊥
+        → ((d : Commit) → DescribesNoState capacity M (slice_index_or all i d).vat_icb_address) → ⊥
     not_in at all (t, has, earlier, is, chain) i less S N ends stood untold =
-        go i (subst (λ (cs : List Commit). i < length cs) is less) stood (subst (λ (cs : List Commit). (d : Commit) → IsUntold capacity M (slice_index_or cs i d).vat_icb_address) is untold)
+        go i (subst (λ (cs : List Commit). i < length cs) is less) stood (subst (λ (cs : List Commit). (d : Commit) → DescribesNoState capacity M (slice_index_or cs i d).vat_icb_address) is untold)
       where
-        go : (j : ℕ) → j < length (told_of at t ∷ earlier) → RecoveredBefore udf j capacity volume N S → ((d : Commit) → IsUntold capacity M (slice_index_or (told_of at t ∷ earlier) j d).vat_icb_address) → ⊥
-        go zero l s u = let told = stood_told capacity volume M at t S N has ends s in u (told_of at t) volume s.block S told.0 told.1
+        go : (j : ℕ) → j < length (report_of at t ∷ earlier) → RecoveredBefore udf j capacity volume N S → ((d : Commit) → DescribesNoState capacity M (slice_index_or (report_of at t ∷ earlier) j d).vat_icb_address) → ⊥
+        go zero l s u = let told = stood_told capacity volume M at t S N has ends s in u (report_of at t) volume s.block S told.0 told.1
         go (suc j) l s u = not_in_chain at t earlier has chain j (omega (arith, l)) S N ends s u
 
     -- ---- where the first state was recovered there is a history
@@ -141,7 +141,7 @@ module _ (M : Medium) where
         let less : u.commits + 1 ≡ t.commits = fewer ∙ ap (λ (x : Table_). x.commits) same in
         let link : t.previous ≡ Some n = sym (ap (λ (x : Table_). x.previous) same) ∙ is in
         let rest = chain_of steps on.0 u S on.2 before (omega (arith, less, count)) on.3 on.4 in
-        (told_of (n + 257) u ∷ rest.0, (n, link, u, there, less, refl, rest.1))
+        (report_of (n + 257) u ∷ rest.0, (n, link, u, there, less, refl, rest.1))
 
 module _ (capacity volume : ℕ) (J : List Event) (T : model.State) (store : Store) (knows : IsOpenOn capacity volume J T store) where
   pub history_known : (all : List Commit) → IsHistory (held J) store.vat_icb_address all → length all ≡ T.commits + 1
@@ -171,4 +171,4 @@ module _ (capacity volume : ℕ) (J : List Event) (T : model.State) (store : Sto
       let past = stood 0 (omega arith) in
       let count : here.0.commits ≡ past.1.1 = omega (arith, commits_here capacity volume J T store knows, steps_past capacity volume J T store knows 0 past.0 past.1) in
       let rest = chain_of (held J) capacity volume past.1.1 store.vat_icb_address here.0 past.0 (held J) here.1 count (ends_here capacity volume J T store knows) past.1.3 in
-      (told_of store.vat_icb_address here.0 ∷ rest.0, (here.0, here.1, rest.0, refl, rest.1))
+      (report_of store.vat_icb_address here.0 ∷ rest.0, (here.0, here.1, rest.0, refl, rest.1))

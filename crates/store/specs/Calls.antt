@@ -16,7 +16,7 @@ use Rattle.durability.specs.Journal.{Advances}
 use Rattle.durability.specs.Runs.{Answer, told as shows}
 use Rattle.durability.specs.Runs.Answer.{NotFound, IsDirectory, NotDirectory, Data, Names, NodeIs}
 use Rattle.durability.specs.Runs.Query.{Get, List_, Stat}
-use Rattle.udf.specs.Udf.{udf, spelled}
+use Rattle.udf.specs.Udf.{udf, spelled_length}
 use Rattle.udf.specs.Said.{model_table}
 use Rattle.vat.specs.Table.{view}
 use Rattle.store.specs.declared.store.Store.{Store}
@@ -52,8 +52,8 @@ pub record IsCommitDone (capacity volume : ℕ) (before : List Event) (S : State
   pub reply_is : reply_said reply ≡ reply_to S request
   pub advances : Advances udf capacity volume before S afterwards (after_one S request)
   pub some : length before < length afterwards
-  pub few : length afterwards ≤ length before + need spelled S request
-  pub room : length before + need spelled S request ≤ volume
+  pub few : length afterwards ≤ length before + need spelled_length S request
+  pub room : length before + need spelled_length S request ≤ volume
   pub knows : IsStillOpenOn capacity volume afterwards (after_one S request) store
 
 -- The drive failed: a prefix of its blocks may be written, and the request committed where all are.
@@ -61,8 +61,8 @@ pub record IsFailed (capacity volume : ℕ) (before : List Event) (S : State) (r
   pub done : List Request
   pub whether : (done ≡ []) ⊎ ((done ≡ request ∷ []) × (length before < length afterwards))
   pub advances : Advances udf capacity volume before S afterwards (after S done)
-  pub few : length afterwards ≤ length before + need spelled S request
-  pub room : length before < length afterwards → length before + need spelled S request ≤ volume
+  pub few : length afterwards ≤ length before + need spelled_length S request
+  pub room : length before < length afterwards → length before + need spelled_length S request ≤ volume
   pub knows : IsStillOpenOn capacity volume afterwards (after S done) store
 
 -- Nothing was written.
@@ -74,7 +74,7 @@ abbrev pub RefusesRequest : (capacity volume : ℕ) → List Event → State →
 RefusesRequest capacity volume before S request refusal afterwards store =
     ((refusal ≡ fault.Device) × IsFailed capacity volume before S request afterwards store)
     ⊎ (((refusal ≡ fault.Memory) × IsLeftUnwritten capacity volume before S afterwards store)
-    ⊎ ((refusal ≡ fault.Full) × IsLeftUnwritten capacity volume before S afterwards store × (volume < length before + need spelled S request)))
+    ⊎ ((refusal ≡ fault.Full) × IsLeftUnwritten capacity volume before S afterwards store × (volume < length before + need spelled_length S request)))
 
 -- what became of a new request at the recovered state
 abbrev pub Applies : (capacity volume : ℕ) → List Event → State → Request → Result told.Reply StoreFault → List Event → Store → Type 0

@@ -5,25 +5,25 @@ use Rattle.vat.specs.Table.{Table, view}
 use Rattle.vat.specs.declared.table.Vat.{Vat}
 use Rattle.recover.specs.declared.fault.StoreFault.{StoreFault}
 use Rattle.recover.specs.declared.fault.StoreFault.TheVariants.{Device, Memory, Damaged}
-use Rattle.recover.specs.State.{IsShown, IsUntold}
+use Rattle.recover.specs.State.{IsShown, DescribesNoState}
 use Rattle.recover.specs.declared.state.State.{State}
 use Rattle.recover.specs.Tables.{HasTableAt, IsBefore}
 use Rattle.store.specs.declared.history.Commit.{Commit}
 
 -- what is reported of the commit whose VAT ICB is at an address
-abbrev pub told_of : ℕ → Table → Commit
-told_of at table = record { commit = table.commits; vat_icb_address = at; files = table.files; directories = table.directories }
+abbrev pub report_of : ℕ → Table → Commit
+report_of at table = record { commit = table.commits; vat_icb_address = at; files = table.files; directories = table.directories }
 
 -- the commits below a table with this link and so many commits, the newest first, down to the format
 abbrev pub IsChain : List (List ℕ) → Option ℕ → ℕ → List Commit → Type 0
 IsChain medium link commits [] = (link ≡ None) × (commits ≡ 0)
 IsChain medium link commits (c ∷ earlier) =
     (number : ℕ) × (link ≡ Some number) × (table : Table) × HasTableAt medium (number + PARTITION_START) table × (table.commits + 1 ≡ commits)
-    × (c ≡ told_of (number + PARTITION_START) table) × IsChain medium table.previous table.commits earlier
+    × (c ≡ report_of (number + PARTITION_START) table) × IsChain medium table.previous table.commits earlier
 
 -- all commits from the one whose VAT ICB is at an address down to the format
 abbrev pub IsHistory : List (List ℕ) → ℕ → List Commit → Type 0
-IsHistory medium at commits = (table : Table) × HasTableAt medium at table × (earlier : List Commit) × (commits ≡ told_of at table ∷ earlier)
+IsHistory medium at commits = (table : Table) × HasTableAt medium at table × (earlier : List Commit) × (commits ≡ report_of at table ∷ earlier)
     × IsChain medium table.previous table.commits earlier
 
 -- so many steps of the chain lead from one address to another
@@ -74,7 +74,7 @@ IsWayRefused medium from commits _ = ⊥
 
 -- at the address of one of the commits no state is described
 abbrev pub HasUntold : ℕ → List (List ℕ) → List Commit → Type 0
-HasUntold capacity medium commits = (i : ℕ) × (i < length commits) × ((c : Commit) → IsUntold capacity medium (slice_index_or commits i c).vat_icb_address)
+HasUntold capacity medium commits = (i : ℕ) × (i < length commits) × ((c : Commit) → DescribesNoState capacity medium (slice_index_or commits i c).vat_icb_address)
 
 -- why not each state was shown: the drive failed, memory was short, or in no list that is all commits is each of them described
 abbrev pub IsUnchecked : ℕ → List (List ℕ) → ℕ → StoreFault → Type 0

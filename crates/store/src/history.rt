@@ -14,7 +14,7 @@ ghost use Rattle.std.proofs.Props.{props};
 ghost use Rattle.store.specs.Agrees.{IsStoreOn};
 ghost use Rattle.recover.specs.Below.{AreBelow};
 ghost use Rattle.store.specs.Calls.{IsOpenOn};
-ghost use Rattle.store.specs.History.{IsChecked, IsHistory, IsHistoryRefused, IsTableOf, IsUnchecked, IsWayRefused, told_of};
+ghost use Rattle.store.specs.History.{IsChecked, IsHistory, IsHistoryRefused, IsTableOf, IsUnchecked, IsWayRefused, report_of};
 ghost use Rattle.store.specs.Past.{AllRecovered, IsCheckRefused, IsPast, IsPastRefused};
 
 use crate::queries::nodes_of;
@@ -45,10 +45,10 @@ pub struct Commit {
 impl Commit {
     ghost use Rattle.std.specs.Prelude.{◌≡◌};
     ghost use Rattle.vat.specs.Table.{view};
-    ghost use Rattle.store.specs.History.{told_of};
+    ghost use Rattle.store.specs.History.{report_of};
 
     fn of(at: u32, vat: &Vat) -> Commit
-        ensures { result ≡ told_of at (view vat.now) }
+        ensures { result ≡ report_of at (view vat.now) }
     {
         Commit {
             commit: vat.sessions.commits,
@@ -80,7 +80,7 @@ impl Snapshot {
     ghost use Rattle.recover.specs.declared.fault.StoreFault.TheVariants.{Stopped};
     ghost use Rattle.store.specs.Agrees.{IsStoreOn};
     ghost use Rattle.lookup.specs.Cache.{AreKept};
-    ghost use Rattle.store.specs.History.{told_of};
+    ghost use Rattle.store.specs.History.{report_of};
     ghost use Rattle.lookup.specs.Asked.{said_names};
     ghost use Rattle.lookup.specs.Asked as asked;
     ghost use Rattle.lookup.specs.Queries.{IsQueryRefused};
@@ -96,7 +96,7 @@ impl Snapshot {
 
     /// The commit after which the state was this one.
     pub fn commit(&self) -> Commit
-        ensures { result ≡ told_of self.now.vat_icb_address (view self.now.vat) }
+        ensures { result ≡ report_of self.now.vat_icb_address (view self.now.vat) }
     {
         Commit::of(self.vat_icb_address, &self.vat)
     }

@@ -30,7 +30,7 @@ use Rattle.vat.specs.Table.{Table}
 use Rattle.table_update.specs.declared.node.NewNode.{NewNode}
 use Rattle.recover.specs.declared.node.Node.{Node}
 use Rattle.recover.specs.Below.{IsUsed}
-use Rattle.table_update.specs.TableChange.{with_node, with_number, with_nodes, committed, HasNode, IsFree, IsRemovable}
+use Rattle.table_update.specs.TableChange.{with_node, with_number, with_nodes, committed, CountsNode, IsFree, IsRemovable}
 use Rattle.table_update.specs.NextTable.{made_by, RemovesNode, ChangesVolume, AreUsed, AreTaken, ChangesAreTaken}
 use Rattle.table_update.proofs.EntryChanges.{entry_there}
 use Rattle.table_update.proofs.NodeChanges.{still_used}
@@ -155,9 +155,9 @@ module _ (capacity volume : ℕ) (medium : Medium) (S : State) (stands : Recover
       go (suc (suc a)) reach some = omega arith
 
   -- and is counted
-  kind_counted : (path : Path) → code_of (Remove path) S.tree ≡ 0 → (kind : Kind) → kind ≡ name_kind (is_directory_at S.tree path) → (entries : List (Option ℕ)) → HasNode kind (with_nodes t.files t.directories t.next_unique entries base)
+  kind_counted : (path : Path) → code_of (Remove path) S.tree ≡ 0 → (kind : Kind) → kind ≡ name_kind (is_directory_at S.tree path) → (entries : List (Option ℕ)) → CountsNode kind (with_nodes t.files t.directories t.next_unique entries base)
   kind_counted path e kind k entries =
-      subst (λ (x : Kind). HasNode x (with_nodes t.files t.directories t.next_unique entries base)) (sym k) (go (is_directory_at S.tree path) c.files c.directories)
+      subst (λ (x : Kind). CountsNode x (with_nodes t.files t.directories t.next_unique entries base)) (sym k) (go (is_directory_at S.tree path) c.files c.directories)
     where
       c : Counted (Remove path) r.moment S.next_identity S.tree
       c = counted (Remove path) r.moment S.next_identity S.tree stands.tells.tree e
@@ -166,7 +166,7 @@ module _ (capacity volume : ℕ) (medium : Medium) (S : State) (stands : Recover
       root = some_directory (done (Remove path) r.moment S.next_identity S.tree) (kept (Remove path) r.moment S.next_identity S.tree stands.tells.tree e).tree_after.root
 
       go : (b : Bool) → files_of (done (Remove path) r.moment S.next_identity S.tree) + cond b 0 1 ≡ files_of S.tree + 0 → directories_of (done (Remove path) r.moment S.next_identity S.tree) + cond b 1 0 ≡ directories_of S.tree + 0
-          → HasNode (name_kind b) (with_nodes t.files t.directories t.next_unique entries base)
+          → CountsNode (name_kind b) (with_nodes t.files t.directories t.next_unique entries base)
       go true f d = omega (arith, d, root, directories capacity volume medium S stands r t is)
       go false f d = omega (arith, f, files capacity volume medium S stands r t is)
 

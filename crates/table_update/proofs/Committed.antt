@@ -20,7 +20,7 @@ use Rattle.durability.proofs.Needs.{planned_short}
 use Rattle.durability.proofs.One.{last_one}
 use Rattle.durability.proofs.OnJournals.{commit_advances}
 use Rattle.durability.proofs.Planned.{has_table, planned_carries}
-use Rattle.udf.specs.Udf.{udf, spelled}
+use Rattle.udf.specs.Udf.{udf, spelled_length}
 use Rattle.udf.proofs.Formats.{exact, bounded, distinct, short}
 use Rattle.table_update.specs.Commits.{IsPart, CommitsArePart, CommitsAreWhole, TablesRecover}
 
@@ -31,10 +31,10 @@ module _ (capacity volume : ℕ) (J K : List Event) (S : State) (r : Request) (b
   some_all : 1 ≤ length all
   some_all = omega (arith, length-append blocks (mark ∷ []))
 
-  few_all : length all ≤ need spelled S r
-  few_all = planned_short udf spelled short capacity volume exact bounded distinct (held J) S stands r blocks mark plan
+  few_all : length all ≤ need spelled_length S r
+  few_all = planned_short udf spelled_length short capacity volume exact bounded distinct (held J) S stands r blocks mark plan
 
-  pub whole : K ≡ J ++ written (length J) all → Advances udf capacity volume J S K (after_one S r) × (length J < length K) × (length K ≤ length J + need spelled S r)
+  pub whole : K ≡ J ++ written (length J) all → Advances udf capacity volume J S K (after_one S r) × (length J < length K) × (length K ≤ length J + need spelled_length S r)
   whole is =
       let front : AddsPrefix J (length J) all K = subst (λ (L : List Event). AddsPrefix J (length J) all L) (sym is) (front_whole J (length J) all) in
       let now : held K ≡ (held J ++ blocks) ++ mark ∷ [] = held_write J K (length J) all once refl is ∙ sym (append_assoc (held J) blocks (mark ∷ [])) in
@@ -59,7 +59,7 @@ module _ (capacity volume : ℕ) (J K : List Event) (S : State) (r : Request) (b
   pub part : AddsPrefix J (length J) all K → IsPart capacity volume J S r K
   part front = go (commit_advances udf capacity volume exact bounded distinct J K S r blocks mark once stands plan front)
     where
-      few : length K ≤ length J + need spelled S r
+      few : length K ≤ length J + need spelled_length S r
       few = omega (arith, (front_grows J K (length J) all front).1, few_all)
 
       go : Advances udf capacity volume J S K S ⊎ ((length K ≡ length J + length all) × Advances udf capacity volume J S K (after_one S r)) → IsPart capacity volume J S r K

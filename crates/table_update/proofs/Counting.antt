@@ -9,11 +9,11 @@ use Rattle.limits.specs.declared.TheConstants.{BLOCK_BYTES}
 use Rattle.model.specs.Tree.{Name}
 use Rattle.durability.specs.Formats.{identifier_size, identifiers_size}
 use Rattle.durability.specs.Volume.{blocks_for}
-use Rattle.udf.specs.Udf.{spelled}
+use Rattle.udf.specs.Udf.{spelled_length}
 use Rattle.table_update.specs.Need.{NamesAreCounted, NamesAreShort, FilesAreCounted}
 
 abbrev size_of : Name → ℕ
-size_of name = identifier_size (spelled name)
+size_of name = identifier_size (spelled_length name)
 
 sizes_pushed : (names : List Name) (name : Name) → sum (map size_of (names ++ name ∷ [])) ≡ sum (map size_of names) + size_of name
 sizes_pushed [] name = sum_by-cons (λ (n : ℕ). n) (size_of name) [] ∙ (let none : size_of name + 0 ≡ 0 + size_of name = omega arith in none)
@@ -29,7 +29,7 @@ pub names_are_counted : NamesAreCounted
 names_are_counted names i name lt is =
     let one : take (i + 1) names ≡ take i names ++ name ∷ [] = take_more names i name lt ∙ ap (λ (x : Name). take i names ++ x ∷ []) (sym is) in
     let all : sum (map size_of (take (i + 1) names)) ≡ sum (map size_of (take i names)) + size_of name = ap (λ (ns : List Name). sum (map size_of ns)) one ∙ sizes_pushed (take i names) name in
-    omega (arith, all, padded (spelled name))
+    omega (arith, all, padded (spelled_length name))
 
 few : (n : ℕ) → n ≤ 255 → identifier_size n ≤ 296
 few n le = omega arith
@@ -37,8 +37,8 @@ few n le = omega arith
 pub names_are_short : NamesAreShort
 names_are_short [] all = omega arith
 names_are_short (name ∷ names) all =
-    let rest : identifiers_size spelled names ≤ 40 + 296 * length names = names_are_short names (All-tail (λ n. spelled n ≤ 255) name names all) in
-    let head : size_of name ≤ 296 = few (spelled name) (All-head (λ n. spelled n ≤ 255) name names all) in
+    let rest : identifiers_size spelled_length names ≤ 40 + 296 * length names = names_are_short names (All-tail (λ n. spelled_length n ≤ 255) name names all) in
+    let head : size_of name ≤ 296 = few (spelled_length name) (All-head (λ n. spelled_length n ≤ 255) name names all) in
     omega (arith, rest, head, sum_by-cons (λ (n : ℕ). n) (size_of name) (map size_of names))
 
 pub files_are_counted : FilesAreCounted

@@ -27,7 +27,7 @@ use Rattle.vat.proofs.TableReads.{takes_so_many}
 use Rattle.table_update.specs.declared.node.NewNode.{NewNode}
 use Rattle.recover.specs.declared.node.Node.{Node}
 use Rattle.table_update.specs.TableChange.{with_number, committed, with_node, removed}
-use Rattle.table_update.specs.NextTable.{with_made, all_placed, without_gone, begun, next_table, made_by, ChangesVolume, IsLong, NextTablesAreLong, NextTablesAreSized}
+use Rattle.table_update.specs.NextTable.{with_new_node, all_placed, without_gone, begun, next_table, made_by, ChangesVolume, IsLong, NextTablesAreLong, NextTablesAreSized}
 use Rattle.table_update.proofs.EntryChanges.{length-with_entry}
 use Rattle.table_update.proofs.TableEntries.{below_or_at}
 use Rattle.table_update.proofs.NextTables.{records_are, records, commits, long, free, free_within}
@@ -50,7 +50,7 @@ added_version : (kind : Kind) (address : ℕ) (t : Table) → (with_node kind ad
 added_version File address t = refl
 added_version Directory address t = refl
 
-made_version : (made : Option NewNode) (t : Table) → (with_made made t).version ≡ t.version
+made_version : (made : Option NewNode) (t : Table) → (with_new_node made t).version ≡ t.version
 made_version None t = refl
 made_version (Some node) t = added_version node.kind node.address t
 
@@ -135,7 +135,7 @@ module _ (capacity volume : ℕ) (medium : Medium) (S : State) (stands : Recover
       let c = counted (Remove path) r.moment S.next_identity S.tree stands.tells.tree e in
       ap (λ (x : Option NewNode). length (start x).entries) m ∙ as_long (afterwards (Remove path)) (omega (arith, c.files, c.directories, len_both S.tree, len_both (afterwards (Remove path))))
 
-  made_records : (made : Option NewNode) (u : Table) → (with_made made u).records ≡ u.records
+  made_records : (made : Option NewNode) (u : Table) → (with_new_node made u).records ≡ u.records
   made_records None u = refl
   made_records (Some node) u = go node.kind
     where

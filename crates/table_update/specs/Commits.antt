@@ -7,13 +7,13 @@ use Rattle.durability.specs.Volume.{Medium, RecoversTo}
 use Rattle.durability.specs.Plan.{IsPlanned}
 use Rattle.durability.specs.Commit.{need}
 use Rattle.durability.specs.Journal.{Advances}
-use Rattle.udf.specs.Udf.{udf, spelled}
+use Rattle.udf.specs.Udf.{udf, spelled_length}
 
 -- The request is committed, in no more blocks than it may need.
 pub record IsWholeCommit (capacity volume : ℕ) (before : List Event) (S : State) (request : Request) (afterwards : List Event) : Type 0 where
   pub advances : Advances udf capacity volume before S afterwards (after_one S request)
   pub some : length before < length afterwards
-  pub few : length afterwards ≤ length before + need spelled S request
+  pub few : length afterwards ≤ length before + need spelled_length S request
 
 abbrev pub CommitsAreWhole : Type 0
 CommitsAreWhole =
@@ -25,7 +25,7 @@ pub record IsPart (capacity volume : ℕ) (before : List Event) (S : State) (req
   pub done : List Request
   pub whether : (done ≡ []) ⊎ ((done ≡ request ∷ []) × (length before < length afterwards))
   pub advances : Advances udf capacity volume before S afterwards (after S done)
-  pub few : length afterwards ≤ length before + need spelled S request
+  pub few : length afterwards ≤ length before + need spelled_length S request
 
 abbrev pub CommitsArePart : Type 0
 CommitsArePart =

@@ -11,7 +11,7 @@ use Rattle.durability.specs.Formats.{identifiers_size}
 use Rattle.durability.specs.Volume.{Medium, blocks_for, RecoversTo}
 use Rattle.durability.specs.Plan.{Writing, Written}
 use Rattle.durability.specs.Commit.{most_for_file, most_for_directory, table_size, need}
-use Rattle.udf.specs.Udf.{udf, spelled}
+use Rattle.udf.specs.Udf.{udf, spelled_length}
 use Rattle.udf.specs.Said.{model_table}
 use Rattle.vat.specs.Table.{Table}
 use Rattle.table_update.specs.declared.node.NewNode.{NewNode}
@@ -25,7 +25,7 @@ most_for_bytes (Some bytes) = most_for_file bytes
 
 abbrev pub most_for_directories : List (List Name) → ℕ
 most_for_directories [] = 0
-most_for_directories (names ∷ directories) = most_for_directory spelled names + most_for_directories directories
+most_for_directories (names ∷ directories) = most_for_directory spelled_length names + most_for_directories directories
 
 -- by a file that is written, if one is, the names of each directory that is, and the table with the node that is made
 abbrev pub reckoned : Option (List ℕ) → List (List Name) → Table → ℕ
@@ -54,7 +54,7 @@ NeedIsComputed =
     (capacity volume : ℕ) (medium : Medium) (S : State) (stands : RecoversTo udf capacity volume medium S) (request : Request) (nodes : List Writing) (unused : List ℕ) (written : List Written)
     (made : Option NewNode) (taken : Option Node) (t : Table) (file : Option (List ℕ)) (directories : List (List Name))
     → model_table t ≡ stands.tells.table → ChangesVolume capacity volume medium S stands request nodes unused written made taken → AreOf file directories nodes
-    → reckoned file directories (begun stands.at request.client request.number (code_of request.operation S.tree) made t) ≡ need spelled S request
+    → reckoned file directories (begun stands.at request.client request.number (code_of request.operation S.tree) made t) ≡ need spelled_length S request
 
 -- ---- as they are counted in turn
 
@@ -62,11 +62,11 @@ NeedIsComputed =
 abbrev pub NamesAreCounted : Type 0
 NamesAreCounted =
     (names : List Name) (i : ℕ) (name : Name) → i < length names → name ≡ slice_index_or names i name
-    → identifiers_size spelled (take (i + 1) names) ≡ identifiers_size spelled (take i names) + div_ceil (38 + spelled name) 4 * 4
+    → identifiers_size spelled_length (take (i + 1) names) ≡ identifiers_size spelled_length (take i names) + div_ceil (38 + spelled_length name) 4 * 4
 
 -- so many names take no more
 abbrev pub NamesAreShort : Type 0
-NamesAreShort = (names : List Name) → All (λ name. spelled name ≤ 255) names → identifiers_size spelled names ≤ 40 + 296 * length names
+NamesAreShort = (names : List Name) → All (λ name. spelled_length name ≤ 255) names → identifiers_size spelled_length names ≤ 40 + 296 * length names
 
 -- a file's bytes, where they are outside its entry, and the entry
 abbrev pub FilesAreCounted : Type 0

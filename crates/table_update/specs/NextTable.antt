@@ -20,9 +20,9 @@ use Rattle.recover.specs.Below.{IsUsed}
 use Rattle.table_update.specs.TableChange.{with_node, committed, placed, removed, with_number, IsFree, IsRemovable}
 
 -- with a node that is made, and placed later
-abbrev pub with_made : Option NewNode → Table → Table
-with_made None t = t
-with_made (Some made) t = with_node made.kind made.address 0 t
+abbrev pub with_new_node : Option NewNode → Table → Table
+with_new_node None t = t
+with_new_node (Some made) t = with_node made.kind made.address 0 t
 
 -- with the entries of the nodes that are written, in order
 abbrev pub all_placed : List Written → Table → Table
@@ -36,7 +36,7 @@ without_gone (Some node) t = removed node.kind node.address t
 
 -- with the reply to a request, and the node that it makes
 abbrev pub begun : ℕ → ℕ → ℕ → ℕ → Option NewNode → Table → Table
-begun at client number code made t = with_made made (committed at client number code t)
+begun at client number code made t = with_new_node made (committed at client number code t)
 
 -- the table after a request, where the entry of the table before is at an address
 abbrev pub next_table : ℕ → ℕ → ℕ → ℕ → Option NewNode → List Written → Option Node → Table → Table
@@ -96,8 +96,8 @@ AreUsed (w ∷ written) entries = IsUsed w.address entries × AreUsed written (w
 -- the address of the node that is made is free, those that are written are used, and the node that goes is there
 pub record AreTaken (made : Option NewNode) (written : List Written) (taken : Option Node) (t : Table) : Type 0 where
   pub free : IfSome made (λ node. IsFree node.address t.entries)
-  pub used : AreUsed written (with_made made t).entries
-  pub there : IfSome taken (λ node. IsRemovable node.kind node.address (all_placed written (with_made made t)))
+  pub used : AreUsed written (with_new_node made t).entries
+  pub there : IfSome taken (λ node. IsRemovable node.kind node.address (all_placed written (with_new_node made t)))
 
 abbrev pub ChangesAreTaken : Type 0
 ChangesAreTaken =

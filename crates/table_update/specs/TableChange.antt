@@ -87,15 +87,15 @@ abbrev pub placed : ℕ → ℕ → Table → Table
 placed address number t = with_nodes t.files t.directories t.next_unique (with_number address (Some number) t.entries) t
 
 -- a node that is not the root is counted
-abbrev pub HasNode : Kind → Table → Type 0
-HasNode File t = 0 < t.files
-HasNode Directory t = 1 < t.directories
+abbrev pub CountsNode : Kind → Table → Type 0
+CountsNode File t = 0 < t.files
+CountsNode Directory t = 1 < t.directories
 
 -- an address after the root's leads to a node, and one of that kind is counted
 pub record IsRemovable (kind : Kind) (address : ℕ) (t : Table) : Type 0 where
   pub afterwards : 2 ≤ address
   pub used : IsUsed address t.entries
-  pub counted : HasNode kind t
+  pub counted : CountsNode kind t
 
 -- a node was removed
 abbrev pub removed : Kind → ℕ → Table → Table

@@ -22,7 +22,7 @@ use Rattle.dir.proofs.Once.{directory_once}
 use Rattle.dir.proofs.Short.{directories_short}
 use Rattle.vat.proofs.TableReads.{one_table, nodes_have_entries}
 use Rattle.udf.specs.Words.{icb_fields, directory_entry, directory_entries, table_of}
-use Rattle.udf.specs.Udf.{IsBlock, HoldsDirectory, udf, spelled}
+use Rattle.udf.specs.Udf.{IsBlock, HoldsDirectory, udf, spelled_length}
 use Rattle.udf.proofs.Words.{kind_one, fields_one, entries_one, table_one}
 
 -- ---- blocks
@@ -91,13 +91,13 @@ distinct = record {
 
 -- ---- short
 
-sizes_sum : (entries : List Entry) → plain_sizes (name_sizes (directory_entries entries)) ≡ sum (map (λ (name : Name). identifier_size (spelled name)) (map (λ (e : Entry). e.name) entries))
+sizes_sum : (entries : List Entry) → plain_sizes (name_sizes (directory_entries entries)) ≡ sum (map (λ (name : Name). identifier_size (spelled_length name)) (map (λ (e : Entry). e.name) entries))
 sizes_sum [] = refl
 sizes_sum (e ∷ entries) =
     ap (λ (n : ℕ). plain_size (length (compressed e.name)) + n) (sizes_sum entries)
-    ∙ sym (sum_by-cons (λ (n : ℕ). n) (identifier_size (spelled e.name)) (map (λ (name : Name). identifier_size (spelled name)) (map (λ (x : Entry). x.name) entries)))
+    ∙ sym (sum_by-cons (λ (n : ℕ). n) (identifier_size (spelled_length e.name)) (map (λ (name : Name). identifier_size (spelled_length name)) (map (λ (x : Entry). x.name) entries)))
 
-pub short : AreShort udf spelled
+pub short : AreShort udf spelled_length
 short parent first size entries blocks h =
     subst (λ (n : ℕ). length blocks ≤ 1 + (40 + n) / 1720) (sizes_sum entries)
     (directories_short parent first size (directory_entries entries) blocks (sized blocks h.blocks_are) h.is)

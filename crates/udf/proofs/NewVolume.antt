@@ -9,7 +9,7 @@ use Rattle.model.specs.Graph.{as_stored}
 use Rattle.model.specs.Graph.Body.{Entries}
 use Rattle.durability.specs.Formats.{Block}
 use Rattle.durability.specs.Formats.Kind.{Directory, Table}
-use Rattle.durability.specs.Volume.{partition_start, extent, bytes_in, IsVatIcbAt, NoneImitates, IsStoredAt, HasTable}
+use Rattle.durability.specs.Volume.{partition_start, extent, bytes_in_blocks, IsVatIcbAt, NoneImitates, IsStoredAt, HasTable}
 use Rattle.durability.specs.Step.{IsFormat}
 use Rattle.durability.proofs.Lists.{get_past}
 use Rattle.durability.proofs.Mediums.{none_from, none-append}
@@ -83,18 +83,18 @@ module _ (capacity volume : ℕ) (label : List ℕ) (moment : ℕ) (front : List
   count : length is.bytes ≡ 204
   count = takes_so_many (first_table label) is.bytes is.bytes_are
 
-  table_bytes_are : bytes_in 204 (extent blocks 3 204) ≡ is.bytes
+  table_bytes_are : bytes_in_blocks 204 (extent blocks 3 204) ≡ is.bytes
   table_bytes_are =
       let there : extent blocks 3 204 ≡ table ∷ [] = ap (λ (bs : List Block). take 1 bs) (from_block 3) in
-      let one : bytes_in 204 (table ∷ []) ≡ take 204 (padded is.bytes) = ap (λ (bytes : List ℕ). take 204 bytes) (append-nil table ∙ is.table_is) in
-      ap (bytes_in 204) there ∙ one ∙ take-append-le 204 is.bytes (replicate (2048 - length is.bytes) 0) (omega (arith, count)) ∙ take_all 204 is.bytes (omega (arith, count))
+      let one : bytes_in_blocks 204 (table ∷ []) ≡ take 204 (padded is.bytes) = ap (λ (bytes : List ℕ). take 204 bytes) (append-nil table ∙ is.table_is) in
+      ap (bytes_in_blocks 204) there ∙ one ∙ take-append-le 204 is.bytes (replicate (2048 - length is.bytes) 0) (omega (arith, count)) ∙ take_all 204 is.bytes (omega (arith, count))
 
   entries_low : All (λ (e : Option ℕ). IfSome e (λ n. n < 4)) (Some 0 ∷ Some 2 ∷ [])
   entries_low zero d lt = let h : 0 < 4 = omega arith in h
   entries_low (suc zero) d lt = let h : 2 < 4 = omega arith in h
   entries_low (suc (suc k)) d lt = absurd (omega arith)
 
-  table_there : udf.IsTable (model_table (first_table label)) 4 (bytes_in 204 (extent blocks 3 204))
+  table_there : udf.IsTable (model_table (first_table label)) 4 (bytes_in_blocks 204 (extent blocks 3 204))
   table_there =
       subst (λ (bytes : List ℕ). udf.IsTable (model_table (first_table label)) 4 bytes) (sym table_bytes_are)
       (tables_agree (first_table label) 4 is.bytes (record { table = is.bytes_are; previous = tt; entries = entries_low }))

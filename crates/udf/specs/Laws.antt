@@ -11,7 +11,7 @@ use Rattle.durability.specs.Plan.{IsPlanned}
 use Rattle.durability.specs.Commit.{need}
 use Rattle.durability.specs.Journal.{Advances, HoldsOnJournal}
 use Rattle.durability.specs.Runs.{Delivery, Answer, Runs, Holds}
-use Rattle.udf.specs.Udf.{udf, spelled}
+use Rattle.udf.specs.Udf.{udf, spelled_length}
 
 -- ---- what is recovered
 
@@ -59,7 +59,7 @@ PlannedCarries =
 abbrev pub PlannedShort : Type 0
 PlannedShort =
     (capacity volume : ℕ) (medium : Medium) (S : State) (stands : RecoversTo udf capacity volume medium S) (request : Request) (blocks : List Block) (mark : Block)
-    → IsPlanned udf capacity volume medium S stands request blocks mark → length (blocks ++ mark ∷ []) ≤ need spelled S request
+    → IsPlanned udf capacity volume medium S stands request blocks mark → length (blocks ++ mark ∷ []) ≤ need spelled_length S request
 
 -- Whichever prefix of them was written: the journal recovers to the old state, or all of them are there and it recovers to the state after the request.
 abbrev pub CommitAdvances : Type 0
@@ -89,12 +89,12 @@ FormatRecovers =
 abbrev pub RunsHold : Type 0
 RunsHold =
     (drive volume : ℕ) (S : State) (before afterwards : Medium) (deliveries : List Delivery) (answers : List Answer) (committed : List Request) (S' : State)
-    → RecoversTo udf drive volume before S → Runs udf (need spelled) drive volume before S deliveries answers committed afterwards S'
-    → Holds udf (need spelled) drive volume S before afterwards deliveries answers
+    → RecoversTo udf drive volume before S → Runs udf (need spelled_length) drive volume before S deliveries answers committed afterwards S'
+    → Holds udf (need spelled_length) drive volume S before afterwards deliveries answers
 
 -- and so on a drive's journal, each address once
 abbrev pub RunsHoldOnJournal : Type 0
 RunsHoldOnJournal =
     (drive volume : ℕ) (S : State) (before afterwards : List Event) (deliveries : List Delivery) (answers : List Answer) → Once before → Once afterwards
-    → take (length before) afterwards ≡ before → Holds udf (need spelled) drive volume S (held before) (held afterwards) deliveries answers
-    → HoldsOnJournal udf (need spelled) drive volume S before afterwards deliveries answers
+    → take (length before) afterwards ≡ before → Holds udf (need spelled_length) drive volume S (held before) (held afterwards) deliveries answers
+    → HoldsOnJournal udf (need spelled_length) drive volume S before afterwards deliveries answers

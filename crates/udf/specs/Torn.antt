@@ -15,7 +15,7 @@ use Rattle.durability.specs.Runs.{Delivery, Answer, Runs}
 use Rattle.durability.specs.Runs.Message.{Asks}
 use Rattle.durability.specs.Runs.Delivery.{Delivered}
 use Rattle.durability.specs.Runs.Answer.{Fault}
-use Rattle.udf.specs.Udf.{udf, spelled}
+use Rattle.udf.specs.Udf.{udf, spelled_length}
 
 -- ---- what may be left
 
@@ -63,7 +63,7 @@ abbrev pub TornCommitShort : Type 0
 TornCommitShort =
     (capacity volume : ℕ) (medium : Medium) (S : State) (stands : RecoversTo udf capacity volume medium S) (request : Request) (blocks : List Block) (mark : Block)
     → IsPlanned udf capacity volume medium S stands request blocks mark
-    → (writes : List (List Block)) (left : List Block) → LastIsAlone blocks mark writes → IsLeft writes left → length left ≤ need spelled S request
+    → (writes : List (List Block)) (left : List Block) → LastIsAlone blocks mark writes → IsLeft writes left → length left ≤ need spelled_length S request
 
 -- and so on a drive's journal
 abbrev pub TornCommitAdvances : Type 0
@@ -93,12 +93,12 @@ CommitsEndure =
 abbrev pub TornCommitRuns : Type 0
 TornCommitRuns =
     (drive volume : ℕ) (S : State) (before afterwards : Medium) (deliveries : List Delivery) (answers : List Answer) (committed : List Request) (S' : State)
-    → Runs udf (need spelled) drive volume before S deliveries answers committed afterwards S'
+    → Runs udf (need spelled_length) drive volume before S deliveries answers committed afterwards S'
     → (stands : RecoversTo udf drive volume afterwards S') (request : Request) (blocks : List Block) (mark : Block) → IsPlanned udf drive volume afterwards S' stands request blocks mark
-    → due S' request.client request.number ≡ New → length afterwards + need spelled S' request ≤ volume
+    → due S' request.client request.number ≡ New → length afterwards + need spelled_length S' request ≤ volume
     → (writes : List (List Block)) (left : List Block) → LastIsAlone blocks mark writes → IsLeft writes left
     → (done : List Request) × ((done ≡ []) ⊎ ((done ≡ request ∷ []) × (left ≡ blocks ++ mark ∷ [])))
-    × Runs udf (need spelled) drive volume before S (deliveries ++ Delivered (Asks request) ∷ []) (answers ++ Fault ∷ []) (committed ++ done) (afterwards ++ left) (after S' done)
+    × Runs udf (need spelled_length) drive volume before S (deliveries ++ Delivered (Asks request) ∷ []) (answers ++ Fault ∷ []) (committed ++ done) (afterwards ++ left) (after S' done)
 
 -- ---- a format
 

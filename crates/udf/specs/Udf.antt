@@ -35,5 +35,5 @@ udf = record {
 }
 
 -- how many bytes a name takes as it is spelled
-abbrev pub spelled : Name → ℕ
-spelled name = length (compressed name)
+abbrev pub spelled_length : Name → ℕ
+spelled_length name = length (compressed name)

@@ -2,7 +2,7 @@
 
 ghost use Rattle.std.specs.Prelude.{◌<◌, ℕ, slice_index};
 ghost use Rattle.durability.specs.Formats.{AreExact, AreBounded, AreDistinct, AreShort};
-ghost use Rattle.udf.specs.Udf.{udf, spelled, IsBlock};
+ghost use Rattle.udf.specs.Udf.{udf, spelled_length, IsBlock};
 ghost use Rattle.udf.specs.Said.{EntriesAgree, DirectoriesAgree, TablesAgree, SizesAgree, ImitationAgrees, DataAgrees, ClearStartsAgree};
 ghost use Rattle.udf.specs.NewVolume.{NewVolumesAreFormats};
 ghost use Rattle.udf.specs.Laws.{OneStateIsRecovered, RecoveredIsSound, OnePast, PastIsWithin, RecoveredIsLast, RecoversAppended, PastAppended, PlannedCarries, PlannedShort, CommitAdvances, NothingBefore, FormatRecovers, RunsHold, RunsHoldOnJournal};
@@ -39,7 +39,7 @@ pub fn formats_are_distinct()
 
 /// A directory takes no more blocks than follow from the lengths of its names as they are spelled.
 pub fn formats_are_short()
-    ensures { AreShort udf spelled }
+    ensures { AreShort udf spelled_length }
 {}
 
 /// What the codecs read is what the blocks hold by these formats, in the words of the medium.

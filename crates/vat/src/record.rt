@@ -31,9 +31,9 @@ impl Model for Replies {
 
     ghost Value = { List Reply };
 
-    ghost use Rattle.vat.specs.Replies.{shown, IsReplyArray, filled_again, inverse_again};
+    ghost use Rattle.vat.specs.Replies.{replies_inside, IsReplyArray, filled_again, inverse_again};
 
-    ghost view = { shown };
+    ghost view = { replies_inside };
 
     ghost invariant = { IsReplyArray };
 

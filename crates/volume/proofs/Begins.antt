@@ -3,16 +3,16 @@ use Rattle.std.proofs.Common.{◌≡◌, ◌≢◌, ℕ, ◌%◌, ◌<◌, ◌==
 use Rattle.std.specs.Prelude.{nat_lt, if◌then◌else◌}
 use Rattle.ecma.specs.Numbers.{u16_at}
 use Rattle.ecma.proofs.Seals.{begins}
-use Rattle.volume.specs.Front.{Content, HasContent, FrontIsNoEntry, front_content, recognition_content, sequence_content, later_content}
-use Rattle.volume.specs.Front.Content.{Nothing, Recognition, Descriptor}
+use Rattle.volume.specs.Front.{HeaderBlock, HasContent, FrontIsNoEntry, front_content, recognition_content, sequence_content, later_content}
+use Rattle.volume.specs.Front.HeaderBlock.{Nothing, Recognition, Descriptor}
 
 -- the identifier of a descriptor
-abbrev tag_of : Content → ℕ
+abbrev tag_of : HeaderBlock → ℕ
 tag_of Nothing = 0
 tag_of (Recognition identifier) = 0
 tag_of (Descriptor identifier fields) = identifier
 
-either : (b : Bool) (x y : Content) → tag_of x < 10 → tag_of y < 10 → tag_of (if b then x else y) < 10
+either : (b : Bool) (x y : HeaderBlock) → tag_of x < 10 → tag_of y < 10 → tag_of (if b then x else y) < 10
 either true x y low other = low
 either false x y other low = low
 
@@ -45,7 +45,7 @@ front_low : (label : List ℕ) (moment : ℕ) (stamp : List ℕ) (capacity n : �
 front_low label moment stamp capacity n =
     either (nat_lt n 32) _ _ (recognition_low n) (either (nat_lt n 64) _ _ (sequence_low label moment stamp capacity (n % 16)) (later_low stamp capacity n))
 
-holds_other : (n : ℕ) (content : Content) (block : List ℕ) → tag_of content < 10 → HasContent n content block → u16_at 0 block ≢ 261
+holds_other : (n : ℕ) (content : HeaderBlock) (block : List ℕ) → tag_of content < 10 → HasContent n content block → u16_at 0 block ≢ 261
 holds_other n Nothing block low there = λ (e : u16_at 0 block ≡ 261). omega (arith, e, ap (u16_at 0) there)
 holds_other n (Recognition identifier) block low there =
     λ (e : u16_at 0 block ≡ 261).

@@ -6,8 +6,8 @@ use Rattle.std.proofs.lemmas.Bool.{cases_lt, lt-ltb, le-ltb}
 use Rattle.ecma.proofs.Pieces.{IsBytes}
 use Rattle.ecma.proofs.Seals.{one_descriptor}
 use Rattle.ecma.proofs.Timestamps.{one_spelling}
-use Rattle.volume.specs.Front.{Content, HasContent, IsFrontBlock, front_content, recognition_content, sequence_content, later_content}
-use Rattle.volume.specs.Front.Content.{Nothing, Recognition, Descriptor}
+use Rattle.volume.specs.Front.{HeaderBlock, HasContent, IsFrontBlock, front_content, recognition_content, sequence_content, later_content}
+use Rattle.volume.specs.Front.HeaderBlock.{Nothing, Recognition, Descriptor}
 
 pub content_low : (label : List ℕ) (moment : ℕ) (stamp : List ℕ) (capacity n : ℕ) → n < 32 → front_content label moment stamp capacity n ≡ recognition_content n
 content_low label moment stamp capacity n low =
@@ -23,7 +23,7 @@ content_high label moment stamp capacity n low =
     ap (λ (b : Bool). cond b (recognition_content n) (cond (ltb n 64) (sequence_content label moment stamp capacity (n % 16)) (later_content stamp capacity n))) (le-ltb n 32 (omega arith))
     ∙ ap (λ (b : Bool). cond b (sequence_content label moment stamp capacity (n % 16)) (later_content stamp capacity n)) (le-ltb n 64 low)
 
-one_content : (n : ℕ) (content : Content) (a b : List ℕ) → IsBytes a → IsBytes b → HasContent n content a → HasContent n content b → a ≡ b
+one_content : (n : ℕ) (content : HeaderBlock) (a b : List ℕ) → IsBytes a → IsBytes b → HasContent n content a → HasContent n content b → a ≡ b
 one_content n Nothing a b fa fb x y = x ∙ sym y
 one_content n (Recognition identifier) a b fa fb x y = x ∙ sym y
 one_content n (Descriptor identifier fields) a b fa fb x y = one_descriptor identifier n fields a b fa fb x y

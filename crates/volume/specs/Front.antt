@@ -9,20 +9,20 @@ use Rattle.ecma.specs.Timestamp.{IsMoment}
 use Rattle.volume.specs.Descriptors.{digits, primary_fields, anchor_fields, use_fields, partition_fields, logical_fields, unallocated_fields, terminating_fields, integrity_fields}
 
 -- what a block of the volume header holds: zeros, a structure of the recognition sequence (ECMA-167 2/9.1), or a descriptor
-pub data Content : Type 0 where
-  Nothing : Content
-  Recognition : (identifier : List ℕ) → Content
-  Descriptor : (identifier : ℕ) (fields : List ℕ) → Content
+pub data HeaderBlock : Type 0 where
+  Nothing : HeaderBlock
+  Recognition : (identifier : List ℕ) → HeaderBlock
+  Descriptor : (identifier : ℕ) (fields : List ℕ) → HeaderBlock
 
 -- the recognition sequence
-abbrev pub recognition_content : ℕ → Content
+abbrev pub recognition_content : ℕ → HeaderBlock
 recognition_content n =
     if n == 16 then Recognition (codes "BEA01")
     else (if n == 17 then Recognition (codes "NSR03")
     else (if n == 18 then Recognition (codes "TEA01") else Nothing))
 
 -- the volume descriptor sequence, by its places
-abbrev pub sequence_content : List ℕ → ℕ → List ℕ → ℕ → ℕ → Content
+abbrev pub sequence_content : List ℕ → ℕ → List ℕ → ℕ → ℕ → HeaderBlock
 sequence_content label moment stamp capacity place =
     if place == 0 then Descriptor 1 (primary_fields (dstring 32 label) (dstring 128 (digits moment ++ label)) stamp)
     else (if place == 1 then Descriptor 4 (use_fields (dstring 128 label))
@@ -32,20 +32,20 @@ sequence_content label moment stamp capacity place =
     else (if place == 5 then Descriptor 8 terminating_fields else Nothing)))))
 
 -- what is after both copies of the sequence: the integrity sequence and the anchor
-abbrev pub later_content : List ℕ → ℕ → ℕ → Content
+abbrev pub later_content : List ℕ → ℕ → ℕ → HeaderBlock
 later_content stamp capacity n =
     if n == 64 then Descriptor 9 (integrity_fields stamp capacity)
     else (if n == 65 then Descriptor 8 terminating_fields
     else (if n == 256 then Descriptor 2 anchor_fields else Nothing))
 
 -- what is at an address; the main sequence is at 32, the reserve sequence at 48
-abbrev pub front_content : List ℕ → ℕ → List ℕ → ℕ → ℕ → Content
+abbrev pub front_content : List ℕ → ℕ → List ℕ → ℕ → ℕ → HeaderBlock
 front_content label moment stamp capacity n =
     if nat_lt n 32 then recognition_content n
     else (if nat_lt n 64 then sequence_content label moment stamp capacity (n % 16) else later_content stamp capacity n)
 
 -- the block at an address holds this
-abbrev pub HasContent : ℕ → Content → List ℕ → Type 0
+abbrev pub HasContent : ℕ → HeaderBlock → List ℕ → Type 0
 HasContent n Nothing block = block ≡ replicate BLOCK_BYTES 0
 HasContent n (Recognition identifier) block = block ≡ padded (0 ∷ (identifier ++ (1 ∷ [])))
 HasContent n (Descriptor identifier fields) block = IsDescriptor identifier n fields block

@@ -2,7 +2,7 @@ ghost use Rattle.limits.specs.declared.TheConstants.{GREATEST_CAPACITY, LEAST_CA
 ghost use Rattle.std.specs.Prelude.{◌≡◌, ◌≤◌, ◌%◌, IfOk};
 ghost use Rattle.osta.specs.Dstring.{dstring};
 ghost use Rattle.volume.specs.Front.{HasContent, IsFront, IsFrontBlock, recognition_content, sequence_content};
-ghost use Rattle.volume.specs.Front.Content.{Recognition};
+ghost use Rattle.volume.specs.Front.HeaderBlock.{Recognition};
 
 use crate::descriptors::{
     anchor, implementation_use, integrity, logical_volume, partition, primary, terminating,

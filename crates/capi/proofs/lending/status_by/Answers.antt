@@ -4,7 +4,7 @@ use Rattle.engine.specs.Steps.{HoldsState}
 use Rattle.capi.specs.declared.medium.Medium.{Medium}
 use Rattle.capi.specs.declared.medium.Medium.TheVariants.{Image, Memory}
 use Rattle.recover.specs.declared.fault.StoreFault.{StoreFault}
-use Rattle.capi.specs.StatusCalls.{IsUntold}
+use Rattle.capi.specs.StatusCalls.{IsStatusUnknown}
 use Rattle.capi.specs.Media.{seen_by}
 use Rattle.capi.proofs.lending.status_by.Goals as goal
 
@@ -21,10 +21,10 @@ returns-in-Memory-clause-holds c volume S honest at =
 pub returns-in-Image-clause-refused : goal.returns-in-Image-clause-refused
 returns-in-Image-clause-refused c =
     let is : c.args.medium.now ≡ Image c.in-Image.drive = search rules in
-    subst (λ (m : Medium). IfErr c.opened_status.result (λ (fault : StoreFault). IsUntold fault (seen_by c.args.engine.now m) (seen_by c.opened_status.new.engine (Image c.opened_status.new.drive)))) (sym is)
+    subst (λ (m : Medium). IfErr c.opened_status.result (λ (fault : StoreFault). IsStatusUnknown fault (seen_by c.args.engine.now m) (seen_by c.opened_status.new.engine (Image c.opened_status.new.drive)))) (sym is)
     c.opened_status.ensures.refused
 
 pub returns-in-Memory-clause-refused : goal.returns-in-Memory-clause-refused
 returns-in-Memory-clause-refused c =
     let is : c.args.medium.now ≡ Memory c.in-Memory.drive = search rules in let called = c.opened_status-in-Memory in
-    subst (λ (m : Medium). IfErr called.result (λ (fault : StoreFault). IsUntold fault (seen_by c.args.engine.now m) (seen_by called.new.engine (Memory called.new.drive)))) (sym is) called.ensures.refused
+    subst (λ (m : Medium). IfErr called.result (λ (fault : StoreFault). IsStatusUnknown fault (seen_by c.args.engine.now m) (seen_by called.new.engine (Memory called.new.drive)))) (sym is) called.ensures.refused

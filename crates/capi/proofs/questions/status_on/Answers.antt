@@ -2,7 +2,7 @@ use Rattle.std.proofs.Common.{rules, ◌≡◌, ℕ, List, length, inl, inr, ap,
 use Rattle.drive.specs.Journal.{Event, held}
 use Rattle.recover.specs.Tables.{IsEntryAt, IsEntryRefused}
 use Rattle.vat.specs.declared.table.Vat.{Vat}
-use Rattle.capi.specs.Statuses.{label_field}
+use Rattle.capi.specs.Statuses.{label_text_field}
 use Rattle.capi.proofs.Labels.{filled, label_short}
 use Rattle.capi.proofs.questions.status_on.Goals as goal
 
@@ -23,7 +23,7 @@ returns-clause-reported g c =
       clients = counted ∙ ap (λ (v : Vat). length v.sessions.records.items) c.newest-vat.ensures;
       label_length = put.0 ∙ ap length named;
       few = omega (arith, put.0 ∙ ap length named, label_short label c.requires.keeps.fits.label);
-      label = put.1 ∙ filled c.newest-vat.result.now.label c.in-Ok-put_label.length put.0 ∙ ap label_field named;
+      label = put.1 ∙ filled c.newest-vat.result.now.label c.in-Ok-put_label.length put.0 ∙ ap label_text_field named;
       moment = λ honest. (
         entry,
         subst (λ (J : List Event). IsEntryAt (held J) c.args.store.now.vat_icb_address entry) c.next.ensures.journal

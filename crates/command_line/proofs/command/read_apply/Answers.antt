@@ -1,6 +1,6 @@
 use Rattle.std.proofs.Common.{rules, List, ℕ, ◌++◌, codes, refl, sym, ap, subst, ◌∙◌}
 use Rattle.command_line.specs.declared.command.Storage.{Storage}
-use Rattle.command_line.specs.Commands.{Names}
+use Rattle.command_line.specs.Commands.{NamesStorage}
 use Rattle.command_line.proofs.command.read_apply.Goals as goal
 use Rattle.command_line.proofs.command.read_apply.Goals.{in-Some+in_ok-read_capacity-in-Some, in-None}
 
@@ -13,8 +13,8 @@ returns-clause-found c =
         | in-Some+in_ok-read_capacity-in-Some w ↦
             let strip = w.in-Some.ensures.cases in
             let read = w.in_ok-read_capacity-in-Some.ensures.some in
-            subst (λ (m : Storage). Names word m) (sym w.medium-is)
+            subst (λ (m : Storage). NamesStorage word m) (sym w.medium-is)
             (w.in-Some.capacity.now, strip.1.1 ∙ ap (λ (l : List ℕ). codes "mem:" ++ l) (sym strip.2), read.0, read.1)
-        | in-None w ↦ subst (λ (m : Storage). Names word m) (sym w.medium-is) (refl, λ rest e. w.in-None.ensures.cases rest e)
+        | in-None w ↦ subst (λ (m : Storage). NamesStorage word m) (sym w.medium-is) (refl, λ rest e. w.in-None.ensures.cases rest e)
       ],
     )

@@ -1,5 +1,5 @@
 use Rattle.std.proofs.Common.{ℕ, sym, subst, arith}
-use Rattle.volume.specs.Front.{Content, HasContent, front_content}
+use Rattle.volume.specs.Front.{HeaderBlock, HasContent, front_content}
 use Rattle.volume.proofs.FrontLaws.{content_between}
 use Rattle.volume.proofs.front.front_block.Goals as goal
 
@@ -22,5 +22,5 @@ returns-in-32-to-63 c =
       label_is = c.dstring_32-volume.ensures.label;
       stamp = stamp;
       moment_is = c.to_bytes-stamp.ensures;
-      holds = subst (λ (x : Content). HasContent c.args.n x c.sequence_block.result) (sym content) (rw c.moment.ensures.value at c.sequence_block.ensures);
+      holds = subst (λ (x : HeaderBlock). HasContent c.args.n x c.sequence_block.result) (sym content) (rw c.moment.ensures.value at c.sequence_block.ensures);
     }

@@ -3,7 +3,7 @@ use Rattle.ecma.specs.LongAd.{long_ad}
 use Rattle.ecma.specs.declared.field.LongAd.{LongAd}
 use Rattle.icb.specs.declared.entry.Place.TheVariants as places
 use Rattle.ecma.specs.Blocks.{block_count}
-use Rattle.icb.specs.Entry.{extent}
+use Rattle.icb.specs.Entry.{long_descriptor}
 use Rattle.icb.proofs.EntryBlocks.{block_there, block_extended}
 use Rattle.icb.proofs.planned.PlannedEntry.write.Goals as goal
 
@@ -14,7 +14,7 @@ pub returns-in-Extent : goal.returns-in-Extent
 returns-in-Extent c =
     let size = c.self.inside.entry.size in
     let blocks : c.div_ceil-blocks.result ≡ block_count size = omega (arith, c.div_ceil-blocks.ensures, c.from.ensures) in
-    let after : c.to_bytes-extent.result ≡ extent size c.in-Extent.first = c.to_bytes-extent.ensures ∙ ap (λ (l : LongAd). long_ad l) c.extent.ensures in
+    let after : c.to_bytes-extent.result ≡ long_descriptor size c.in-Extent.first = c.to_bytes-extent.ensures ∙ ap (λ (l : LongAd). long_ad l) c.extent.ensures in
     c.write_entry-in-Extent.ensures ∙ block_extended c.self.inside c.in-Extent.first c.div_ceil-blocks.result c.to_bytes-extent.result c.in-Extent.is blocks after ∙ c.self.view_is
 
 pub returns-in-Inside : goal.returns-in-Inside

@@ -30,7 +30,7 @@ use denote.Triple.Entry.{on_entry, alive, Args}
 use denote.Triple.Spec.{Meets, triple_of}
 use denote.Triple.Table.{entered}
 use denote.Triple.Walked.{says, stay_none_ref, stay_none_slice, Stays, walk_of, Walks, ends_at, walked, Goes-none_ref, Goes-none_slice, walk_Meets}
-use Rattle.media.specs.Seen.{lookup, with_made}
+use Rattle.media.specs.Seen.{lookup, with_new_image}
 use Rattle.media.specs.declared.seen.Seen.{Seen}
 use Rattle.media.specs.contracts.seen.Seen as seen
 use Rattle.media.specs.contracts.seen.Seen.after_made.Key.{name as key}
@@ -46,7 +46,7 @@ module _ {M : Type 1} {𝓤 : Ura M} (𝓛 : Logic 𝓤) (mem : Memory → SProp
 
   module _ (κs : Lfts 2) (qs : Shares 2) (a : Args f.signature κs) where
     abbrev made : Seen
-    made = record { images = with_made (lookup a.0.now.images a.1.0.now) a.1.0.now a.0.now.images; misses = a.0.now.misses; looks = a.0.now.looks }
+    made = record { images = with_new_image (lookup a.0.now.images a.1.0.now) a.1.0.now a.0.now.images; misses = a.0.now.misses; looks = a.0.now.looks }
 
     abbrev bound : (walk_of 𝓛 f.ended stayed (f.clauses 𝓛 mem run)).Ghost
     bound = ((κs, qs, tt, a, ((vptr a.0.ref_ptr.0 a.0.ref_ptr.1) ∷ [], ((slice_val a.1.0.ref_ptr (length a.1.0.now)) ∷ [], tt))), tt)

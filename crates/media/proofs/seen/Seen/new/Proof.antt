@@ -29,7 +29,7 @@ use denote.Triple.Entry.{on_entry, alive, Args}
 use denote.Triple.Spec.{Meets, triple_of}
 use denote.Triple.Table.{entered}
 use denote.Triple.Walked.{says, stay_none_slice, Stays, walk_of, Walks, ends_at, walked, Goes-none_slice, walk_Meets}
-use Rattle.media.specs.Seen.{Images}
+use Rattle.media.specs.Seen.{ImageJournals}
 use Rattle.media.specs.declared.seen.Seen.{Seen}
 use Rattle.media.specs.contracts.seen.Seen as seen
 use Rattle.media.specs.contracts.seen.Seen.new.Key.{name as key}
@@ -43,7 +43,7 @@ stayed = (stay_none_slice (0 ∷ []) tt (plain (λ _. u8)) yes, tt)
 module _ {M : Type 1} {𝓤 : Ura M} (𝓛 : Logic 𝓤) (mem : Memory → SProp 𝓤) (run : Routine → Fun 𝓤) (C : Calls 𝓤 𝓛.H) (Λ : Loops 𝓤 𝓛.H) where
   open 𝓛 use {H}
 
-  module _ (κs : Lfts 1) (qs : Shares 1) (a : Args f.signature κs) (g : Images) where
+  module _ (κs : Lfts 1) (qs : Shares 1) (a : Args f.signature κs) (g : ImageJournals) where
     abbrev made : Seen
     made = record { images = g; misses = 0; looks = [] }
 
