@@ -12,6 +12,7 @@ use Rattle.ecma.specs.Tag.{tag_cells}
 use Rattle.osta.specs.Compressed.{is_narrow, has_spelling, two_bytes, compressed_unicode, compressed}
 use Rattle.osta.specs.Name.{IsName}
 use Rattle.std.specs.Str.{chars}
+use Rattle.limits.specs.declared.TheConstants.{BLOCK_BYTES}
 use Rattle.osta.proofs.Names.{name_few, name_spelled}
 use Rattle.dir.specs.declared.entry.Entry.{Entry}
 use Rattle.dir.specs.declared.entry.Kind.{Kind}
@@ -126,8 +127,8 @@ joined (xs ∷ more) each = both xs (concat more) each.0 (joined more each.1)
 
 head : (kind len icb unique more : ℕ) → kind < 256 → len < 256 → AreBytes (head_of kind len icb unique more)
 head kind len icb unique more low few =
-    joined (to_le_bytes w16 1 ∷ (kind ∷ len ∷ []) ∷ to_le_bytes w32 2048 ∷ to_le_bytes w32 icb ∷ to_le_bytes w16 1 ∷ to_le_bytes w16 0 ∷ to_le_bytes w32 unique ∷ to_le_bytes w16 more ∷ [])
-    (two 1, (one_more kind (len ∷ []) low (one_more len [] few none), (four 2048, (four icb, (two 1, (two 0, (four unique, (two more, tt))))))))
+    joined (to_le_bytes w16 1 ∷ (kind ∷ len ∷ []) ∷ to_le_bytes w32 BLOCK_BYTES ∷ to_le_bytes w32 icb ∷ to_le_bytes w16 1 ∷ to_le_bytes w16 0 ∷ to_le_bytes w32 unique ∷ to_le_bytes w16 more ∷ [])
+    (two 1, (one_more kind (len ∷ []) low (one_more len [] few none), (four BLOCK_BYTES, (four icb, (two 1, (two 0, (four unique, (two more, tt))))))))
 
 lengthened : (more : ℕ) → AreBytes (use_of more)
 lengthened more = both (take (min more 32) developer) (replicate (more - 32) 0) (front (min more 32) developer (checked developer refl)) (noughts (more - 32))
@@ -153,31 +154,31 @@ EachHas (x ∷ xs) = HasBytes x × EachHas xs
 laid_bytes : (xs : List Identifier) (number at : ℕ) → EachHas xs → AreBytes (laid number at xs)
 laid_bytes [] number at has = subst AreBytes (sym (laid-nil number at)) none
 laid_bytes (x ∷ rest) number at has =
-    by (stays rest (2048 - (at + plain_size (length x.name)))) refl (laid_bytes rest number (at + plain_size (length x.name)) has.1) (laid_bytes rest (number + 1) 0 has.1)
+    by (stays rest (BLOCK_BYTES - (at + plain_size (length x.name)))) refl (laid_bytes rest number (at + plain_size (length x.name)) has.1) (laid_bytes rest (number + 1) 0 has.1)
   where
-    by : (b : Bool) → stays rest (2048 - (at + plain_size (length x.name))) ≡ b → AreBytes (laid number (at + plain_size (length x.name)) rest) → AreBytes (laid (number + 1) 0 rest)
+    by : (b : Bool) → stays rest (BLOCK_BYTES - (at + plain_size (length x.name))) ≡ b → AreBytes (laid number (at + plain_size (length x.name)) rest) → AreBytes (laid (number + 1) 0 rest)
         → AreBytes (laid number at (x ∷ rest))
     by true e after next =
         let end = at + plain_size (length x.name) in
         subst AreBytes (sym (laid-stays number at x rest e)) (both (identifier number x 0) (laid number end rest) (one number x 0 has.0) after)
     by false e after next =
-        let left = 2048 - (at + plain_size (length x.name)) in
+        let left = BLOCK_BYTES - (at + plain_size (length x.name)) in
         subst AreBytes (sym (laid-leaves number at x rest e)) (both (identifier number x left) (laid (number + 1) 0 rest) (one number x left has.0) next)
 
 -- ---- blocks
 
-block : (bytes : List ℕ) → AreBytes bytes → IsBlock (padded (take 2048 bytes))
+block : (bytes : List ℕ) → AreBytes bytes → IsBlock (padded (take BLOCK_BYTES bytes))
 block bytes all =
-    let text = take 2048 bytes in
+    let text = take BLOCK_BYTES bytes in
     record {
-      size = omega (arith, length-append text (replicate (2048 - length text) 0), length-replicate {A = ℕ} (2048 - length text) 0, length-take 2048 bytes);
-      bytes = both text (replicate (2048 - length text) 0) (front 2048 bytes all) (noughts (2048 - length text));
+      size = omega (arith, length-append text (replicate (BLOCK_BYTES - length text) 0), length-replicate {A = ℕ} (BLOCK_BYTES - length text) 0, length-take BLOCK_BYTES bytes);
+      bytes = both text (replicate (BLOCK_BYTES - length text) 0) (front BLOCK_BYTES bytes all) (noughts (BLOCK_BYTES - length text));
     }
 
 blocked_bytes : (count : ℕ) (bytes : List ℕ) → AreBytes bytes → All IsBlock (blocked count bytes)
 blocked_bytes zero bytes all k d lt = absurd (omega arith)
 blocked_bytes (suc count) bytes all zero d lt = block bytes all
-blocked_bytes (suc count) bytes all (suc k) d lt = blocked_bytes count (drop 2048 bytes) (back 2048 bytes all) k d (omega (arith, lt))
+blocked_bytes (suc count) bytes all (suc k) d lt = blocked_bytes count (drop BLOCK_BYTES bytes) (back BLOCK_BYTES bytes all) k d (omega (arith, lt))
 
 kind_small : (k : Kind) → characteristics_of k < 256
 kind_small File = omega arith

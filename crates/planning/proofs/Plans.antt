@@ -3,6 +3,7 @@ use Rattle.std.proofs.Common.{◌≡◌, ℕ, zero, suc, ◌+◌, ◌<◌, List,
 use Rattle.std.specs.Prelude.{slice_get, Some}
 use Rattle.std.specs.Int.{div_ceil}
 use Rattle.std.proofs.lemmas.List.{length-replicate}
+use Rattle.limits.specs.declared.TheConstants.{BLOCK_BYTES}
 use Rattle.durability.specs.Formats.{Block}
 use Rattle.durability.specs.Plan.{zeros, packed, Writing, Written, WritesNode, WritesNodes}
 use Rattle.durability.proofs.Packed.{length-packed}
@@ -19,7 +20,7 @@ use Rattle.planning.specs.Writings.{directory_writing}
 use Rattle.planning.proofs.Writings.{writes_one, writes-append}
 
 -- blocks of zeros, and bytes after them
-pub length-padded : (gap : ℕ) (bytes : List ℕ) → length (replicate gap zeros ++ packed bytes) ≡ gap + div_ceil (length bytes) 2048
+pub length-padded : (gap : ℕ) (bytes : List ℕ) → length (replicate gap zeros ++ packed bytes) ≡ gap + div_ceil (length bytes) BLOCK_BYTES
 length-padded gap bytes = omega (arith, length-append (replicate gap zeros) (packed bytes), length-replicate {A = List ℕ} gap zeros, length-packed bytes)
 
 -- ---- one directory more

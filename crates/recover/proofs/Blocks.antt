@@ -7,6 +7,7 @@ use Rattle.std.proofs.lemmas.Bool.{cases_lt}
 use Rattle.std.proofs.lemmas.Grind.{flat_map-append}
 use Rattle.std.proofs.lemmas.List.{append-nil, get_or-drop, take_all, take_more}
 use Rattle.std.proofs.lemmas.Option.{slice_get_within, get_or_from_slice_get}
+use Rattle.limits.specs.declared.TheConstants.{BLOCK_BYTES}
 use Rattle.recover.specs.Blocks.{blocks_at}
 
 pub blocks_more : (M : List (List ℕ)) (at i : ℕ) (block : List ℕ) → slice_get M (at + i) ≡ Some block → blocks_at M at (i + 1) ≡ blocks_at M at i ++ block ∷ []
@@ -18,7 +19,7 @@ blocks_more M at i block there =
 -- the first `size` bytes of so many blocks, each of 2,048 bytes
 pub record Gathered (M : List (List ℕ)) (at i size : ℕ) (bytes : List ℕ) : Type 0 where
   pub bytes_are : bytes ≡ take size (flat_map (λ b. b) (blocks_at M at i))
-  pub long : length (flat_map (λ b. b) (blocks_at M at i)) ≡ 2048 * i
+  pub long : length (flat_map (λ b. b) (blocks_at M at i)) ≡ BLOCK_BYTES * i
 
 take_over : (n : ℕ) (xs ys : List ℕ) → length xs ≤ n → take n (xs ++ ys) ≡ take n xs ++ take (n - length xs) ys
 take_over n xs ys le =
@@ -33,8 +34,8 @@ take_least n m ys e =
     ]
 
 -- a read adds the block's bytes up to the end
-pub bytes_more : (M : List (List ℕ)) (at i size : ℕ) (block bytes : List ℕ) → length block ≡ 2048 → slice_get M (at + i) ≡ Some block → 2048 * i ≤ size
-    → Gathered M at i size bytes → Gathered M at (i + 1) size (bytes ++ take (min (size - i * 2048) 2048) block)
+pub bytes_more : (M : List (List ℕ)) (at i size : ℕ) (block bytes : List ℕ) → length block ≡ BLOCK_BYTES → slice_get M (at + i) ≡ Some block → BLOCK_BYTES * i ≤ size
+    → Gathered M at i size bytes → Gathered M at (i + 1) size (bytes ++ take (min (size - i * BLOCK_BYTES) BLOCK_BYTES) block)
 bytes_more M at i size block bytes long there inside h =
     let blocks = blocks_more M at i block there in
     let whole : flat_map (λ (b : List ℕ). b) (blocks_at M at (i + 1)) ≡ flat_map (λ (b : List ℕ). b) (blocks_at M at i) ++ block =
@@ -42,8 +43,8 @@ bytes_more M at i size block bytes long there inside h =
     record {
       bytes_are =
           let left = take_over size (flat_map (λ (b : List ℕ). b) (blocks_at M at i)) block (omega (arith, h.long)) in
-          let rest : take (min (size - i * 2048) 2048) block ≡ take (size - length (flat_map (λ (b : List ℕ). b) (blocks_at M at i))) block =
-          take_least (size - i * 2048) 2048 block long ∙ ap (λ k. take k block) (omega (arith, h.long)) in
+          let rest : take (min (size - i * BLOCK_BYTES) BLOCK_BYTES) block ≡ take (size - length (flat_map (λ (b : List ℕ). b) (blocks_at M at i))) block =
+          take_least (size - i * BLOCK_BYTES) BLOCK_BYTES block long ∙ ap (λ k. take k block) (omega (arith, h.long)) in
           cc (h.bytes_are, left, rest, ap (take size) whole);
       long = ap length whole ∙ (length-append (flat_map (λ (b : List ℕ). b) (blocks_at M at i)) block ∙ omega (arith, h.long, long));
     }

@@ -2,6 +2,7 @@
 use Rattle.std.proofs.Common.{◌≡◌, ℕ, ◌+◌, ◌<◌, ◌≤◌, List, take, length, Option, Some, None, refl, sym, subst, ◌∙◌, arith, length-take}
 use Rattle.std.specs.Prelude.{IfSome}
 use Rattle.std.proofs.lemmas.Option.{slice_get_within}
+use Rattle.limits.specs.declared.TheConstants.{PARTITION_START}
 use Rattle.drive.specs.Journal.{Event, held, next_of}
 use Rattle.dir.specs.declared.entry.Entry.{Entry as DirEntry}
 use Rattle.dir.specs.declared.entry.Kind.TheVariants.{File}
@@ -47,23 +48,23 @@ higher H top at entry_at node low (body, entry, below) =
 
 module _ (J : List Event) (before after : Walk) (file : CheckedFile) (seen : IsFileSeen (held J) file) where
   visits_file : before.at ≤ next_of J → (child : Named) → child.kind ≡ File → child.address ≡ file.address → child.unique ≡ file.unique → child.depth ≤ 16
-      → LeadsTo before.entries.now file.address (file.number + 257) → file.top ≤ before.at → file.unique < before.next_unique
+      → LeadsTo before.entries.now file.address (file.number + PARTITION_START) → file.top ≤ before.at → file.unique < before.next_unique
       → InsertsNumber (reached_in before) file.address (reached_in after) → InsertsNumber (uniques_in before) file.unique (uniques_in after)
       → Tallied before.files 1 after.files → after.directories ≡ before.directories → Visits (nodes_of J before) before after child
   visits_file within child kind address unique deep leads low drawn reached uniques files directories =
       let long : before.at ≤ length (take before.at (held J)) = omega (arith, length-take before.at (held J), length-held J, within) in
-      let (body, entry, below) = higher (held J) file.top before.at (file.number + 257) child low (seen.has child kind address unique) in
-      let there = subst (λ (a : ℕ). LeadsTo before.entries.now a (file.number + 257)) (sym address) leads in
+      let (body, entry, below) = higher (held J) file.top before.at (file.number + PARTITION_START) child low (seen.has child kind address unique) in
+      let there = subst (λ (a : ℕ). LeadsTo before.entries.now a (file.number + PARTITION_START)) (sym address) leads in
       let is_drawn : IsAssigned before.next_unique child.address child.unique =
       (λ one. absurd (seen.is_no_root (sym address ∙ one)), λ other. (let d = seen.drawn in omega (arith, d, unique), omega (arith, drawn, unique))) in
       file_visits (nodes_of J before) before after child (reached_in after) (uniques_in after)
-      (file_seen (take before.at (held J)) before.entries.now child body (file.number + 257) there entry before.at long kind below) kind deep is_drawn
+      (file_seen (take before.at (held J)) before.entries.now child body (file.number + PARTITION_START) there entry before.at long kind below) kind deep is_drawn
       (subst (λ (a : ℕ). InsertsNumber (reached_in before) a (reached_in after)) (sym address) reached) (λ x. refl)
       (subst (λ (u : ℕ). InsertsNumber (uniques_in before) u (uniques_in after)) (sym unique) uniques) (λ x. refl)
       files (omega (arith, directories), (λ lt. omega (arith, directories)), omega (arith, directories))
 
 pub visits_name : (J : List Event) (before after : Walk) (file : CheckedFile) (entries : List (List ℕ × DirEntry)) (index depth : ℕ) → IsNameSeen (held J) entries index file
-    → before.at ≤ next_of J → depth < 16 → LeadsTo before.entries.now file.address (file.number + 257) → file.top ≤ before.at → file.unique < before.next_unique
+    → before.at ≤ next_of J → depth < 16 → LeadsTo before.entries.now file.address (file.number + PARTITION_START) → file.top ≤ before.at → file.unique < before.next_unique
     → InsertsNumber (reached_in before) file.address (reached_in after) → InsertsNumber (uniques_in before) file.unique (uniques_in after)
     → Tallied before.files 1 after.files → after.directories ≡ before.directories → VisitsName (nodes_of J before) before after entries index (depth + 1)
 visits_name J before after file entries index depth named within deep leads low drawn reached uniques files directories = (

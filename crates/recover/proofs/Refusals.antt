@@ -7,6 +7,7 @@ use Rattle.std.specs.Cmp.Lexicographic.{pointwise}
 use Rattle.std.proofs.lemmas.Bool.{true≢false}
 use Rattle.std.proofs.lemmas.List.{length-take}
 use Rattle.std.proofs.lemmas.Option.{same_Some}
+use Rattle.limits.specs.declared.TheConstants.{BLOCK_BYTES, PARTITION_START}
 use Rattle.ecma.proofs.Faults.{no_fault}
 use Rattle.model.specs.Graph.{MakesTree}
 use Rattle.model.specs.Identities.{HasIdentities}
@@ -39,7 +40,7 @@ first_of Nowhere = 0
 first_of (Extent first) = first
 first_of (Inside bytes) = 0
 
-module _ (M : List (List ℕ)) (at : ℕ) (low : 257 ≤ at) (long : at < length M) where
+module _ (M : List (List ℕ)) (at : ℕ) (low : PARTITION_START ≤ at) (long : at < length M) where
   -- ---- the entry of the table
 
   no_table_entry : (block : List ℕ) (table : Table_) (moment : ℕ) → slice_get M at ≡ Some block → (HasVatIcb M at → ⊥) → HasTable udf (take at M) at block table moment → ⊥
@@ -50,8 +51,8 @@ module _ (M : List (List ℕ)) (at : ℕ) (low : 257 ≤ at) (long : at < length
     same_fields : h.fields ≡ said_fields (table_fields e)
     same_fields =
         let same = same_Some is.block block (sym is.there ∙ there) in
-        let said = (entries_agree (table_fields e) block (at - 257)).0 (subst (λ (b : List ℕ). udf.IsEntry (said_fields (table_fields e)) b (at - 257)) same ((entries_agree (table_fields e) is.block (at - 257)).0 is.is)) in
-        exact.entry block (at - 257) h.fields (said_fields (table_fields e)) h.entry said
+        let said = (entries_agree (table_fields e) block (at - PARTITION_START)).0 (subst (λ (b : List ℕ). udf.IsEntry (said_fields (table_fields e)) b (at - PARTITION_START)) same ((entries_agree (table_fields e) is.block (at - PARTITION_START)).0 is.is)) in
+        exact.entry block (at - PARTITION_START) h.fields (said_fields (table_fields e)) h.entry said
 
     same_first : h.first ≡ e.first
     unfolding first_of
@@ -67,14 +68,14 @@ module _ (M : List (List ℕ)) (at : ℕ) (low : 257 ≤ at) (long : at < length
         omega (arith, within, l, long)
 
     -- its data
-    pub told_table : udf.IsTable table (at - 257) (table_data_of M e)
+    pub told_table : udf.IsTable table (at - PARTITION_START) (table_data_of M e)
     told_table =
         let below = data_below in
-        let part = part_below (e.first + 257) (div_ceil e.size 2048) at M below in
+        let part = part_below (e.first + PARTITION_START) (div_ceil e.size BLOCK_BYTES) at M below in
         let same : bytes_in_blocks e.size (extent (take at M) e.first e.size) ≡ table_data_of M e = ap (λ (blocks : List (List ℕ)). take e.size (flat_map (λ b. b) blocks)) part in
-        subst (udf.IsTable table (at - 257)) same
-        (subst (λ (n : ℕ). udf.IsTable table (at - 257) (bytes_in_blocks e.size (extent (take at M) n e.size))) same_first
-        (subst (λ (n : ℕ). udf.IsTable table (at - 257) (bytes_in_blocks n (extent (take at M) h.first n))) same_size h.is))
+        subst (udf.IsTable table (at - PARTITION_START)) same
+        (subst (λ (n : ℕ). udf.IsTable table (at - PARTITION_START) (bytes_in_blocks e.size (extent (take at M) n e.size))) same_first
+        (subst (λ (n : ℕ). udf.IsTable table (at - PARTITION_START) (bytes_in_blocks n (extent (take at M) h.first n))) same_size h.is))
 
   -- a table that is there is not refused
   pub entry_is_read : (block : List ℕ) (table : Table_) (moment : ℕ) → slice_get M at ≡ Some block → HasTable udf (take at M) at block table moment → (b c : ℕ) → IsEntryRefused M at (Damaged b c) → ⊥
@@ -85,10 +86,10 @@ module _ (M : List (List ℕ)) (at : ℕ) (low : 257 ≤ at) (long : at < length
       ]
 
   pub table_is_read : (block : List ℕ) (table : Table_) (moment : ℕ) → slice_get M at ≡ Some block → HasTable udf (take at M) at block table moment → (e : TableEntry) → IsEntryAt M at e
-      → (b c : ℕ) → IsTableRefused (at - 257) e (table_data_of M e) (Damaged b c) → ⊥
+      → (b c : ℕ) → IsTableRefused (at - PARTITION_START) e (table_data_of M e) (Damaged b c) → ⊥
   table_is_read block table moment there h e is b c r =
       let told = told_table e is block table moment there h in
-      no_fault (table_rules (at - 257) (table_data_of M e)) r.1 r.3 (rules_hold (at - 257) (table_of told.0 table) (table_data_of M e) told.1)
+      no_fault (table_rules (at - PARTITION_START) (table_data_of M e)) r.1 r.3 (rules_hold (at - PARTITION_START) (table_of told.0 table) (table_data_of M e) told.1)
 
   pub entry_refused : (capacity : ℕ) (fault : StoreFault) → IsEntryRefused M at fault → IsStateRefused capacity M at fault
   entry_refused capacity Device r = tt
@@ -97,20 +98,20 @@ module _ (M : List (List ℕ)) (at : ℕ) (low : 257 ≤ at) (long : at < length
 
   -- ---- the volume header
 
-  told_front : (capacity volume : ℕ) (block : List ℕ) (said : ModelState) (tells : Describes udf capacity volume (take at M) at block said) → IsFront tells.table.label tells.formatted volume (take 257 M)
-  told_front capacity volume block said tells = subst (IsFront tells.table.label tells.formatted volume) (part_below 0 257 at M low) tells.front
+  told_front : (capacity volume : ℕ) (block : List ℕ) (said : ModelState) (tells : Describes udf capacity volume (take at M) at block said) → IsFront tells.table.label tells.formatted volume (take PARTITION_START M)
+  told_front capacity volume block said tells = subst (IsFront tells.table.label tells.formatted volume) (part_below 0 PARTITION_START at M low) tells.front
 
-  pub front_refused : (capacity : ℕ) (fault : StoreFault) → IsFrontRefused (take 257 M) fault → IsStateRefused capacity M at fault
+  pub front_refused : (capacity : ℕ) (fault : StoreFault) → IsFrontRefused (take PARTITION_START M) fault → IsStateRefused capacity M at fault
   front_refused capacity Device r = tt
   front_refused capacity (Damaged b c) r = λ volume block said there tells. r.1 tells.table.label tells.formatted volume (told_front capacity volume block said tells)
   front_refused capacity _ r = absurd r
 
-  module _ (label : List ℕ) (formatted size : ℕ) (front : IsFront label formatted size (take 257 M)) (capacity volume : ℕ) (block : List ℕ) (said : ModelState)
+  module _ (label : List ℕ) (formatted size : ℕ) (front : IsFront label formatted size (take PARTITION_START M)) (capacity volume : ℕ) (block : List ℕ) (said : ModelState)
       (tells : Describes udf capacity volume (take at M) at block said) where
     one_front : ◌≡◌ {A = Front} (record { label = tells.table.label; moment = tells.formatted; capacity = volume }) (record { label = label; moment = formatted; capacity = size })
     one_front =
-        one_told _ _ _ _ (front_tells (record { label = tells.table.label; moment = tells.formatted; capacity = volume }) (take 257 M) (told_front capacity volume block said tells))
-        (front_tells (record { label = label; moment = formatted; capacity = size }) (take 257 M) front)
+        one_told _ _ _ _ (front_tells (record { label = tells.table.label; moment = tells.formatted; capacity = volume }) (take PARTITION_START M) (told_front capacity volume block said tells))
+        (front_tells (record { label = label; moment = formatted; capacity = size }) (take PARTITION_START M) front)
 
     one_label : tells.table.label ≡ label
     one_label = ap (λ (f : Front). f.label) one_front
@@ -122,7 +123,7 @@ module _ (M : List (List ℕ)) (at : ℕ) (low : 257 ≤ at) (long : at < length
     one_capacity = ap (λ (f : Front). f.capacity) one_front
 
   -- a volume that is larger than the drive
-  pub too_large : (label : List ℕ) (formatted size capacity : ℕ) → IsFront label formatted size (take 257 M) → capacity < size → DescribesNoState capacity M at
+  pub too_large : (label : List ℕ) (formatted size capacity : ℕ) → IsFront label formatted size (take PARTITION_START M) → capacity < size → DescribesNoState capacity M at
   too_large label formatted size capacity front lt volume block said there tells =
       let same = one_capacity label formatted size front capacity volume block said tells in
       let fits = tells.fits in
@@ -130,18 +131,18 @@ module _ (M : List (List ℕ)) (at : ℕ) (low : 257 ≤ at) (long : at < length
 
   -- ---- the table
 
-  pub no_table : (capacity : ℕ) (e : TableEntry) → IsEntryAt M at e → (fault : StoreFault) → IsTableRefused (at - 257) e (table_data_of M e) fault → IsStateRefused capacity M at fault
+  pub no_table : (capacity : ℕ) (e : TableEntry) → IsEntryAt M at e → (fault : StoreFault) → IsTableRefused (at - PARTITION_START) e (table_data_of M e) fault → IsStateRefused capacity M at fault
   no_table capacity e is Device r = tt
   no_table capacity e is Memory r = tt
   no_table capacity e is (Damaged b c) r = λ volume block said there tells. table_is_read block tells.table said.moment there tells.has e is b c r
   no_table capacity e is _ r = absurd r
 
-  module _ (e : TableEntry) (is : IsEntryAt M at e) (vat : Vat) (read : IsTableAt (at - 257) (view vat) (table_data_of M e)) (capacity volume : ℕ) (block : List ℕ) (said : ModelState)
+  module _ (e : TableEntry) (is : IsEntryAt M at e) (vat : Vat) (read : IsTableAt (at - PARTITION_START) (view vat) (table_data_of M e)) (capacity volume : ℕ) (block : List ℕ) (said : ModelState)
       (there : slice_get M at ≡ Some block) (tells : Describes udf capacity volume (take at M) at block said) where
     pub one_table : tells.table ≡ model_table (view vat)
-    one_table = exact.table (at - 257) (table_data_of M e) tells.table (model_table (view vat)) (told_table e is block tells.table said.moment there tells.has) (tables_agree (view vat) (at - 257) (table_data_of M e) read)
+    one_table = exact.table (at - PARTITION_START) (table_data_of M e) tells.table (model_table (view vat)) (told_table e is block tells.table said.moment there tells.has) (tables_agree (view vat) (at - PARTITION_START) (table_data_of M e) read)
 
-  module _ (e : TableEntry) (is : IsEntryAt M at e) (vat : Vat) (read : IsTableAt (at - 257) (view vat) (table_data_of M e)) (label : List ℕ) (formatted size : ℕ) (front : IsFront label formatted size (take 257 M)) (capacity : ℕ) where
+  module _ (e : TableEntry) (is : IsEntryAt M at e) (vat : Vat) (read : IsTableAt (at - PARTITION_START) (view vat) (table_data_of M e)) (label : List ℕ) (formatted size : ℕ) (front : IsFront label formatted size (take PARTITION_START M)) (capacity : ℕ) where
     -- labels that `!=` distinguishes
     pub other_label : (r : Bool) → r ≡ not (pointwise nat_eq vat.label label) → r ≡ true → DescribesNoState capacity M at
     other_label r is_not apart volume block said there tells =

@@ -5,6 +5,7 @@ use Rattle.std.specs.Int.{div_ceil}
 use Rattle.std.specs.FinMap.{get}
 use Rattle.std.proofs.lemmas.Bool.{false≢true, true≢false}
 use Rattle.std.proofs.lemmas.Option.{same_Some, slice_get_within}
+use Rattle.limits.specs.declared.TheConstants.{BLOCK_BYTES, PARTITION_START}
 use Rattle.dir.specs.declared.entry.Entry.{Entry as DirEntry}
 use Rattle.dir.specs.declared.entry.Kind.{Kind}
 use Rattle.dir.specs.declared.entry.Kind.TheVariants.{File, Directory}
@@ -50,18 +51,18 @@ file_links (Bytes bytes) kind d file = refl
 file_links (Entries parent entries) kind d file = absurd (true≢false (d ∙ ap is_directory file))
 
 module _ (M : List (List ℕ)) (at : ℕ) (long : length M ≤ at) where
-  file_within : (size : ℕ) (place : NodePlace) (bytes : List ℕ) → HoldsFile M size place bytes → IfSome (extent_in size (icb_place place)) (λ (e : Extent). e.first + 257 + div_ceil e.size 2048 ≤ at)
+  file_within : (size : ℕ) (place : NodePlace) (bytes : List ℕ) → HoldsFile M size place bytes → IfSome (extent_in size (icb_place place)) (λ (e : Extent). e.first + PARTITION_START + div_ceil e.size BLOCK_BYTES ≤ at)
   file_within size Nowhere bytes h = tt
   file_within size (MediumExtent first) bytes h = (let w = h.0 in omega (arith, w, long))
   file_within size (Inside inside) bytes h = tt
 
   directory_within : (size : ℕ) (place : NodePlace) (parent : ℕ) (entries : List Entry) → HoldsDirectory udf M size place parent entries
-      → IfSome (extent_in size (icb_place place)) (λ (e : Extent). e.first + 257 + div_ceil e.size 2048 ≤ at)
+      → IfSome (extent_in size (icb_place place)) (λ (e : Extent). e.first + PARTITION_START + div_ceil e.size BLOCK_BYTES ≤ at)
   directory_within size Nowhere parent entries h = tt
   directory_within size (MediumExtent first) parent entries h = (let w = h.0 in omega (arith, w, long))
   directory_within size (Inside inside) parent entries h = tt
 
-  body_within : (fields : NodeFields) (body : Body) → HoldsBody udf M fields body → IfSome (extent_in fields.size (icb_place fields.place)) (λ (e : Extent). e.first + 257 + div_ceil e.size 2048 ≤ at)
+  body_within : (fields : NodeFields) (body : Body) → HoldsBody udf M fields body → IfSome (extent_in fields.size (icb_place fields.place)) (λ (e : Extent). e.first + PARTITION_START + div_ceil e.size BLOCK_BYTES ≤ at)
   body_within fields (Bytes bytes) h = file_within fields.size fields.place bytes h.1
   body_within fields (Entries parent entries) h = directory_within fields.size fields.place parent entries h.1
 
@@ -104,10 +105,10 @@ module _ (M : List (List ℕ)) (before : Walk) (long : length M ≤ before.at) (
   is_entry : IsEntry fields node.address there.block
   is_entry = there.entry
 
-  one_lead : (entry_at : ℕ) → LeadsTo before.entries.now node.address entry_at → entry_at ≡ there.number + 257
+  one_lead : (entry_at : ℕ) → LeadsTo before.entries.now node.address entry_at → entry_at ≡ there.number + PARTITION_START
   one_lead entry_at leads =
       let number : leads.number ≡ there.number = same_Some leads.number there.number (same_Some (Some leads.number) (Some there.number) (sym leads.used ∙ there.used)) in
-      leads.is ∙ ap (λ n. n + 257) number
+      leads.is ∙ ap (λ n. n + PARTITION_START) number
 
   links_hold : e.stored.links ≡ links_in e.stored.body
   links_hold = makes.links path node.address e.stored e.reach e.there
@@ -135,8 +136,8 @@ module _ (M : List (List ℕ)) (before : Walk) (long : length M ≤ before.at) (
 
   pub is_reached : ((entry_at : ℕ) → LeadsTo before.entries.now node.address entry_at → entry_at < before.at → ⊥) → ⊥
   is_reached none =
-      let within = slice_get_within M (there.number + 257) there.block there.there in
-      none (there.number + 257) (record { number = there.number; used = there.used; is = refl }) (omega (arith, within, long))
+      let within = slice_get_within M (there.number + PARTITION_START) there.block there.there in
+      none (there.number + PARTITION_START) (record { number = there.number; used = there.used; is = refl }) (omega (arith, within, long))
 
   module _ (entry_at : ℕ) (leads : LeadsTo before.entries.now node.address entry_at) where
     pub is_taken : ((body : ReadBody) → HasFileEntry M entry_at node body → IfSome body.extent (LiesBelow before.at) → ⊥) → ⊥
@@ -195,7 +196,7 @@ names_refused H before node entry_at leads body has kind x some below Device r =
 names_refused H before node entry_at leads body has kind x some below Memory r = tt
 names_refused H before node entry_at leads body has kind x some below (Damaged block cause) r = λ tree path is makes identities e.
     let long : length (take before.at H) ≤ before.at = (let l = length-take before.at H in omega (arith, l)) in
-    let same : extent (take before.at H) x.first x.size ≡ data_of H x = part_below (x.first + 257) (div_ceil x.size 2048) before.at H (let b = below.below in omega (arith, b)) in
+    let same : extent (take before.at H) x.first x.size ≡ data_of H x = part_below (x.first + PARTITION_START) (div_ceil x.size BLOCK_BYTES) before.at H (let b = below.below in omega (arith, b)) in
     has_names_there (take before.at H) before long node tree path is makes identities e entry_at leads body has kind x some (λ entries are directory links.
     r entries (subst (All IsBlock) same are) (subst (λ blocks. IsDirectory node.above entries x.first x.size blocks) same directory) links)
 names_refused H before node entry_at leads body has kind x some below _ r = absurd r

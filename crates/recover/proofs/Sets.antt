@@ -6,6 +6,7 @@ use Rattle.std.specs.Cmp.Lexicographic.{pointwise}
 use Rattle.std.proofs.lemmas.Map.Views.{exact_unsigned_eq}
 use Rattle.std.proofs.lemmas.List.{length-take}
 use Rattle.std.proofs.lemmas.Option.{same_Some, slice_get_within}
+use Rattle.limits.specs.declared.TheConstants.{PARTITION_START}
 use Rattle.icb.specs.declared.fault.IcbFault.{IcbFault}
 use Rattle.icb.specs.declared.set.FileSet.{FileSet}
 use Rattle.icb.specs.FileSet.{IsFileSet}
@@ -48,8 +49,8 @@ module _ (M : List (List ℕ)) (at : ℕ) (entries : List (Option ℕ)) (label :
   -- nothing below leads to one
   pub no_number : ((there : ℕ) → LeadsTo entries 0 there → at ≤ there) → HasFileSet (take at M) entries label moment → ⊥
   no_number none has =
-      let far = none (has.number + 257) (record { number = has.number; used = has.used; is = refl }) in
-      let near = slice_get_within (take at M) (has.number + 257) has.block has.there in
+      let far = none (has.number + PARTITION_START) (record { number = has.number; used = has.used; is = refl }) in
+      let near = slice_get_within (take at M) (has.number + PARTITION_START) has.block has.there in
       let l = length-take at M in
       omega (arith, far, near, l)
 
@@ -57,6 +58,6 @@ module _ (M : List (List ℕ)) (at : ℕ) (entries : List (Option ℕ)) (label :
   pub no_set : (set_at : ℕ) (block : List ℕ) → LeadsTo entries 0 set_at → slice_get (take at M) set_at ≡ Some block → (IsFileSet (record { label = label; moment = moment }) block → ⊥) → HasFileSet (take at M) entries label moment → ⊥
   no_set set_at block leads there never has =
       let number : leads.number ≡ has.number = same_Some leads.number has.number (same_Some (Some leads.number) (Some has.number) (sym leads.used ∙ has.used)) in
-      let same : set_at ≡ has.number + 257 = leads.is ∙ ap (λ n. n + 257) number in
+      let same : set_at ≡ has.number + PARTITION_START = leads.is ∙ ap (λ n. n + PARTITION_START) number in
       let blocks : has.block ≡ block = same_Some has.block block (sym has.there ∙ subst (λ n. slice_get (take at M) n ≡ Some block) same there) in
       never (subst (IsFileSet (record { label = label; moment = moment })) blocks has.is)

@@ -6,7 +6,7 @@ use Rattle.std.specs.Cmp.Lexicographic.{pointwise}
 use Rattle.std.proofs.lemmas.Bool.{true≢false}
 use Rattle.std.proofs.lemmas.List.{length-take}
 use Rattle.std.proofs.lemmas.Option.{same_Some}
-use Rattle.limits.specs.declared.TheConstants.{NODES}
+use Rattle.limits.specs.declared.TheConstants.{BLOCK_BYTES, NODES, PARTITION_START}
 use Rattle.dir.specs.declared.entry.Kind.TheVariants.{Directory}
 use Rattle.dir.specs.Directory.{is_directory}
 use Rattle.model.specs.Graph.{IsFunctional}
@@ -132,22 +132,22 @@ tree_refused medium at vat before node none_reached none_unique kind address uni
 
 -- the table of an entry that was read, on the blocks below it
 pub has_table : (medium : List (List ℕ)) (at : ℕ) (entry : TableEntry) (is : IsEntryAt medium at entry) (read : Table) → at ≤ length medium → HasDataBelow at entry
-    → IsTableAt (at - 257) read (table_data_of medium entry) → HasTable udf (take at medium) at is.block (model_table read) entry.moment
+    → IsTableAt (at - PARTITION_START) read (table_data_of medium entry) → HasTable udf (take at medium) at is.block (model_table read) entry.moment
 has_table medium at entry is read long below table = record {
   fields = said_fields (table_fields entry);
   kind = refl;
-  entry = (entries_agree (table_fields entry) is.block (at - 257)).0 is.is;
+  entry = (entries_agree (table_fields entry) is.block (at - PARTITION_START)).0 is.is;
   moment_is = refl;
   first = entry.first;
   place = refl;
   within = (let l = length-take at medium in omega (arith, l, long, below));
   is =
-      let part = part_below (entry.first + 257) (div_ceil entry.size 2048) at medium below in
+      let part = part_below (entry.first + PARTITION_START) (div_ceil entry.size BLOCK_BYTES) at medium below in
       let same : table_data_of medium entry ≡ bytes_in_blocks entry.size (extent (take at medium) entry.first entry.size) = ap (λ (blocks : List (List ℕ)). take entry.size (flat_map (λ b. b) blocks)) (sym part) in
-      tables_agree read (at - 257) _ (subst (IsTableAt (at - 257) read) same table);
+      tables_agree read (at - PARTITION_START) _ (subst (IsTableAt (at - PARTITION_START) read) same table);
 }
 
-pub is_shown : (capacity : ℕ) (medium : List (List ℕ)) (at : ℕ) (state : State) → 257 ≤ at → at < length medium → IsDescribed capacity medium at state
+pub is_shown : (capacity : ℕ) (medium : List (List ℕ)) (at : ℕ) (state : State) → PARTITION_START ≤ at → at < length medium → IsDescribed capacity medium at state
     → CountsTree (take at medium) state.vat → HasPlausibleCounts at state.vat → IsShown capacity medium at state
 is_shown capacity medium at state low long described tree counted =
     let entry = described.entry in
@@ -175,7 +175,7 @@ is_shown capacity medium at state low long described tree counted =
         records = refl;
         table_length = refl;
         formatted = formatted;
-        front = subst (λ (l : List ℕ). IsFront l formatted state.capacity (take 257 (take at medium))) (sym label) (subst (IsFront state.label formatted state.capacity) (sym (part_below 0 257 at medium low)) front);
+        front = subst (λ (l : List ℕ). IsFront l formatted state.capacity (take PARTITION_START (take at medium))) (sym label) (subst (IsFront state.label formatted state.capacity) (sym (part_below 0 PARTITION_START at medium low)) front);
         fits = described.fits;
         set_number = set.number;
         set_used = set.used;
@@ -204,7 +204,7 @@ last_stands capacity medium at state shown (low, here, none) =
       block = shown.block;
       last = record {
         there = shown.there;
-        is = (imitation_agrees shown.block at).1 (low, subst (λ (b : List ℕ). IsVatIcb b (at - 257)) same here.is);
+        is = (imitation_agrees shown.block at).1 (low, subst (λ (b : List ℕ). IsVatIcb b (at - PARTITION_START)) same here.is);
         no_later = λ later other lt there is. none later (omega (arith, lt)) (record { block = other; there = there; is = ((imitation_agrees other later).0 is).1 });
       };
       tells = shown.tells;

@@ -3,6 +3,7 @@ use Rattle.std.proofs.Common.{◌≡◌, ℕ, ◌+◌, ◌-◌, ◌≤◌, ◌<�
 use Rattle.std.specs.Prelude.{IfSome, slice_get}
 use Rattle.std.proofs.lemmas.Bool.{cases_lt}
 use Rattle.std.proofs.lemmas.Option.{same_Some, slice_get_within}
+use Rattle.limits.specs.declared.TheConstants.{PARTITION_START}
 use Rattle.ecma.specs.FirstFault.{IsFirst, AllHold}
 use Rattle.icb.specs.declared.entry.FileEntry.{FileEntry}
 use Rattle.icb.specs.declared.entry.Kind.{Kind}
@@ -21,7 +22,7 @@ use Rattle.recover.specs.declared.table.TableEntry.{TableEntry}
 use Rattle.recover.specs.Tables.{HasDataBelow, HasVatIcb, HasNoneFrom, HasTableAt, IsEntryAt, IsEntryRefused, IsTableRefused, table_data_of}
 
 -- a number below that of a VAT ICB lies below the entry's address
-pub below_entry : (previous : Option ℕ) (at : ℕ) → 257 ≤ at → IfSome previous (λ p. p < at - 257) → IfSome previous (λ p. p + 257 < at)
+pub below_entry : (previous : Option ℕ) (at : ℕ) → PARTITION_START ≤ at → IfSome previous (λ p. p < at - PARTITION_START) → IfSome previous (λ p. p + PARTITION_START < at)
 below_entry None at low h = tt
 below_entry (Some p) at low h = omega arith
 
@@ -32,11 +33,11 @@ none_after M n long at from h = let within : at < length M = slice_get_within M 
 pub none_above : (M : List (List ℕ)) (n m : ℕ) → n ≤ m → HasNoneFrom M n → HasNoneFrom M m
 none_above M n m le none at from h = none at (omega arith) h
 
-none_here : (M : List (List ℕ)) (at : ℕ) (block : List ℕ) → slice_get M at ≡ Some block → (IsVatIcb block (at - 257) → ⊥) → HasVatIcb M at → ⊥
-none_here M at block there never h = never (subst (λ (b : List ℕ). IsVatIcb b (at - 257)) (same_Some h.block block (sym h.there ∙ there)) h.is)
+none_here : (M : List (List ℕ)) (at : ℕ) (block : List ℕ) → slice_get M at ≡ Some block → (IsVatIcb block (at - PARTITION_START) → ⊥) → HasVatIcb M at → ⊥
+none_here M at block there never h = never (subst (λ (b : List ℕ). IsVatIcb b (at - PARTITION_START)) (same_Some h.block block (sym h.there ∙ there)) h.is)
 
 -- a block that is no entry, before those after it
-pub none_more : (M : List (List ℕ)) (at : ℕ) (block : List ℕ) → slice_get M at ≡ Some block → (IsVatIcb block (at - 257) → ⊥) → HasNoneFrom M (at + 1) → HasNoneFrom M at
+pub none_more : (M : List (List ℕ)) (at : ℕ) (block : List ℕ) → slice_get M at ≡ Some block → (IsVatIcb block (at - PARTITION_START) → ⊥) → HasNoneFrom M (at + 1) → HasNoneFrom M at
 none_more M at block there never none other from h =
     elim (cases_lt at other) [
       | inl lt ↦ none other (omega arith) h
@@ -48,22 +49,22 @@ pub fields_are : (k : Kind) (m l u s : ℕ) (p : Place) (first : ℕ) → k ≡ 
 fields_are k m l u s p first a b c d = cc
 
 -- the entry that was read
-pub is_entry_at : (M : List (List ℕ)) (at : ℕ) (block : List ℕ) (e : FileEntry) (first : ℕ) → slice_get M at ≡ Some block → IsEntry (fields_of e) (at - 257) block
+pub is_entry_at : (M : List (List ℕ)) (at : ℕ) (block : List ℕ) (e : FileEntry) (first : ℕ) → slice_get M at ≡ Some block → IsEntry (fields_of e) (at - PARTITION_START) block
     → e.kind ≡ kinds.Vat → place_of e.place ≡ Extent first → IsEntryAt M at (record { moment = e.moment; first = first; size = e.size })
 is_entry_at M at block e first there is kind place =
     let none = is.fits.vat kind in
     record {
       block = block;
       there = there;
-      is = subst (λ (f : Fields). IsEntry f (at - 257) block) (fields_are e.kind e.moment e.links e.unique e.size (place_of e.place) first kind none.0 none.1 place) is;
+      is = subst (λ (f : Fields). IsEntry f (at - PARTITION_START) block) (fields_are e.kind e.moment e.links e.unique e.size (place_of e.place) first kind none.0 none.1 place) is;
     }
 
 -- a block that is no entry at all
-pub no_entry : (M : List (List ℕ)) (at : ℕ) (block : List ℕ) → slice_get M at ≡ Some block → ((f : Fields) → IsEntry f (at - 257) block → ⊥) → IsEntryRefused M at (Damaged at 78)
+pub no_entry : (M : List (List ℕ)) (at : ℕ) (block : List ℕ) → slice_get M at ≡ Some block → ((f : Fields) → IsEntry f (at - PARTITION_START) block → ⊥) → IsEntryRefused M at (Damaged at 78)
 no_entry M at block there never = (refl, inl (refl, none_here M at block there (λ v. never v.fields v.entry)))
 
 -- the entry of a node
-pub other_entry : (M : List (List ℕ)) (at : ℕ) (block : List ℕ) (e : FileEntry) → slice_get M at ≡ Some block → ((f : Fields) → IsEntry f (at - 257) block → fields_of e ≡ f)
+pub other_entry : (M : List (List ℕ)) (at : ℕ) (block : List ℕ) (e : FileEntry) → slice_get M at ≡ Some block → ((f : Fields) → IsEntry f (at - PARTITION_START) block → fields_of e ≡ f)
     → (e.kind ≡ kinds.Vat → ⊥) → IsEntryRefused M at (Damaged at 78)
 other_entry M at block e there only never =
     (refl, inl (refl, none_here M at block there (λ v. never (ap (λ (f : Fields). f.kind) (only v.fields v.entry) ∙ v.kind))))
@@ -74,15 +75,15 @@ far_entry M at e is far = (refl, inr (refl, e, is, far))
 
 -- the decoder's first fault
 pub table_refused : (icb : ℕ) (e : TableEntry) (bytes stored : List ℕ) (fault : VatFault) (cause : ℕ) → bytes ≡ stored → cause ≡ number_of_fault fault → (fault ≡ vat_faults.Memory → ⊥)
-    → (IsFirst (table_rules icb bytes) fault ⊎ ((fault ≡ vat_faults.Memory) × AllHold (table_rules icb bytes))) → IsTableRefused icb e stored (Damaged (e.first + 257) cause)
+    → (IsFirst (table_rules icb bytes) fault ⊎ ((fault ≡ vat_faults.Memory) × AllHold (table_rules icb bytes))) → IsTableRefused icb e stored (Damaged (e.first + PARTITION_START) cause)
 table_refused icb e bytes stored fault cause same number never told =
     let first : IsFirst (table_rules icb bytes) fault = elim told [ inl first ↦ first | inr memory ↦ absurd (never memory.0) ] in
     (refl, fault, number, subst (λ (b : List ℕ). IsFirst (table_rules icb b) fault) same first)
 
 -- a table that was read, by its entry
 pub has_table : (M : List (List ℕ)) (at : ℕ) (e : TableEntry) (t : Table) (bytes : List ℕ) → IsEntryAt M at e → HasDataBelow at e → bytes ≡ table_data_of M e
-    → IsTableAt (at - 257) t bytes → HasTableAt M at t
-has_table M at e t bytes is below same table = record { entry = e; is_entry = is; below = below; is = subst (IsTableAt (at - 257) t) same table }
+    → IsTableAt (at - PARTITION_START) t bytes → HasTableAt M at t
+has_table M at e t bytes is below same table = record { entry = e; is_entry = is; below = below; is = subst (IsTableAt (at - PARTITION_START) t) same table }
 
 -- bytes that are nowhere or inside an entry are a file's
 pub nowhere_is_file : (kind : Kind) (size : ℕ) (place : source.Place) → FitsPlace kind size (place_of place) → place ≡ source_places.None → kind ≡ kinds.Vat → ⊥

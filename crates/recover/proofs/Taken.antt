@@ -3,7 +3,7 @@ use Rattle.std.proofs.Common.{◌≡◌, ℕ, ◌+◌, ◌<◌, ◌≤◌, false
 use Rattle.std.specs.Prelude.{IfSome, count_by, slice_get, All}
 use Rattle.std.specs.Int.{div_ceil}
 use Rattle.std.proofs.lemmas.Option.{same_Some}
-use Rattle.limits.specs.declared.TheConstants.{PARTITION_BLOCKS}
+use Rattle.limits.specs.declared.TheConstants.{BLOCK_BYTES, PARTITION_BLOCKS, PARTITION_START}
 use Rattle.dir.specs.declared.entry.Entry.{Entry as DirEntry}
 use Rattle.dir.specs.declared.entry.Kind.TheVariants.{File}
 use Rattle.dir.specs.Directory.{IsDirectory}
@@ -29,7 +29,7 @@ use Rattle.recover.proofs.Walks.{links_said}
 
 -- ---- an entry
 
-pub ends_below : (at : ℕ) (o : Option Extent) → IfSome o (LiesBelow at) → IfSome o (λ (e : Extent). e.first + 257 + div_ceil e.size 2048 ≤ at)
+pub ends_below : (at : ℕ) (o : Option Extent) → IfSome o (LiesBelow at) → IfSome o (λ (e : Extent). e.first + PARTITION_START + div_ceil e.size BLOCK_BYTES ≤ at)
 ends_below at None below = tt
 ends_below at (Some e) below = below.below
 

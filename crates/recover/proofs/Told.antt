@@ -2,6 +2,7 @@
 use Rattle.std.proofs.Common.{◌≡◌, ℕ, ◌-◌, ◌≤◌, inl, inr, List, take, Some, sym, ap, subst, ◌∙◌, arith}
 use Rattle.std.specs.Prelude.{slice_get}
 use Rattle.std.proofs.lemmas.Option.{same_Some, slice_get_within}
+use Rattle.limits.specs.declared.TheConstants.{PARTITION_START}
 use Rattle.icb.specs.Entry.{Fields as IcbFields, IsEntry}
 use Rattle.durability.specs.Formats.{Table_}
 use Rattle.durability.specs.Volume as volumes
@@ -24,7 +25,7 @@ module _ (M : List (List ℕ)) (at : ℕ) where
   pub record IsTableTold (table : Table_) : Type 0 where
     pub block : List ℕ
     pub moment : ℕ
-    pub low : 257 ≤ at
+    pub low : PARTITION_START ≤ at
     pub there : slice_get M at ≡ Some block
     pub has : volumes.HasTable udf (take at M) at block table moment
 
@@ -48,13 +49,13 @@ module _ (M : List (List ℕ)) (at : ℕ) where
       let none = h.entry.fits.vat (ap icb_kind_of h.kind) in
       let same : icb_fields h.fields ≡ table_fields e =
       fields_are (icb_kind_of h.fields.kind) h.fields.moment h.fields.links h.fields.identity h.fields.size (icb_place h.fields.place) h.first (ap icb_kind_of h.kind) none.0 none.1 (ap icb_place h.place) in
-      let entry : IsEntryAt M at e = record { block = is.block; there = is.there; is = subst (λ (f : IcbFields). IsEntry f (at - 257) is.block) same h.entry } in
+      let entry : IsEntryAt M at e = record { block = is.block; there = is.there; is = subst (λ (f : IcbFields). IsEntry f (at - PARTITION_START) is.block) same h.entry } in
       let within = slice_get_within M at is.block is.there in
       let bytes = told_table M at is.low within e entry is.block table is.moment is.there h in
       let t : Table = table_of bytes.0 table in (
         t,
         record { entry = e; is_entry = entry; below = data_below M at is.low within e entry is.block table is.moment is.there h; is = bytes.1 },
-        exact.table (at - 257) (table_data_of M e) (model_table t) table (tables_agree t (at - 257) (table_data_of M e) bytes.1) bytes,
+        exact.table (at - PARTITION_START) (table_data_of M e) (model_table t) table (tables_agree t (at - PARTITION_START) (table_data_of M e) bytes.1) bytes,
       )
 
   -- one table is described

@@ -9,6 +9,7 @@ use Rattle.std.proofs.lemmas.Bool.{false≢true}
 use Rattle.std.proofs.lemmas.List.{map-append, take_all, take_more}
 use Rattle.std.proofs.lemmas.List.Sums.{sum_by-cons}
 use Rattle.std.proofs.lemmas.Option.{get_or_from_slice_get, none-some, same_Some, slice_get_within}
+use Rattle.limits.specs.declared.TheConstants.{BLOCK_BYTES, PARTITION_START}
 use Rattle.drive.specs.Journal.{Event, held}
 use Rattle.icb.specs.Entry.{Place}
 use Rattle.icb.specs.Entry.Place.{Nowhere, Extent as IcbExtent, Inside}
@@ -172,7 +173,7 @@ module _ (M : List (List ℕ)) (at : ℕ) (long : at ≤ length M) where
       subst (λ (x : Extent). HoldsDirectory udf M x.size (said_place (IcbExtent x.first)) parent entries) (sym same) (omega (arith, b, long), is)
 
 module _ (M : List (List ℕ)) (table : List (Option ℕ)) (node : Named) (body : Body) (entry_at : ℕ) (leads : LeadsTo table node.address entry_at) (entry : HasFileEntry M entry_at node body) where
-  there_at : slice_get M (leads.number + 257) ≡ Some entry.block
+  there_at : slice_get M (leads.number + PARTITION_START) ≡ Some entry.block
   there_at = subst (λ i. slice_get M i ≡ Some entry.block) leads.is entry.there
 
   -- a file
@@ -231,7 +232,7 @@ module _ (H : List (List ℕ)) (table : List (Option ℕ)) (node : Named) (body 
   directory_seen long kind e some below directory names =
       let f = entry.fields in
       let es = directory.entries.entries in
-      let same : data_of H e ≡ extent (take at H) e.first e.size = sym (part_below (e.first + 257) (div_ceil e.size 2048) at H (let b = below.below in omega (arith, b))) in
+      let same : data_of H e ≡ extent (take at H) e.first e.size = sym (part_below (e.first + PARTITION_START) (div_ceil e.size BLOCK_BYTES) at H (let b = below.below in omega (arith, b))) in
       let are = subst (All IsBlock) same names.are in
       let is = subst (λ blocks. IsDirectory directory.parent es e.first e.size blocks) same names.is in
       let said = (directories_agree directory.parent e.first e.size es (extent (take at H) e.first e.size) are below.first).0 is in

@@ -3,6 +3,7 @@ use Rattle.std.proofs.Common.{◌≡◌, ℕ, zero, suc, ◌+◌, ◌-◌, ◌<�
 use Rattle.std.specs.Prelude.{IfSome, slice_get}
 use Rattle.std.proofs.lemmas.List.{length-take, take-take}
 use Rattle.std.proofs.lemmas.Option.{same_Some, slice_get_within}
+use Rattle.limits.specs.declared.TheConstants.{PARTITION_START}
 use Rattle.durability.specs.Formats.{Block, Table_}
 use Rattle.durability.specs.Volume.{IsVatIcbAt, LastTable, Medium, RecoversTo, RecoveredBefore, Describes}
 use Rattle.durability.specs.Volume as volumes
@@ -68,9 +69,9 @@ module _ (M : Medium) (at : ℕ) (N : Medium) (ends : EndsAt M at N) where
   }
 
   -- a prefix of it
-  cut : (number : ℕ) → number + 257 < at → EndsAt M (number + 257) (take (number + 258) N)
+  cut : (number : ℕ) → number + PARTITION_START < at → EndsAt M (number + PARTITION_START) (take (number + 258) N)
   cut number less = record {
-    same = take-take (number + 257 + 1) (number + 258) N (omega arith) ∙ part_same (number + 257 + 1) (omega (arith, less));
+    same = take-take (number + PARTITION_START + 1) (number + 258) N (omega arith) ∙ part_same (number + PARTITION_START + 1) (omega (arith, less));
     none = λ later other lt there is.
         let within = slice_get_within (take (number + 258) N) later other there in
         let long = length-take (number + 258) N in
@@ -79,10 +80,10 @@ module _ (M : Medium) (at : ℕ) (N : Medium) (ends : EndsAt M at N) where
 
 -- ---- one step of the chain
 
-link_less : (M : Medium) (at number : ℕ) (t : Table) → HasTableAt M at t → t.previous ≡ Some number → number + 257 < at
+link_less : (M : Medium) (at number : ℕ) (t : Table) → HasTableAt M at t → t.previous ≡ Some number → number + PARTITION_START < at
 link_less M at number t has link =
     let low = (told M at t has).low in
-    let less : number < at - 257 = subst (λ (p : Option ℕ). IfSome p (λ n. n < at - 257)) link has.is.previous in
+    let less : number < at - PARTITION_START = subst (λ (p : Option ℕ). IfSome p (λ n. n < at - PARTITION_START)) link has.is.previous in
     omega (arith, low, less)
 
 module _ (capacity volume : ℕ) (M : Medium) where
@@ -95,11 +96,11 @@ module _ (capacity volume : ℕ) (M : Medium) where
       let less = link_less M at number t has link in
       let earlier = cut M at N ends number less in
       let is_before = subst (λ (n : ℕ). HasTableAt M n u) there before in
-      let there_stood : StoodAt (number + 257) steps S = subst (λ (n : ℕ). StoodAt n steps S) there stood in (
+      let there_stood : StoodAt (number + PARTITION_START) steps S = subst (λ (n : ℕ). StoodAt n steps S) there stood in (
         last_in M at N ends (model_table t) (told M at t has),
         number,
         link,
-        last_in M (number + 257) (take (number + 258) N) earlier (model_table u) (told M (number + 257) u is_before),
+        last_in M (number + PARTITION_START) (take (number + 258) N) earlier (model_table u) (told M (number + PARTITION_START) u is_before),
         refl,
         fewer,
         there_stood (take (number + 258) N) earlier,
@@ -113,9 +114,9 @@ module _ (capacity volume : ℕ) (M : Medium) where
       let is_link : t.previous ≡ Some previous = sym (ap (λ (x : Table_). x.previous) same) ∙ link in
       let less = link_less M at previous t has is_link in
       let earlier = cut M at N ends previous less in
-      let u = read M (previous + 257) before.table (last_told M (previous + 257) (take (previous + 258) N) earlier before there) in
+      let u = read M (previous + PARTITION_START) before.table (last_told M (previous + PARTITION_START) (take (previous + 258) N) earlier before there) in
       let commits : u.0.commits + 1 ≡ t.commits = ap (λ (x : Table_). x.commits + 1) u.2 ∙ fewer ∙ ap (λ (x : Table_). x.commits) same in
-      (previous + 257, (t, has, previous, is_link, refl, u.0, u.1, commits), take (previous + 258) N, earlier, stood)
+      (previous + PARTITION_START, (t, has, previous, is_link, refl, u.0, u.1, commits), take (previous + 258) N, earlier, stood)
 
   same_step : (at to other : ℕ) → IsBefore M at (Some to) → IsBefore M at (Some other) → to ≡ other
   same_step at to other (t, has, number, link, there, u, before, fewer) (t', has', number', link', there', u', before', fewer') =
@@ -151,7 +152,7 @@ module _ (capacity volume : ℕ) (M : Medium) where
 
   -- ---- what is reported at an address
 
-  pub shown_stood : (at : ℕ) (state : State) → 257 ≤ at → (shown : IsShown capacity M at state) → state.capacity ≡ volume → StoodAt at 0 shown.said
+  pub shown_stood : (at : ℕ) (state : State) → PARTITION_START ≤ at → (shown : IsShown capacity M at state) → state.capacity ≡ volume → StoodAt at 0 shown.said
   shown_stood at state low shown size N ends =
       let has = shown.tells.has in
       record {

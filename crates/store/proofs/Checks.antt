@@ -4,6 +4,7 @@ use Rattle.std.proofs.Math.Seq.{get_or-append_seam}
 use Rattle.std.proofs.lemmas.List.{length-append}
 use Rattle.std.proofs.lemmas.List.Elements.{All-append, All-cons, All-nil}
 use Rattle.std.proofs.lemmas.Option.{none-some, same_Some}
+use Rattle.limits.specs.declared.TheConstants.{PARTITION_START}
 use Rattle.drive.specs.Journal.{Event, held}
 use Rattle.durability.specs.Formats.{Table_}
 use Rattle.model.specs.Session as model
@@ -35,11 +36,11 @@ pub record Seen (M : List (List ℕ)) (capacity at : ℕ) (t : Table) : Type 0 w
   pub left : (all : List Commit) → IsHistory M at all → IsLeftToCheck M t all
 
 -- what a link leads to, below the address of its VAT ICB
-pub link_within : (link : Option ℕ) (at : ℕ) → 257 ≤ at → IfSome link (λ n. n < at - 257) → IfSome link (λ n. n + 257 < at)
+pub link_within : (link : Option ℕ) (at : ℕ) → PARTITION_START ≤ at → IfSome link (λ n. n < at - PARTITION_START) → IfSome link (λ n. n + PARTITION_START < at)
 link_within None at low below = tt
 link_within (Some n) at low below = omega (arith, low, below)
 
-pub link_under : (link : Option ℕ) (number at : ℕ) → IfSome link (λ n. n < number + 257 - 257) → number + 257 < at → IfSome link (λ n. n + 257 < at)
+pub link_under : (link : Option ℕ) (number at : ℕ) → IfSome link (λ n. n < number + PARTITION_START - PARTITION_START) → number + PARTITION_START < at → IfSome link (λ n. n + PARTITION_START < at)
 link_under None number at less below = tt
 link_under (Some n) number at less below = omega (arith, less, below)
 
@@ -57,20 +58,20 @@ module _ (M : List (List ℕ)) (capacity at : ℕ) where
     left = λ all (u, there, earlier, is, chain). (report_of at u ∷ [], earlier, is, subst (λ (x : Table_). IsChain M x.previous x.commits earlier) (one_read M at u t there has) chain);
   }
 
-  next_left : (number : ℕ) (t u : Table) → t.previous ≡ Some number → HasTableAt M (number + 257) u → (all : List Commit) → IsLeftToCheck M t all → IsLeftToCheck M u all
+  next_left : (number : ℕ) (t u : Table) → t.previous ≡ Some number → HasTableAt M (number + PARTITION_START) u → (all : List Commit) → IsLeftToCheck M t all → IsLeftToCheck M u all
   next_left number t u link has all (before, rest, same, left) = by rest same left
     where
       by : (rest : List Commit) → all ≡ before ++ rest → IsChain M t.previous t.commits rest → IsLeftToCheck M u all
       by [] same (none, count) = absurd (none-some number (sym none ∙ link))
       by (c ∷ earlier) same (n, is, v, there, fewer, says, chain) =
           let place : n ≡ number = same_Some n number (sym is ∙ link) in
-          let one = one_read M (number + 257) v u (subst (λ (k : ℕ). HasTableAt M (k + 257) v) place there) has in
+          let one = one_read M (number + PARTITION_START) v u (subst (λ (k : ℕ). HasTableAt M (k + PARTITION_START) v) place there) has in
           (before ++ c ∷ [], earlier, same ∙ sym (append_assoc before (c ∷ []) earlier), subst (λ (x : Table_). IsChain M x.previous x.commits earlier) one chain)
 
-  pub next_seen : (number : ℕ) (t u : Table) → Seen M capacity at t → t.previous ≡ Some number → HasTableAt M (number + 257) u → u.commits + 1 ≡ t.commits → (state : State) → IsShown capacity M (number + 257) state
+  pub next_seen : (number : ℕ) (t u : Table) → Seen M capacity at t → t.previous ≡ Some number → HasTableAt M (number + PARTITION_START) u → u.commits + 1 ≡ t.commits → (state : State) → IsShown capacity M (number + PARTITION_START) state
       → Seen M capacity at u
   next_seen number t u so_far link has fewer state shown =
-      let c = report_of (number + 257) u in record {
+      let c = report_of (number + PARTITION_START) u in record {
         seen = so_far.seen ++ c ∷ [];
         goes = goes_on M at number t u so_far.seen (so_far.seen ++ c ∷ []) c so_far.goes link has fewer refl refl;
         shown = All-append IsAt so_far.seen (c ∷ []) so_far.shown (All-cons IsAt c [] (state, shown) (All-nil IsAt));
@@ -92,7 +93,7 @@ module _ (M : List (List ℕ)) (capacity at : ℕ) where
   )
   first_unseen _ r = absurd r
 
-  pub next_unseen : (number : ℕ) (t : Table) → Seen M capacity at t → t.previous ≡ Some number → (fault : StoreFault) → IsStateRefused capacity M (number + 257) fault → IsUnchecked capacity M at fault
+  pub next_unseen : (number : ℕ) (t : Table) → Seen M capacity at t → t.previous ≡ Some number → (fault : StoreFault) → IsStateRefused capacity M (number + PARTITION_START) fault → IsUnchecked capacity M at fault
   next_unseen number t so_far link Device r = tt
   next_unseen number t so_far link Memory r = tt
   next_unseen number t so_far link (Damaged b cause) r = λ all is. by all (so_far.left all is)
@@ -100,7 +101,7 @@ module _ (M : List (List ℕ)) (capacity at : ℕ) where
       by : (all : List Commit) → IsLeftToCheck M t all → HasUntold capacity M all
       by all (before, [], same, (none, count)) = absurd (none-some number (sym none ∙ link))
       by all (before, (c ∷ earlier), same, (n, is, v, there, fewer, says, chain)) =
-          let place : number + 257 ≡ c.vat_icb_address = ap (λ (k : ℕ). k + 257) (sym (same_Some n number (sym is ∙ link))) ∙ sym (ap (λ (e : Commit). e.vat_icb_address) says) in (
+          let place : number + PARTITION_START ≡ c.vat_icb_address = ap (λ (k : ℕ). k + PARTITION_START) (sym (same_Some n number (sym is ∙ link))) ∙ sym (ap (λ (e : Commit). e.vat_icb_address) says) in (
             length before,
             (let less : length before < length all = omega (arith, length-append before (c ∷ earlier), ap (λ (cs : List Commit). length cs) same) in less),
             λ d. subst (λ (cs : List Commit). DescribesNoState capacity M (slice_index_or cs (length before) d).vat_icb_address) (sym same)
@@ -109,14 +110,14 @@ module _ (M : List (List ℕ)) (capacity at : ℕ) where
   next_unseen number t so_far link _ r = absurd r
 
   -- a link that leads to no table of one commit less
-  pub link_unseen : (number : ℕ) (t u : Table) → Seen M capacity at t → t.previous ≡ Some number → HasTableAt M (number + 257) u → (u.commits + 1 ≡ t.commits → ⊥) → (b c : ℕ) → IsUnchecked capacity M at (Damaged b c)
+  pub link_unseen : (number : ℕ) (t u : Table) → Seen M capacity at t → t.previous ≡ Some number → HasTableAt M (number + PARTITION_START) u → (u.commits + 1 ≡ t.commits → ⊥) → (b c : ℕ) → IsUnchecked capacity M at (Damaged b c)
   link_unseen number t u so_far link has other b c = λ all is. by (so_far.left all is)
     where
       by : {all : List Commit} → IsLeftToCheck M t all → HasUntold capacity M all
       by (before, [], same, (none, count)) = absurd (none-some number (sym none ∙ link))
       by (before, (d ∷ earlier), same, (n, is, v, there, fewer, says, chain)) =
           let place : n ≡ number = same_Some n number (sym is ∙ link) in
-          let one = one_read M (number + 257) u v has (subst (λ (k : ℕ). HasTableAt M (k + 257) v) place there) in
+          let one = one_read M (number + PARTITION_START) u v has (subst (λ (k : ℕ). HasTableAt M (k + PARTITION_START) v) place there) in
           absurd (other (ap (λ (x : Table_). x.commits + 1) one ∙ fewer))
 
 -- where one of them is not, no state was recovered after some commit

@@ -4,6 +4,7 @@ use Rattle.std.specs.Int.{div_ceil}
 use Rattle.std.specs.Prelude.{All, slice_get}
 use Rattle.std.proofs.lemmas.Option.{slice_get_within}
 use Rattle.std.proofs.lemmas.List.{take_at, drop_at}
+use Rattle.limits.specs.declared.TheConstants.{BLOCK_BYTES, PARTITION_START}
 use Rattle.drive.specs.Journal.{Event, held, next_of, written, Once, AddsPrefix}
 use Rattle.drive.proofs.Once.{next_once}
 use Rattle.drive.proofs.Fronts.{begins_after, held_write}
@@ -31,7 +32,7 @@ module _ (J J' : List Event) (blocks : List Block) (once : Once J) (is : J' ≡ 
 
   entry_longer : (placed : Placed) → IsEntryThere J placed → IsEntryThere J' placed
   entry_longer placed entry =
-      let at = placed.at.number + 257 in
+      let at = placed.at.number + PARTITION_START in
       record {
         block = entry.block;
         there = ap (λ (medium : List Block). slice_get medium at) grown ∙ (get-append (held J) blocks at (slice_get_within (held J) at entry.block entry.there) ∙ entry.there);
@@ -42,7 +43,7 @@ module _ (J J' : List Event) (blocks : List Block) (once : Once J) (is : J' ≡ 
   lies_longer placed content lies =
       let extent = placed.extent in
       let found : data_of (held J') extent ≡ data_of (held J) extent =
-      ap (λ (medium : List Block). data_of medium extent) grown ∙ part-append (extent.first + 257) (div_ceil extent.size 2048) (held J) blocks (omega (arith, length-held J, lies.within)) in
+      ap (λ (medium : List Block). data_of medium extent) grown ∙ part-append (extent.first + PARTITION_START) (div_ceil extent.size BLOCK_BYTES) (held J) blocks (omega (arith, length-held J, lies.within)) in
       record {
         entry = entry_longer placed lies.entry;
         within = omega (arith, lies.within, ends);
@@ -62,29 +63,29 @@ part_there n c xs ys zs at long = ap (λ (bs : List Block). take c bs) (drop_at 
 
 module _ (J J' : List Event) (once : Once J) where
   lies_written : (before blocks : List Block) (entry : Block) (afterwards : List Block) → J' ≡ J ++ written (next_of J) (before ++ (blocks ++ entry ∷ afterwards)) → (placed : Placed) (content : Content)
-      → placed.extent.first + 257 ≡ next_of J + length before → length blocks ≡ div_ceil placed.extent.size 2048 → IsDirectory content.dir.parent content.dir.entries.entries placed.extent.first placed.extent.size blocks
+      → placed.extent.first + PARTITION_START ≡ next_of J + length before → length blocks ≡ div_ceil placed.extent.size BLOCK_BYTES → IsDirectory content.dir.parent content.dir.entries.entries placed.extent.first placed.extent.size blocks
       → placed.at.number ≡ placed.extent.first + length blocks → SaysPlace placed.at.address placed.extent placed.moment entry → LiesThere J' placed content
   lies_written before blocks entry afterwards is placed content at long directory number says =
       let extent = placed.extent in
       let rest = entry ∷ afterwards in
       let all = before ++ (blocks ++ rest) in
-      let count = div_ceil extent.size 2048 in
-      let start : length (held J ++ before) ≡ extent.first + 257 = omega (arith, length-append (held J) before, length-held J, at) in
+      let count = div_ceil extent.size BLOCK_BYTES in
+      let start : length (held J ++ before) ≡ extent.first + PARTITION_START = omega (arith, length-append (held J) before, length-held J, at) in
       let medium : held J' ≡ (held J ++ before) ++ (blocks ++ rest) = grown J J' all once is ∙ sym (append_assoc (held J) before (blocks ++ rest)) in
       let found : data_of (held J') extent ≡ blocks =
-      ap (λ (m : List Block). data_of m extent) medium ∙ part_there (extent.first + 257) count (held J ++ before) blocks rest start long in
+      ap (λ (m : List Block). data_of m extent) medium ∙ part_there (extent.first + PARTITION_START) count (held J ++ before) blocks rest start long in
       record {
         entry = record {
           block = entry;
-          there = ap (λ (m : List Block). slice_get m (placed.at.number + 257)) medium
-              ∙ (get_past (held J ++ before) (blocks ++ rest) (placed.at.number + 257) (length blocks) (omega (arith, start, number)) ∙ get_past blocks rest (length blocks) 0 (omega arith));
+          there = ap (λ (m : List Block). slice_get m (placed.at.number + PARTITION_START)) medium
+              ∙ (get_past (held J ++ before) (blocks ++ rest) (placed.at.number + PARTITION_START) (length blocks) (omega (arith, start, number)) ∙ get_past blocks rest (length blocks) 0 (omega arith));
           says = says;
         };
         within = omega (arith, at, long, ends J J' all once is, length-append before (blocks ++ rest), length-append blocks rest);
         is = subst (λ (bs : List Block). IsDirectory content.dir.parent content.dir.entries.entries extent.first extent.size bs) (sym found) directory;
       }
 
-  all_lie : (ps : List PlacedDirectory) (before afterwards : List Block) (from : ℕ) → J' ≡ J ++ written (next_of J) (before ++ (directories_list ps ++ afterwards)) → from + 257 ≡ next_of J + length before → AreLaid from ps
+  all_lie : (ps : List PlacedDirectory) (before afterwards : List Block) (from : ℕ) → J' ≡ J ++ written (next_of J) (before ++ (directories_list ps ++ afterwards)) → from + PARTITION_START ≡ next_of J + length before → AreLaid from ps
       → All (λ (p : PlacedDirectory). LiesThere J' (placed_of p) p.directory.content) ps
   all_lie [] before afterwards from is at laid k d lt = absurd (omega (arith, lt))
   all_lie (p ∷ ps) before afterwards from is at laid zero d lt =
@@ -103,4 +104,4 @@ module _ (J J' : List Event) (once : Once J) where
   plan_lies capacity plan planned is =
       let table = table_data plan.table ++ plan.table.entry ∷ [] in
       let same : plan_blocks plan ≡ file_list plan.file ++ (directories_list plan.directories.items ++ table) = append_assoc (file_list plan.file) (directories_list plan.directories.items) table in
-      all_lie plan.directories.items (file_list plan.file) table (next_of J - 257 + length (file_list plan.file)) (is ∙ ap (λ (bs : List Block). J ++ written (next_of J) bs) same) (omega (arith, planned.low)) planned.laid
+      all_lie plan.directories.items (file_list plan.file) table (next_of J - PARTITION_START + length (file_list plan.file)) (is ∙ ap (λ (bs : List Block). J ++ written (next_of J) bs) same) (omega (arith, planned.low)) planned.laid

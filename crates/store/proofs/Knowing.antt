@@ -2,7 +2,7 @@
 use Rattle.std.proofs.Common.{◌≡◌, ℕ, ◌+◌, ◌-◌, ◌≤◌, Bool, List, ◌++◌, length, map, sym, ap, subst, ◌∙◌, arith, length-append}
 use Rattle.std.specs.Prelude.{Option, IsTrue}
 use Rattle.std.specs.FinMap.{len}
-use Rattle.limits.specs.declared.TheConstants.{NODES}
+use Rattle.limits.specs.declared.TheConstants.{NODES, PARTITION_START}
 use Rattle.drive.specs.Journal.{Event, held, next_of}
 use Rattle.drive.proofs.Once.{next_once}
 use Rattle.model.specs.Addresses.{free_address}
@@ -130,13 +130,13 @@ module _ (capacity volume : ℕ) (J : List Event) (S : State) (store : Store) (k
       size_is : next_of J ≡ length (held J)
       size_is = next_is ∙ sym (length-held J knows.once)
 
-      pub writes : WritesNodes udf nodes_written (length (held J) - 257) (node_list plan) (plan_written plan)
+      pub writes : WritesNodes udf nodes_written (length (held J) - PARTITION_START) (node_list plan) (plan_written plan)
       writes =
-          subst (λ (n : ℕ). WritesNodes udf nodes_written (n - 257) (node_list plan) (plan_written plan)) size_is
-          (subst (λ (ns : List Writing). WritesNodes udf ns (next_of J - 257) (node_list plan) (plan_written plan)) makes.writings is.nodes)
+          subst (λ (n : ℕ). WritesNodes udf nodes_written (n - PARTITION_START) (node_list plan) (plan_written plan)) size_is
+          (subst (λ (ns : List Writing). WritesNodes udf ns (next_of J - PARTITION_START) (node_list plan) (plan_written plan)) makes.writings is.nodes)
 
       pub planned_changes : ChangesVolume capacity volume (held J) S knows.stands request nodes_written (gone_of change) (plan_written plan) change.made change.removed
-      planned_changes = changes (plan_written plan) (nodes_are_written nodes_written (length (held J) - 257) (node_list plan) (plan_written plan) writes)
+      planned_changes = changes (plan_written plan) (nodes_are_written nodes_written (length (held J) - PARTITION_START) (node_list plan) (plan_written plan) writes)
 
       abbrev pub planned_blocks : List (List ℕ)
       planned_blocks = node_list plan ++ table_data plan.table
@@ -149,11 +149,11 @@ module _ (capacity volume : ℕ) (J : List Event) (S : State) (store : Store) (k
 
       afterwards : IsTableBehind (held J) request (next_table knows.stands.at r.client r.number (code_of (model_operation r.op) S.tree) change.made (plan_written plan) change.removed (view store.vat)) (node_list plan) plan.table.bytes.items plan.table.first (table_data plan.table) plan.table.entry
       afterwards =
-          let number : plan.table.at - 257 ≡ length (held J) + length planned_blocks - 257 = omega (arith, at_is) in
-          let spelled_there = subst (λ (t : Table). IsTableAt (plan.table.at - 257) t plan.table.bytes.items) table_is is.table.spelled in
-          let entry_there = subst (λ (m : ℕ). udf.IsEntry (record { kind = TableEntry; moment = m; links = 0; identity = 0; size = length plan.table.bytes.items; place = Extent plan.table.first }) plan.table.entry (plan.table.at - 257)) makes.moment is.table.mark in
+          let number : plan.table.at - PARTITION_START ≡ length (held J) + length planned_blocks - PARTITION_START = omega (arith, at_is) in
+          let spelled_there = subst (λ (t : Table). IsTableAt (plan.table.at - PARTITION_START) t plan.table.bytes.items) table_is is.table.spelled in
+          let entry_there = subst (λ (m : ℕ). udf.IsEntry (record { kind = TableEntry; moment = m; links = 0; identity = 0; size = length plan.table.bytes.items; place = Extent plan.table.first }) plan.table.entry (plan.table.at - PARTITION_START)) makes.moment is.table.mark in
           record {
-            placed = subst (λ (n : ℕ). IsPlaced udf plan.table.bytes.items (n - 257 + length (node_list plan)) plan.table.first (table_data plan.table)) size_is is.table.placed;
+            placed = subst (λ (n : ℕ). IsPlaced udf plan.table.bytes.items (n - PARTITION_START + length (node_list plan)) plan.table.first (table_data plan.table)) size_is is.table.placed;
             spelled_length = subst (λ (n : ℕ). IsTableAt n (next_table knows.stands.at r.client r.number (code_of (model_operation r.op) S.tree) change.made (plan_written plan) change.removed (view store.vat)) plan.table.bytes.items) number spelled_there;
             entry = subst (λ (n : ℕ). udf.IsEntry (record { kind = TableEntry; moment = r.moment; links = 0; identity = 0; size = length plan.table.bytes.items; place = Extent plan.table.first }) plan.table.entry n) number entry_there;
           }

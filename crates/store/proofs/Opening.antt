@@ -3,6 +3,7 @@ use Rattle.std.proofs.Common.{◌≡◌, inl, inr, ℕ, ◌≤◌, List, take, r
 use Rattle.std.specs.Prelude.{Some, slice_get, Result, Ok, Err, IfErr, IsErr}
 use Rattle.std.proofs.lemmas.Bool.{false≢true}
 use Rattle.std.proofs.lemmas.Option.{same_Some}
+use Rattle.limits.specs.declared.TheConstants.{PARTITION_START}
 use Rattle.drive.specs.Journal.{Event, Once, held}
 use Rattle.durability.specs.Formats.{Block}
 use Rattle.durability.specs.Volume.{HasTable, Medium, RecoversTo, Describes}
@@ -33,14 +34,14 @@ use Rattle.store.specs.Opened.{IsOpenRefused}
 -- ---- what was read
 
 -- all states that are described on a medium have one volume, that of its header
-pub one_volume : (M : Medium) (at here : ℕ) → 257 ≤ at → 257 ≤ here → (capacity volume other size : ℕ) (a b : Block) (S T : model.State) → Describes udf capacity volume (take at M) at a S
+pub one_volume : (M : Medium) (at here : ℕ) → PARTITION_START ≤ at → PARTITION_START ≤ here → (capacity volume other size : ℕ) (a b : Block) (S T : model.State) → Describes udf capacity volume (take at M) at a S
     → Describes udf other size (take here M) here b T → volume ≡ size
 one_volume M at here low high capacity volume other size a b S T x y =
-    let one : IsFront x.table.label x.formatted volume (take 257 M) = subst (IsFront x.table.label x.formatted volume) (part_below 0 257 at M low) x.front in
-    let two : IsFront y.table.label y.formatted size (take 257 M) = subst (IsFront y.table.label y.formatted size) (part_below 0 257 here M high) y.front in
+    let one : IsFront x.table.label x.formatted volume (take PARTITION_START M) = subst (IsFront x.table.label x.formatted volume) (part_below 0 PARTITION_START at M low) x.front in
+    let two : IsFront y.table.label y.formatted size (take PARTITION_START M) = subst (IsFront y.table.label y.formatted size) (part_below 0 PARTITION_START here M high) y.front in
     let f : Front = record { label = x.table.label; moment = x.formatted; capacity = volume } in
     let g : Front = record { label = y.table.label; moment = y.formatted; capacity = size } in
-    ap (λ (z : Front). z.capacity) (one_told f g _ _ (front_tells f (take 257 M) one) (front_tells g (take 257 M) two))
+    ap (λ (z : Front). z.capacity) (one_told f g _ _ (front_tells f (take PARTITION_START M) one) (front_tells g (take PARTITION_START M) two))
 
 last_there : (M : Medium) (at : ℕ) (last : IsLastVatIcb M (Some at)) → volumes.IsLast udf M at last.1.block
 last_there M at (low, here, none) = record {
@@ -51,14 +52,14 @@ last_there M at (low, here, none) = record {
 
 module _ (capacity volume : ℕ) (M : Medium) (S : model.State) (stands : RecoversTo udf capacity volume M S) where
   -- its VAT ICB is one
-  stands_entry : (257 ≤ stands.at) × HasVatIcb M stands.at
+  stands_entry : (PARTITION_START ≤ stands.at) × HasVatIcb M stands.at
   stands_entry = let is = (imitation_agrees stands.block stands.at).0 stands.last.is in (is.0, record { block = stands.block; there = stands.last.there; is = is.1 })
 
   -- and the last
   pub at_last : (at : ℕ) → IsLastVatIcb M (Some at) → at ≡ stands.at
   at_last at last = last_one udf M at stands.at last.1.block stands.block (last_there M at last) stands.last
 
-  pub some_entry : HasNoneFrom M 257 → ⊥
+  pub some_entry : HasNoneFrom M PARTITION_START → ⊥
   some_entry none = none stands.at stands_entry.0 stands_entry.1
 
   -- so it is reported there

@@ -1,6 +1,7 @@
 -- The states before the one that a store knows.
 use Rattle.std.proofs.Common.{◌≡◌, ℕ, suc, ◌+◌, ◌-◌, ◌<◌, ◌≤◌, List, take, Some, refl, sym, ap, subst, ◌∙◌, arith}
 use Rattle.std.specs.Prelude.{slice_get}
+use Rattle.limits.specs.declared.TheConstants.{PARTITION_START}
 use Rattle.drive.specs.Journal.{Event, held, next_of}
 use Rattle.durability.specs.Formats.{Table_}
 use Rattle.durability.specs.Volume.{RecoveredTo, RecoveredBefore}
@@ -30,7 +31,7 @@ module _ (capacity volume : ℕ) (J : List Event) (T : model.State) (store : Sto
   pub ends_here : EndsAt (held J) store.vat_icb_address (held J)
   ends_here = record { same = refl; none = λ later other lt there is. knows.stands.last.no_later later other (omega (arith, lt, knows.at)) there is }
 
-  pub low_here : 257 ≤ store.vat_icb_address
+  pub low_here : PARTITION_START ≤ store.vat_icb_address
   low_here = omega (arith, knows.at, knows.stands.last.is.0)
 
   told_here : IsTableTold (held J) store.vat_icb_address (model_table (view store.vat))
@@ -60,7 +61,7 @@ module _ (capacity volume : ℕ) (J : List Event) (T : model.State) (store : Sto
   past_of k steps S count stood = (last_in (held J) store.vat_icb_address (held J) ends_here (model_table table_here.0) (told (held J) store.vat_icb_address table_here.0 table_here.1), steps, count ∙ sym commits_here, stood)
 
   -- what is described anywhere is described of this volume
-  pub volume_told : (at : ℕ) (state : State) → 257 ≤ at → IsShown capacity (held J) at state → state.capacity ≡ volume
+  pub volume_told : (at : ℕ) (state : State) → PARTITION_START ≤ at → IsShown capacity (held J) at state → state.capacity ≡ volume
   volume_told at state low shown =
       one_volume (held J) at knows.stands.at low knows.stands.last.is.0 capacity state.capacity capacity volume shown.block knows.stands.block shown.said T shown.tells knows.stands.tells
 
@@ -70,7 +71,7 @@ module _ (capacity volume : ℕ) (J : List Event) (T : model.State) (store : Sto
     steps_found : k + found.steps ≡ T.commits
     steps_found = omega (arith, count_along (held J) store.vat_icb_address found.steps at (view vat) table_here.0 found.leads found.table table_here.1, found.commits_are, commits_here)
 
-    pub past_shown : (state : State) → 257 ≤ at → at < next_of J → IsShown capacity (held J) at state → (S : model.State) × IsPast capacity volume J k S at state.vat
+    pub past_shown : (state : State) → PARTITION_START ≤ at → at < next_of J → IsShown capacity (held J) at state → (S : model.State) × IsPast capacity volume J k S at state.vat
     past_shown state low high shown =
         let S = shown.said in
         let stood : RecoveredBefore udf (found.steps + 0) capacity volume (held J) S =

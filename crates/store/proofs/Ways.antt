@@ -1,6 +1,7 @@
 -- Where a chain of tables breaks off.
 use Rattle.std.proofs.Common.{◌≡◌, ℕ, ◌+◌, ◌<◌, ◌≤◌, inl, inr, List, Option, Some, None, IsNone, ◌↔◌, refl, sym, ap, subst, ◌∙◌, arith, eq-or-lt_of_le}
 use Rattle.std.proofs.lemmas.Option.{same_Some}
+use Rattle.limits.specs.declared.TheConstants.{PARTITION_START}
 use Rattle.durability.specs.Formats.{Table_}
 use Rattle.vat.specs.Table.{Table}
 use Rattle.recover.specs.declared.fault.StoreFault.{StoreFault}
@@ -17,12 +18,12 @@ link_refused M there commits b c refused u has fewer =
       | inr other ↦ other.3 (ap (λ (x : Table_). x.commits + 1) (one_read M there other.1 u other.2 has) ∙ fewer)
     ]
 
-no_step : (M : List (List ℕ)) (at number : ℕ) (t : Table) → HasTableAt M at t → t.previous ≡ Some number → (b c : ℕ) → IsLinkRefused M (number + 257) t.commits (Damaged b c) → (earlier : ℕ) → IsBefore M at (Some earlier) → ⊥
+no_step : (M : List (List ℕ)) (at number : ℕ) (t : Table) → HasTableAt M at t → t.previous ≡ Some number → (b c : ℕ) → IsLinkRefused M (number + PARTITION_START) t.commits (Damaged b c) → (earlier : ℕ) → IsBefore M at (Some earlier) → ⊥
 no_step M at number t has link b c refused earlier (s, here, n, is, there, u, before, fewer) =
     let same = one_read M at s t here has in
     let one : n ≡ number = same_Some n number (sym is ∙ ap (λ (x : Table_). x.previous) same ∙ link) in
-    let place : earlier ≡ number + 257 = omega (arith, there, one) in
-    link_refused M (number + 257) t.commits b c refused u (subst (λ (a : ℕ). HasTableAt M a u) place before) (fewer ∙ ap (λ (x : Table_). x.commits) same)
+    let place : earlier ≡ number + PARTITION_START = omega (arith, there, one) in
+    link_refused M (number + PARTITION_START) t.commits b c refused u (subst (λ (a : ℕ). HasTableAt M a u) place before) (fewer ∙ ap (λ (x : Table_). x.commits) same)
 
 -- the first table was not read
 pub way_first : (M : List (List ℕ)) (from commits : ℕ) (fault : StoreFault) → IsAtRefused M from fault → IsWayRefused M from commits fault
@@ -33,7 +34,7 @@ way_first M from commits _ r = elim r [ inl entry ↦ absurd entry | inr table �
 
 -- nor a later one
 pub way_link : (M : List (List ℕ)) (from commits steps at number : ℕ) (t : Table) → ChainLeads M from steps at → HasTableAt M at t → t.previous ≡ Some number
-    → ((first : Table) → HasTableAt M from first → commits ≤ first.commits → commits < t.commits) → (fault : StoreFault) → IsLinkRefused M (number + 257) t.commits fault → IsWayRefused M from commits fault
+    → ((first : Table) → HasTableAt M from first → commits ≤ first.commits → commits < t.commits) → (fault : StoreFault) → IsLinkRefused M (number + PARTITION_START) t.commits fault → IsWayRefused M from commits fault
 way_link M from commits steps at number t leads has link more Device r = tt
 way_link M from commits steps at number t leads has link more Memory r = tt
 way_link M from commits steps at number t leads has link more (Damaged b c) r = λ first there le. record {

@@ -1,6 +1,7 @@
 -- All commits of a chain, and the past states after each.
 use Rattle.std.proofs.Common.{◌≡◌, ℕ, zero, suc, ◌+◌, ◌-◌, ◌<◌, ◌≤◌, inl, inr, List, [], ◌∷◌, length, Option, Some, None, IsNone, refl, sym, ap, subst, ◌∙◌, arith, slice_index_or}
 use Rattle.std.proofs.lemmas.Option.{none-some, same_Some}
+use Rattle.limits.specs.declared.TheConstants.{PARTITION_START}
 use Rattle.drive.specs.Journal.{Event, held}
 use Rattle.durability.specs.Formats.{Table_}
 use Rattle.durability.specs.Volume.{Medium, RecoveredBefore}
@@ -34,24 +35,24 @@ module _ (M : Medium) where
   left_first at t has all (u, there, earlier, is, chain) =
       (earlier, subst (λ (x : Table_). IsChain M x.previous x.commits earlier) (one_read M at u t there has) chain)
 
-  pub left_next : (number : ℕ) (t u : Table) → t.previous ≡ Some number → HasTableAt M (number + 257) u → Goes t → Goes u
+  pub left_next : (number : ℕ) (t u : Table) → t.previous ≡ Some number → HasTableAt M (number + PARTITION_START) u → Goes t → Goes u
   left_next number t u link has (rest, left) = by rest left
     where
       by : (all : List Commit) → IsChain M t.previous t.commits all → Goes u
       by [] (none, count) = absurd (none-some number (sym none ∙ link))
       by (c ∷ earlier) (n, is, v, there, fewer, says, chain) =
           let same : n ≡ number = same_Some n number (sym is ∙ link) in
-          let one = one_read M (number + 257) v u (subst (λ (k : ℕ). HasTableAt M (k + 257) v) same there) has in
+          let one = one_read M (number + PARTITION_START) v u (subst (λ (k : ℕ). HasTableAt M (k + PARTITION_START) v) same there) has in
           (earlier, subst (λ (x : Table_). IsChain M x.previous x.commits earlier) one chain)
 
-  none_left : (number : ℕ) (t : Table) → t.previous ≡ Some number → (b c : ℕ) → IsLinkRefused M (number + 257) t.commits (Damaged b c) → Goes t → ⊥
+  none_left : (number : ℕ) (t : Table) → t.previous ≡ Some number → (b c : ℕ) → IsLinkRefused M (number + PARTITION_START) t.commits (Damaged b c) → Goes t → ⊥
   none_left number t link b c refused (rest, left) = by rest left
     where
       by : (all : List Commit) → IsChain M t.previous t.commits all → ⊥
       by [] (none, count) = none-some number (sym none ∙ link)
       by (d ∷ earlier) (n, is, v, there, fewer, says, chain) =
           let same : n ≡ number = same_Some n number (sym is ∙ link) in
-          link_refused M (number + 257) t.commits b c refused v (subst (λ (k : ℕ). HasTableAt M (k + 257) v) same there) fewer
+          link_refused M (number + PARTITION_START) t.commits b c refused v (subst (λ (k : ℕ). HasTableAt M (k + PARTITION_START) v) same there) fewer
 
   pub history_first : (at : ℕ) (fault : StoreFault) → IsAtRefused M at fault → IsHistoryRefused M at fault
   history_first at Device r = tt
@@ -59,7 +60,7 @@ module _ (M : Medium) where
   history_first at (Damaged b c) r = λ commits (t, has, earlier, is, chain). is_read M at t has b c r
   history_first at _ r = elim r [ inl entry ↦ absurd entry | inr table ↦ absurd table.3 ]
 
-  pub history_link : (at number : ℕ) (t : Table) → t.previous ≡ Some number → ((all : List Commit) → IsHistory M at all → Goes t) → (fault : StoreFault) → IsLinkRefused M (number + 257) t.commits fault
+  pub history_link : (at number : ℕ) (t : Table) → t.previous ≡ Some number → ((all : List Commit) → IsHistory M at all → Goes t) → (fault : StoreFault) → IsLinkRefused M (number + PARTITION_START) t.commits fault
       → IsHistoryRefused M at fault
   history_link at number t link goes Device r = tt
   history_link at number t link goes Memory r = tt
@@ -79,7 +80,7 @@ module _ (M : Medium) where
       let same = ap (λ (x : Table_). x.commits) (one_read M at u t there has) in
       omega (arith, one, same, ap (λ (cs : List Commit). length cs) is)
 
-  module _ (capacity volume : ℕ) (sized : (a : ℕ) (state : State) → 257 ≤ a → IsShown capacity M a state → state.capacity ≡ volume) where
+  module _ (capacity volume : ℕ) (sized : (a : ℕ) (state : State) → PARTITION_START ≤ a → IsShown capacity M a state → state.capacity ≡ volume) where
     -- ---- the states that were shown were recovered
 
     stood_in_chain : (at : ℕ) (t : Table) (earlier : List Commit) → HasTableAt M at t → IsChain M t.previous t.commits earlier → AreShown capacity M earlier → (i : ℕ) → i < length earlier
@@ -87,14 +88,14 @@ module _ (M : Medium) where
     stood_in_chain at t [] has chain shown i less = absurd (omega (arith, less))
     stood_in_chain at t (c ∷ earlier) has (n, is, v, there, fewer, says, chain) shown zero less =
         let here = shown 0 c (omega arith) in
-        let at_is : IsShown capacity M (n + 257) here.0 = subst (λ (d : Commit). IsShown capacity M d.vat_icb_address here.0) says here.1 in
-        let low : 257 ≤ n + 257 = omega arith in
-        (at_is.said, step_back capacity volume M at (n + 257) 0 at_is.said (one_before M at n t v has is there fewer) (shown_stood capacity volume M (n + 257) here.0 low at_is (sized (n + 257) here.0 low at_is)))
+        let at_is : IsShown capacity M (n + PARTITION_START) here.0 = subst (λ (d : Commit). IsShown capacity M d.vat_icb_address here.0) says here.1 in
+        let low : PARTITION_START ≤ n + PARTITION_START = omega arith in
+        (at_is.said, step_back capacity volume M at (n + PARTITION_START) 0 at_is.said (one_before M at n t v has is there fewer) (shown_stood capacity volume M (n + PARTITION_START) here.0 low at_is (sized (n + PARTITION_START) here.0 low at_is)))
     stood_in_chain at t (c ∷ earlier) has (n, is, v, there, fewer, says, chain) shown (suc i) less =
-        let on = stood_in_chain (n + 257) v earlier there chain (λ k d lt. shown (suc k) d (omega (arith, lt))) i (omega (arith, less)) in
-        (on.0, step_back capacity volume M at (n + 257) (suc i) on.0 (one_before M at n t v has is there fewer) on.1)
+        let on = stood_in_chain (n + PARTITION_START) v earlier there chain (λ k d lt. shown (suc k) d (omega (arith, lt))) i (omega (arith, less)) in
+        (on.0, step_back capacity volume M at (n + PARTITION_START) (suc i) on.0 (one_before M at n t v has is there fewer) on.1)
 
-    pub stood_in : (at : ℕ) (all : List Commit) → 257 ≤ at → IsHistory M at all → AreShown capacity M all → (i : ℕ) → i < length all → (S : model.State) × chains.StoodAt capacity volume M at i S
+    pub stood_in : (at : ℕ) (all : List Commit) → PARTITION_START ≤ at → IsHistory M at all → AreShown capacity M all → (i : ℕ) → i < length all → (S : model.State) × chains.StoodAt capacity volume M at i S
     stood_in at all low (t, has, earlier, is, chain) shown i less =
         go i (subst (λ (cs : List Commit). AreShown capacity M cs) is shown) (subst (λ (cs : List Commit). i < length cs) is less)
       where
@@ -109,12 +110,12 @@ module _ (M : Medium) where
         → RecoveredBefore udf (suc i) capacity volume N S → ((d : Commit) → DescribesNoState capacity M (slice_index_or earlier i d).vat_icb_address) → ⊥
     not_in_chain at t [] has chain i less S N ends stood untold = absurd (omega (arith, less))
     not_in_chain at t (c ∷ earlier) has (n, is, v, there, fewer, says, chain) zero less S N ends stood untold =
-        let on = step_on capacity volume M at (n + 257) 0 S N ends (one_before M at n t v has is there fewer) stood in
-        let told = stood_told capacity volume M (n + 257) v S on.0 there on.1 on.2 in
+        let on = step_on capacity volume M at (n + PARTITION_START) 0 S N ends (one_before M at n t v has is there fewer) stood in
+        let told = stood_told capacity volume M (n + PARTITION_START) v S on.0 there on.1 on.2 in
         subst (λ (d : Commit). DescribesNoState capacity M d.vat_icb_address) says (untold c) volume on.2.block S told.0 told.1
     not_in_chain at t (c ∷ earlier) has (n, is, v, there, fewer, says, chain) (suc i) less S N ends stood untold =
-        let on = step_on capacity volume M at (n + 257) (suc i) S N ends (one_before M at n t v has is there fewer) stood in
-        not_in_chain (n + 257) v earlier there chain i (omega (arith, less)) S on.0 on.1 on.2 untold
+        let on = step_on capacity volume M at (n + PARTITION_START) (suc i) S N ends (one_before M at n t v has is there fewer) stood in
+        not_in_chain (n + PARTITION_START) v earlier there chain i (omega (arith, less)) S on.0 on.1 on.2 untold
 
     pub not_in : (at : ℕ) (all : List Commit) → IsHistory M at all → (i : ℕ) → i < length all → (S : model.State) (N : Medium) → EndsAt M at N → RecoveredBefore udf i capacity volume N S
         → ((d : Commit) → DescribesNoState capacity M (slice_index_or all i d).vat_icb_address) → ⊥
@@ -137,11 +138,11 @@ module _ (M : Medium) where
         let on = goes_back capacity volume M at steps S N ends t has stood in
         let (s, here, n, is, place, u, before, fewer) = on.1 in
         let same = one_read M at s t here has in
-        let there : HasTableAt M (n + 257) u = subst (λ (k : ℕ). HasTableAt M k u) place before in
+        let there : HasTableAt M (n + PARTITION_START) u = subst (λ (k : ℕ). HasTableAt M k u) place before in
         let less : u.commits + 1 ≡ t.commits = fewer ∙ ap (λ (x : Table_). x.commits) same in
         let link : t.previous ≡ Some n = sym (ap (λ (x : Table_). x.previous) same) ∙ is in
         let rest = chain_of steps on.0 u S on.2 before (omega (arith, less, count)) on.3 on.4 in
-        (report_of (n + 257) u ∷ rest.0, (n, link, u, there, less, refl, rest.1))
+        (report_of (n + PARTITION_START) u ∷ rest.0, (n, link, u, there, less, refl, rest.1))
 
 module _ (capacity volume : ℕ) (J : List Event) (T : model.State) (store : Store) (knows : IsOpenOn capacity volume J T store) where
   pub history_known : (all : List Commit) → IsHistory (held J) store.vat_icb_address all → length all ≡ T.commits + 1
@@ -150,7 +151,7 @@ module _ (capacity volume : ℕ) (J : List Event) (T : model.State) (store : Sto
       let one = history_length (held J) store.vat_icb_address here.0 all here.1 is in
       omega (arith, one, commits_here capacity volume J T store knows)
 
-  pub whole : (all : List Commit) → 257 ≤ store.vat_icb_address → IsHistory (held J) store.vat_icb_address all → AreShown capacity (held J) all → AllRecovered capacity volume (held J) T.commits
+  pub whole : (all : List Commit) → PARTITION_START ≤ store.vat_icb_address → IsHistory (held J) store.vat_icb_address all → AreShown capacity (held J) all → AllRecovered capacity volume (held J) T.commits
   whole all low is shown k le =
       let i : T.commits - k < length all = omega (arith, history_known all is) in
       let stood = stood_in (held J) capacity volume (volume_told capacity volume J T store knows) store.vat_icb_address all low is shown (T.commits - k) i in

@@ -2,6 +2,7 @@ use Rattle.std.proofs.Common.{◌≡◌, ℕ, Option, List, [], ◌∷◌, ◌++
 use Rattle.std.specs.Prelude.{All}
 use Rattle.std.proofs.lemmas.Bool.{false≢true}
 use Rattle.std.specs.Vec.Iter.{into_iter_items}
+use Rattle.limits.specs.declared.TheConstants.{PARTITION_START}
 use Rattle.durability.specs.Plan.{Writing, WritesNodes}
 use Rattle.udf.specs.Udf.{udf}
 use Rattle.planning.specs.declared.change.NewDirectory.{NewDirectory}
@@ -77,8 +78,8 @@ loop-directory-preserved c =
     let all = c.loop-directory.all.items in
     let p = c.place_directory-placed.result in
     let ends = node_ends (directory_writing p.directory) now (directory_list p) p.number c.place_directory-placed.ensures.written in
-    let later : now + 257 ≤ next + 257 = omega (arith, ends, c.place_directory-placed.ensures.next) in
-    let number : p.number + 257 < next + 257 = omega (arith, c.place_directory-placed.ensures.next) in
+    let later : now + PARTITION_START ≤ next + PARTITION_START = omega (arith, ends, c.place_directory-placed.ensures.next) in
+    let number : p.number + PARTITION_START < next + PARTITION_START = omega (arith, c.place_directory-placed.ensures.next) in
     let d = c.in-Some.directory in
     let rest = new_directories (into_iter_items c.next.new.self) in
     let written : new_directories c.args.directories.items ≡ directories_writings (all ++ p ∷ []) ++ rest =
@@ -102,7 +103,7 @@ loop-directory-preserved c =
       writings = subst (λ (ps : List PlacedDirectory). new_directories c.args.directories.items ≡ directories_writings ps ++ new_directories (into_iter_items c.next.new.self)) pushed written;
       table = subst (λ (ps : List PlacedDirectory). view c.place_node.new.vat ≡ all_placed (directories_written ps) (view c.args.vat.now)) pushed (table_push all p (view c.args.vat.now) (view c.loop-directory.vat) (view c.place_node.new.vat) c.loop-directory.invariant.table moved);
       fits = c.place_node.ensures.fits;
-      below = λ h. c.place_node.ensures.below (next + 257) number (below_later (now + 257) (next + 257) c.loop-directory.vat.entries.items later (c.loop-directory.invariant.below h));
+      below = λ h. c.place_node.ensures.below (next + PARTITION_START) number (below_later (now + PARTITION_START) (next + PARTITION_START) c.loop-directory.vat.entries.items later (c.loop-directory.invariant.below h));
       stays = record {
         previous = c.place_node.ensures.stays.previous ∙ c.loop-directory.invariant.stays.previous;
         commits = c.place_node.ensures.stays.commits ∙ c.loop-directory.invariant.stays.commits;

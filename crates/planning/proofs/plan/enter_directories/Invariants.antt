@@ -1,6 +1,7 @@
 use Rattle.std.proofs.Common.{◌≡◌, ◌+◌, ◌≤◌, ◌++◌, length}
 use Rattle.std.specs.Prelude.{All}
 use Rattle.std.specs.Vec.Iter.{into_iter_items, into_iter_len}
+use Rattle.limits.specs.declared.TheConstants.{PARTITION_START}
 use Rattle.durability.specs.Plan.{WritesNodes}
 use Rattle.udf.specs.Udf.{udf}
 use Rattle.vat.specs.Table.{FitsTable, view}
@@ -21,7 +22,7 @@ invariant-loop-directory l = record {
   writings : new_directories l.fn.directories.items ≡ directories_writings l.all.items ++ new_directories (into_iter_items l.directory-iterator);
   table : view l.vat ≡ all_placed (directories_written l.all.items) (view l.fn.vat);
   fits : FitsTable (view l.vat);
-  below : AreBelow (l.fn.numbers.next + 257) l.fn.vat.entries.items → AreBelow (l.numbers.next + 257) l.vat.entries.items;
+  below : AreBelow (l.fn.numbers.next + PARTITION_START) l.fn.vat.entries.items → AreBelow (l.numbers.next + PARTITION_START) l.vat.entries.items;
   stays : OnlyNodesChange l.fn.vat l.vat;
   written : WritesNodes udf (directories_writings l.all.items) l.fn.numbers.next (directories_list l.all.items) (directories_written l.all.items);
   laid : AreLaid l.fn.numbers.next l.all.items;

@@ -1,5 +1,6 @@
 use Rattle.std.proofs.Common.{◌+◌, ◌≤◌, ◌++◌, ◌∷◌, ◌∙◌, [], ℕ, List, refl, sym, ap, arith, rules}
 use Rattle.std.proofs.lemmas.Grind.{common_steps}
+use Rattle.limits.specs.declared.TheConstants.{PARTITION_START}
 use Rattle.model.specs.Graph.{as_stored}
 use Rattle.model.specs.Graph.Body.{Bytes}
 use Rattle.durability.specs.Plan.{Writing}
@@ -26,14 +27,14 @@ returns-clause-enters c =
     let p = c.place_file-placed.result in
     let next = c.place_file-placed.new.self.next in
     let ends = node_ends (file_writing c.args.moment p.file) c.args.numbers.now.next (file_data p ++ p.entry ∷ []) p.number c.place_file-placed.ensures.written in
-    let later : c.args.numbers.now.next + 257 ≤ next + 257 = omega (arith, ends, c.place_file-placed.ensures.next) in
+    let later : c.args.numbers.now.next + PARTITION_START ≤ next + PARTITION_START = omega (arith, ends, c.place_file-placed.ensures.next) in
     record {
       table = first_of (search rules, grind (arith, common_steps));
       fits = c.place_node.ensures.fits;
       written = writes_one (file_writing c.args.moment p.file) c.args.numbers.now.next (file_data p ++ p.entry ∷ []) p.number c.place_file-placed.ensures.written;
       next = omega (arith, ends, c.place_file-placed.ensures.next);
       most = omega (arith, c.place_file-placed.ensures.most, ap file_need c.in-Some.is);
-      below = λ h. c.place_node.ensures.below (next + 257) (omega (arith, c.place_file-placed.ensures.next)) (below_later (c.args.numbers.now.next + 257) (next + 257) c.args.vat.now.entries.items later h);
+      below = λ h. c.place_node.ensures.below (next + PARTITION_START) (omega (arith, c.place_file-placed.ensures.next)) (below_later (c.args.numbers.now.next + PARTITION_START) (next + PARTITION_START) c.args.vat.now.entries.items later h);
       stays = c.place_node.ensures.stays;
     }
 

@@ -1,5 +1,6 @@
 use Rattle.std.proofs.Common.{◌++◌, ◌+◌, replicate, ◌≡◌, ◌-◌, ◌≤◌, List, ℕ, length, ap, ◌∙◌, sym, subst, arith}
 use Rattle.std.specs.Int.{div_ceil}
+use Rattle.limits.specs.declared.TheConstants.{BLOCK_BYTES, PARTITION_START}
 use Rattle.vat.specs.Table.{view, IsTableAt}
 use Rattle.durability.specs.Formats.Kind.{Table}
 use Rattle.durability.specs.Formats.NodePlace.{Extent}
@@ -28,9 +29,9 @@ returns-clause-placed c =
     let start = subst (λ (bs : List ℕ). IsClearStart udf (packed bs) from first) same c.place_bytes-first.ensures.start in
     let placed = subst (λ n. IsPlaced udf bytes from first (replicate (first - n) zeros ++ packed bytes)) (sym c.next-start.ensures.next) (placed_at bytes from first start) in
     let long = length-placed bytes from first (replicate (first - c.next-start.result) zeros ++ packed bytes) placed in
-    let next : number ≡ first + div_ceil (length bytes) 2048 = c.next-number.ensures.next ∙ c.place_bytes-first.ensures.next ∙ ap (λ (bs : List ℕ). first + div_ceil (length bs) 2048) same in
+    let next : number ≡ first + div_ceil (length bytes) BLOCK_BYTES = c.next-number.ensures.next ∙ c.place_bytes-first.ensures.next ∙ ap (λ (bs : List ℕ). first + div_ceil (length bs) BLOCK_BYTES) same in
     let size : c.len.result ≡ length bytes = omega arith in
-    let at : number + 257 - 257 ≡ number = omega arith in
+    let at : number + PARTITION_START - PARTITION_START ≡ number = omega arith in
     let later : from ≤ number = omega (arith, next, long) in
     let table = table_at (view c.args.vat) from number bytes c.requires.fits c.in_ok-bytes.ensures c.requires.leads.previous c.requires.leads.below later in
     record {

@@ -1,6 +1,7 @@
 use Rattle.std.proofs.Common.{◌++◌, ◌∷◌, [], length, List, ℕ, replicate, ap, sym, ◌∙◌, arith, append-nil, length-append}
 use Rattle.std.specs.Int.{div_ceil}
 use Rattle.std.proofs.lemmas.Result.{err_from_is_err_and}
+use Rattle.limits.specs.declared.TheConstants.{BLOCK_BYTES}
 use Rattle.drive.proofs.Packing.{takes_finished, takes_front}
 use Rattle.drive.proofs.Sending.{one_waits}
 use Rattle.drive.specs.Waiting.{Waiting}
@@ -13,7 +14,7 @@ use Rattle.planning.proofs.plan.write_table.Goals as goal
 pub put_bytes-requires-clause-fits : goal.put_bytes-requires-clause-fits
 put_bytes-requires-clause-fits g c =
     let t = c.args.table.now in
-    omega (arith, c.requires.fits, length-append (table_data t) (t.entry ∷ []), length-padded t.gap t.bytes.items, ap (λ (bs : List ℕ). div_ceil (length bs) 2048) c.deref.ensures.value)
+    omega (arith, c.requires.fits, length-append (table_data t) (t.entry ∷ []), length-padded t.gap t.bytes.items, ap (λ (bs : List ℕ). div_ceil (length bs) BLOCK_BYTES) c.deref.ensures.value)
 
 pub put_entry-requires-clause-begins : goal.put_entry-requires-clause-begins
 put_entry-requires-clause-begins g c =

@@ -1,5 +1,6 @@
 use Rattle.std.proofs.Common.{◌≡◌, ◌+◌, ◌-◌, ◌*◌, ◌<◌, ◌≤◌, ◌++◌, length, List, ℕ, take, sym, subst, arith, rules}
 use Rattle.std.specs.Prelude.{min}
+use Rattle.limits.specs.declared.TheConstants.{BLOCK_BYTES}
 use Rattle.drive.specs.Journal.{held, next_of}
 use Rattle.drive.proofs.Reading.{reads_then, reads_none}
 use Rattle.recover.proofs.Blocks.{Gathered, bytes_more, gathered_none}
@@ -12,9 +13,9 @@ loop-i-preserved g c = record {
   read = λ h.
       let there = rw c.loop-i.invariant.reads.journal at (c.in_ok-block.ensures.read h) in
       let below : c.args.at + c.loop-i.i < next_of (g.D.Drive.journal c.args.drive.now) = omega arith in
-      let long : length c.in_ok-block.block ≡ 2048 = omega arith in
-      let inside : 2048 * c.loop-i.i ≤ c.args.size = omega arith in
-      let items : c.extend_from_slice.new.self.items ≡ c.loop-i.bytes.items ++ take (min (c.args.size - c.loop-i.i * 2048) 2048) c.in_ok-block.block =
+      let long : length c.in_ok-block.block ≡ BLOCK_BYTES = omega arith in
+      let inside : BLOCK_BYTES * c.loop-i.i ≤ c.args.size = omega arith in
+      let items : c.extend_from_slice.new.self.items ≡ c.loop-i.bytes.items ++ take (min (c.args.size - c.loop-i.i * BLOCK_BYTES) BLOCK_BYTES) c.in_ok-block.block =
       cc (c.in_ok-extend_from_slice.ensures.items, c.min-left.ensures) in
       subst (λ (bytes : List ℕ). Gathered (held (g.D.Drive.journal c.args.drive.now)) c.args.at (c.loop-i.i + 1) c.args.size bytes) (sym items)
       (bytes_more _ _ _ _ _ _ long (held_at _ _ _ below there) inside (c.loop-i.invariant.read (c.read_block.ensures.reads.honest h)));

@@ -1,5 +1,6 @@
 use Rattle.std.proofs.Common.{◌≡◌, ◌-◌, ◌<◌, ◌≤◌, List, length, take, refl, sym, subst, ◌∙◌, arith}
 use Rattle.std.proofs.lemmas.Result.{err_from_is_err_and}
+use Rattle.limits.specs.declared.TheConstants.{PARTITION_START}
 use Rattle.drive.proofs.Reading.{reads_then}
 use Rattle.drive.specs.Journal.{Event, held}
 use Rattle.vat.specs.Table.{IsTableAt, view}
@@ -56,7 +57,7 @@ returns-then-ne-clause-refused g c = rw c.damaged-then-ne.ensures (λ h.
     let entry = subst (λ (K : List Event). IsEntryAt (held K) c.args.at c.in_ok-entry.entry) one (c.in_ok-entry.ensures.found after_entry) in
     let read = c.in_ok-vat.ensures.table in
     let same = subst (λ (K : List Event). read.0 ≡ table_data_of (held K) c.in_ok-entry.entry) two (read.1 h) in
-    other_label (held J) c.args.at c.requires.low long c.in_ok-entry.entry entry c.in_ok-vat.vat (subst (IsTableAt (c.args.at - 257) (view c.in_ok-vat.vat)) same read.2)
+    other_label (held J) c.args.at c.requires.low long c.in_ok-entry.entry entry c.in_ok-vat.vat (subst (IsTableAt (c.args.at - PARTITION_START) (view c.in_ok-vat.vat)) same read.2)
     c.in_ok-front.front.label c.in_ok-front.front.moment c.in_ok-front.front.capacity front (g.D.Drive.capacity c.args.drive.now) _ c.ne.ensures c.if-ne.true)
 
 pub returns-in_err-check_file_set-clause-refused : goal.returns-in_err-check_file_set-clause-refused
@@ -75,7 +76,7 @@ returns-in_err-check_file_set-clause-refused g c =
     let entry = subst (λ (K : List Event). IsEntryAt (held K) c.args.at c.in_ok-entry.entry) one (c.in_ok-entry.ensures.found after_entry) in
     let read = c.in_ok-vat.ensures.table in
     let same = subst (λ (K : List Event). read.0 ≡ table_data_of (held K) c.in_ok-entry.entry) two (read.1 after_table) in
-    set_refused (held J) c.args.at c.requires.low long c.in_ok-entry.entry entry c.in_ok-vat.vat (subst (IsTableAt (c.args.at - 257) (view c.in_ok-vat.vat)) same read.2)
+    set_refused (held J) c.args.at c.requires.low long c.in_ok-entry.entry entry c.in_ok-vat.vat (subst (IsTableAt (c.args.at - PARTITION_START) (view c.in_ok-vat.vat)) same read.2)
     c.in_ok-front.front.label c.in_ok-front.front.moment c.in_ok-front.front.capacity front (g.D.Drive.capacity c.args.drive.now) _ (rw three at (c.in_err-check_file_set.ensures.refused h)))
 
 pub returns-clause-described : goal.returns-clause-described
@@ -96,7 +97,7 @@ returns-clause-described g c = λ h.
       entry = c.in_ok-entry.entry;
       is_entry = entry;
       below = c.in_ok-entry.ensures.below;
-      table = subst (IsTableAt (c.args.at - 257) (view c.in_ok-vat.vat)) same read.2;
+      table = subst (IsTableAt (c.args.at - PARTITION_START) (view c.in_ok-vat.vat)) same read.2;
       moment = refl;
       label = same_label c.in_ok-vat.vat.label c.in_ok-front.front.label _ c.ne.ensures c.if-ne.false;
       formatted = c.in_ok-front.front.moment;

@@ -1,5 +1,6 @@
 use Rattle.std.proofs.Common.{◌≡◌, ◌<◌, ◌≤◌, List, refl, sym, subst, length, arith}
 use Rattle.std.proofs.lemmas.Option.{none-some}
+use Rattle.limits.specs.declared.TheConstants.{PARTITION_START}
 use Rattle.drive.specs.Journal.{Event, held, next_of}
 use Rattle.drive.proofs.Reading.{reads_then}
 use Rattle.recover.proofs.Fronts.{BeginsFront, more_front, no_block, no_front, no_words, whole_front}
@@ -31,8 +32,8 @@ loop-n-preserved g c = record {
 
 pub returns-clause-front : goal.returns-clause-front
 returns-clause-front g c = λ h.
-    let long : 257 ≤ length (held (g.D.Drive.journal c.args.drive.now)) = omega (arith, length-held (g.D.Drive.journal c.args.drive.now)) in
-    let all : c.loop-n.n ≡ 257 = omega arith in
+    let long : PARTITION_START ≤ length (held (g.D.Drive.journal c.args.drive.now)) = omega (arith, length-held (g.D.Drive.journal c.args.drive.now)) in
+    let all : c.loop-n.n ≡ PARTITION_START = omega arith in
     whole_front _ _ _ _ c.in-Ok.ensures.capacity.0 c.in-Ok.ensures.capacity.1 long
     (subst (λ n. BeginsFront c.in-Ok.front.label c.in-Ok.front.moment c.in-Ok.front.capacity n (held (g.D.Drive.journal c.args.drive.now))) all (c.loop-n.invariant.seen h))
 
@@ -55,7 +56,7 @@ returns-in-Some-clause-refused g c = rw c.damaged-in-Some.ensures (λ h. (
       let first : 32 < next_of J = omega (arith, c.requires.within) in
       let second : 34 < next_of J = omega (arith, c.requires.within) in
       let here : c.loop-n.n < next_of J = omega (arith, c.requires.within, c.loop-n-test.true) in
-      let inside : c.loop-n.n < 257 = omega (arith, c.loop-n-test.true) in
+      let inside : c.loop-n.n < PARTITION_START = omega (arith, c.loop-n-test.true) in
       let words = c.loop-n.invariant.words (c.read_block-in-loop-n.ensures.reads.honest h) in
       no_block label moment capacity (held J) c.in-Ok.front words.0 words.1 c.loop-n.n c.in_ok-block.block (held_at J 32 _ first words.2) (held_at J 34 _ second words.3)
       words.4 inside (held_at J c.loop-n.n _ here (rw c.loop-n.invariant.reads.journal at (c.in_ok-block.ensures.read h)))

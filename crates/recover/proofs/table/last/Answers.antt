@@ -1,5 +1,6 @@
 use Rattle.std.proofs.Common.{◌-◌, ◌<◌, ◌≤◌, IsTrue, sym, subst, ◌∙◌, arith}
 use Rattle.std.proofs.lemmas.Bool.{false≢true}
+use Rattle.limits.specs.declared.TheConstants.{PARTITION_START}
 use Rattle.drive.specs.Journal.{held, next_of}
 use Rattle.drive.proofs.Reading.{reads_then}
 use Rattle.recover.proofs.Held.{held_at, length-held}
@@ -43,4 +44,4 @@ returns-then-is_vat_icb-clause-last g c = λ h.
     )
 
 pub returns-clause-last : goal.returns-clause-last
-returns-clause-last g c = λ h. none_above (held (g.D.Drive.journal c.args.drive.now)) c.loop-left.left 257 (omega arith) (c.loop-left.invariant.unseen h)
+returns-clause-last g c = λ h. none_above (held (g.D.Drive.journal c.args.drive.now)) c.loop-left.left PARTITION_START (omega arith) (c.loop-left.invariant.unseen h)

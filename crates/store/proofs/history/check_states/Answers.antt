@@ -1,5 +1,6 @@
 use Rattle.std.proofs.Common.{◌≡◌, ◌+◌, ◌<◌, ◌^◌, arith}
 use Rattle.std.proofs.lemmas.Result.{err_from_is_err_and}
+use Rattle.limits.specs.declared.TheConstants.{PARTITION_START}
 use Rattle.drive.proofs.Reading.{reads_then}
 use Rattle.drive.specs.Journal.{held}
 use Rattle.vat.specs.Table.{view}
@@ -57,7 +58,7 @@ pub returns-then-from-clause-refused : goal.returns-then-from-clause-refused
 returns-then-from-clause-refused g c = rw c.damaged.ensures (λ h.
     link_unseen (held (g.D.Drive.journal c.args.drive.now)) (g.D.Drive.capacity c.args.drive.now) c.args.at c.in-Some.number (view c.loop-vat.vat) (view c.in_ok-before.field-0.vat)
     (c.loop-vat.invariant.seen (c.state_sharing-in-Some.ensures.reads.reads.honest h)) c.in-Some.is (rw c.loop-vat.invariant.reads.journal at (c.in_ok-before.ensures.table h))
-    (λ same. absurd (omega (arith, same, c.if-from.true, c.from.ensures, c.from-in-Some.ensures))) (c.in-Some.number + 257) 78)
+    (λ same. absurd (omega (arith, same, c.if-from.true, c.from.ensures, c.from-in-Some.ensures))) (c.in-Some.number + PARTITION_START) 78)
 
 pub returns-then-from-clause-reads : goal.returns-then-from-clause-reads
 returns-then-from-clause-reads g c = rw c.damaged.ensures (reads_then c.loop-vat.invariant.reads c.in_ok-before.ensures.reads.reads)

@@ -1,4 +1,5 @@
 use Rattle.std.proofs.Common.{◌≡◌, ◌+◌, ◌<◌, ◌^◌, ◌↔◌, IsTrue, IsNone, IfSome}
+use Rattle.limits.specs.declared.TheConstants.{PARTITION_START}
 use Rattle.drive.specs.Journal.{held}
 use Rattle.drive.specs.Reads.{ReadsOnly}
 use Rattle.vat.specs.Table.{view}
@@ -11,7 +12,7 @@ invariant-loop-vat g l = record {
   seen : IsTrue (g.D.Drive.honest l.drive) → Seen (held (g.D.Drive.journal l.fn.drive)) (g.D.Drive.capacity l.fn.drive) l.fn.at (view l.vat);
   known : IsTrue (g.D.Drive.honest l.drive) → IsKnown (held (g.D.Drive.journal l.drive)) l.known;
   fits : l.fn.at < 2 ^ 32;
-  link : IfSome l.vat.previous (λ number. number + 257 < l.fn.at);
+  link : IfSome l.vat.previous (λ number. number + PARTITION_START < l.fn.at);
   first : IsNone l.vat.previous ↔ (l.vat.sessions.commits ≡ 0);
   reads : ReadsOnly g.D.Drive 0 l.fn.drive l.drive;
 }

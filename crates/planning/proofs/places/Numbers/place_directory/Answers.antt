@@ -1,5 +1,6 @@
 use Rattle.std.proofs.Common.{◌≡◌, ◌+◌, ◌/◌, ◌++◌, ◌∷◌, ◌∙◌, [], length, refl, sym, subst, arith, ap, rules}
 use Rattle.std.specs.Int.{div_ceil}
+use Rattle.limits.specs.declared.TheConstants.{BLOCK_BYTES}
 use Rattle.dir.specs.Directory.{directory_size, directory_blocks}
 use Rattle.ecma.specs.Blocks.{block_count}
 use Rattle.durability.specs.Plan.{WritesNode}
@@ -15,7 +16,7 @@ pub directory_entry-entry-requires-clause-blocks : goal.directory_entry-entry-re
 directory_entry-entry-requires-clause-blocks c =
     let dir = c.args.directory.content.dir in
     let size : c.bytes.result ≡ directory_size dir = c.bytes.ensures ∙ c.data_size-size.ensures.size in
-    let count : length (directory_blocks dir c.args.self.now.next) ≡ (c.bytes.result + 2047) / 2048 = c.data_size-size.ensures.blocks c.args.self.now.next ∙ ap block_count (sym size) in
+    let count : length (directory_blocks dir c.args.self.now.next) ≡ (c.bytes.result + 2047) / BLOCK_BYTES = c.data_size-size.ensures.blocks c.args.self.now.next ∙ ap block_count (sym size) in
     omega (arith, count)
 
 pub directory_entry-entry-requires-clause-some : goal.directory_entry-entry-requires-clause-some
@@ -26,14 +27,14 @@ directory_entry-entry-requires-clause-few c = omega (arith, c.bytes.ensures, c.d
 
 pub directory_entry-entry-requires-clause-room : goal.directory_entry-entry-requires-clause-room
 directory_entry-entry-requires-clause-room c =
-    let blocks : c.blocks-2.result ≡ (c.bytes.result + 2047) / 2048 = c.blocks-2.ensures.size ∙ ap block_count (sym c.bytes.ensures) in
+    let blocks : c.blocks-2.result ≡ (c.bytes.result + 2047) / BLOCK_BYTES = c.blocks-2.ensures.size ∙ ap block_count (sym c.bytes.ensures) in
     omega (arith, blocks, c.take.ensures.next, c.take.new.self.within, c.take.new.self.partition)
 
 pub returns-clause-written : goal.returns-clause-written
 returns-clause-written c =
-    let blocks : c.blocks-2.result ≡ (c.bytes.result + 2047) / 2048 = c.blocks-2.ensures.size ∙ ap block_count (sym c.bytes.ensures) in
+    let blocks : c.blocks-2.result ≡ (c.bytes.result + 2047) / BLOCK_BYTES = c.blocks-2.ensures.size ∙ ap block_count (sym c.bytes.ensures) in
     let from = c.args.self.now.next in
-    let number : from + div_ceil c.bytes.result 2048 ≡ c.take.new.self.next = omega (arith, blocks, c.take.ensures.next) in
+    let number : from + div_ceil c.bytes.result BLOCK_BYTES ≡ c.take.new.self.next = omega (arith, blocks, c.take.ensures.next) in
     subst (λ n. WritesNode udf (directory_writing c.args.directory) from (directory_blocks c.args.directory.content.dir from ++ c.directory_entry-entry.result ∷ []) n) number c.directory_entry-entry.ensures.written
 
 pub returns-clause-laid : goal.returns-clause-laid
@@ -41,11 +42,11 @@ returns-clause-laid c =
     let dir = c.args.directory.content.dir in
     let from = c.args.self.now.next in
     let size : c.bytes.result ≡ directory_size dir = c.bytes.ensures ∙ c.data_size-size.ensures.size in
-    let count : length (directory_blocks dir from) ≡ (c.bytes.result + 2047) / 2048 = c.data_size-size.ensures.blocks from ∙ ap block_count (sym size) in
-    let blocks : c.blocks-2.result ≡ (c.bytes.result + 2047) / 2048 = c.blocks-2.ensures.size ∙ ap block_count (sym c.bytes.ensures) in
+    let count : length (directory_blocks dir from) ≡ (c.bytes.result + 2047) / BLOCK_BYTES = c.data_size-size.ensures.blocks from ∙ ap block_count (sym size) in
+    let blocks : c.blocks-2.result ≡ (c.bytes.result + 2047) / BLOCK_BYTES = c.blocks-2.ensures.size ∙ ap block_count (sym c.bytes.ensures) in
     record {
       first = refl;
-      blocks = (let long : length (directory_blocks dir from) ≡ div_ceil c.bytes.result 2048 = omega (arith, count) in long);
+      blocks = (let long : length (directory_blocks dir from) ≡ div_ceil c.bytes.result BLOCK_BYTES = omega (arith, count) in long);
       is = laid_there dir from c.bytes.result (search rules) (search rules) c.requires.proper size;
       number = omega (arith, count, blocks, c.take.ensures.next);
       says = c.directory_entry-entry.ensures.describes;
@@ -55,8 +56,8 @@ pub take-requires : goal.take-requires
 take-requires c =
     let dir = c.args.directory.content.dir in
     let size : c.bytes.result ≡ directory_size dir = c.bytes.ensures ∙ c.data_size-size.ensures.size in
-    let blocks : c.blocks-2.result ≡ (c.bytes.result + 2047) / 2048 = c.blocks-2.ensures.size ∙ ap block_count (sym c.bytes.ensures) in
-    let count : length (directory_blocks dir c.args.self.now.next) ≡ (c.bytes.result + 2047) / 2048 = c.data_size-size.ensures.blocks c.args.self.now.next ∙ ap block_count (sym size) in
+    let blocks : c.blocks-2.result ≡ (c.bytes.result + 2047) / BLOCK_BYTES = c.blocks-2.ensures.size ∙ ap block_count (sym c.bytes.ensures) in
+    let count : length (directory_blocks dir c.args.self.now.next) ≡ (c.bytes.result + 2047) / BLOCK_BYTES = c.data_size-size.ensures.blocks c.args.self.now.next ∙ ap block_count (sym size) in
     let short = directory_short dir c.args.self.now.next (search rules) (search rules) c.requires.proper in
     record { room = omega (arith, c.requires.room, blocks, count, short) }
 
@@ -64,8 +65,8 @@ pub take-requires-2 : goal.take-requires-2
 take-requires-2 c =
     let dir = c.args.directory.content.dir in
     let size : c.bytes.result ≡ directory_size dir = c.bytes.ensures ∙ c.data_size-size.ensures.size in
-    let blocks : c.blocks-2.result ≡ (c.bytes.result + 2047) / 2048 = c.blocks-2.ensures.size ∙ ap block_count (sym c.bytes.ensures) in
-    let count : length (directory_blocks dir c.args.self.now.next) ≡ (c.bytes.result + 2047) / 2048 = c.data_size-size.ensures.blocks c.args.self.now.next ∙ ap block_count (sym size) in
+    let blocks : c.blocks-2.result ≡ (c.bytes.result + 2047) / BLOCK_BYTES = c.blocks-2.ensures.size ∙ ap block_count (sym c.bytes.ensures) in
+    let count : length (directory_blocks dir c.args.self.now.next) ≡ (c.bytes.result + 2047) / BLOCK_BYTES = c.data_size-size.ensures.blocks c.args.self.now.next ∙ ap block_count (sym size) in
     let short = directory_short dir c.args.self.now.next (search rules) (search rules) c.requires.proper in
     record { room = omega (arith, c.requires.room, blocks, count, short, c.take.ensures.next, c.take.ensures.end) }
 
@@ -73,7 +74,7 @@ pub returns-clause-most : goal.returns-clause-most
 returns-clause-most c =
     let dir = c.args.directory.content.dir in
     let size : c.bytes.result ≡ directory_size dir = c.bytes.ensures ∙ c.data_size-size.ensures.size in
-    let blocks : c.blocks-2.result ≡ (c.bytes.result + 2047) / 2048 = c.blocks-2.ensures.size ∙ ap block_count (sym c.bytes.ensures) in
-    let count : length (directory_blocks dir c.args.self.now.next) ≡ (c.bytes.result + 2047) / 2048 = c.data_size-size.ensures.blocks c.args.self.now.next ∙ ap block_count (sym size) in
+    let blocks : c.blocks-2.result ≡ (c.bytes.result + 2047) / BLOCK_BYTES = c.blocks-2.ensures.size ∙ ap block_count (sym c.bytes.ensures) in
+    let count : length (directory_blocks dir c.args.self.now.next) ≡ (c.bytes.result + 2047) / BLOCK_BYTES = c.data_size-size.ensures.blocks c.args.self.now.next ∙ ap block_count (sym size) in
     let short = directory_short dir c.args.self.now.next (search rules) (search rules) c.requires.proper in
     omega (arith, blocks, count, short, c.take.ensures.next, c.take-2.ensures.next)

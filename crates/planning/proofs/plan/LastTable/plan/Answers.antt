@@ -2,6 +2,7 @@ use Rattle.std.proofs.Common.{◌≡◌, ◌+◌, ◌-◌, ◌<◌, IsTrue, ◌�
 use Rattle.std.specs.Prelude.{All, Option, IfSome}
 use Rattle.std.proofs.lemmas.Bool.{false≢true}
 use Rattle.std.proofs.lemmas.Result.{err_from_is_err_and}
+use Rattle.limits.specs.declared.TheConstants.{PARTITION_START}
 use Rattle.drive.specs.Journal.{next_of}
 use Rattle.drive.specs.Reads.{ReadsOnly}
 use Rattle.durability.specs.Plan.{Writing, WritesNodes}
@@ -25,15 +26,15 @@ use Rattle.planning.proofs.plan.LastTable.plan.Goals as goal
 pub place_table-requires-clause-leads : goal.place_table-requires-clause-leads
 place_table-requires-clause-leads g c =
     let start = c.new-numbers.result.next in
-    let begins : start + 257 ≡ next_of (g.D.Drive.journal c.args.drive.now) = omega (arith, c.in-Ok.ensures.next, c.new-numbers.ensures.next, c.requires.agrees.on, c.requires.agrees.keeps.low) in
-    let first = below_later c.args.self.now.vat_icb_address (start + 257) c.in_ok-vat.vat.entries.items (omega (arith, begins, c.requires.agrees.on)) c.in_ok-vat.ensures.begins.below in
+    let begins : start + PARTITION_START ≡ next_of (g.D.Drive.journal c.args.drive.now) = omega (arith, c.in-Ok.ensures.next, c.new-numbers.ensures.next, c.requires.agrees.on, c.requires.agrees.keeps.low) in
+    let first = below_later c.args.self.now.vat_icb_address (start + PARTITION_START) c.in_ok-vat.vat.entries.items (omega (arith, begins, c.requires.agrees.on)) c.in_ok-vat.ensures.begins.below in
     let end = c.enter_directories.new.numbers.next in
-    let previous : c.take_away.new.vat.previous ≡ Some (c.args.self.now.vat_icb_address - 257) =
+    let previous : c.take_away.new.vat.previous ≡ Some (c.args.self.now.vat_icb_address - PARTITION_START) =
     c.in_ok-take_away.ensures.gone.stays.previous ∙ c.in_ok-directories.ensures.enters.stays.previous ∙ c.in_ok-file.ensures.enters.stays.previous ∙ c.in_ok-vat.ensures.begins.previous in
-    let low : c.args.self.now.vat_icb_address - 257 < end =
+    let low : c.args.self.now.vat_icb_address - PARTITION_START < end =
     omega (arith, c.in-Ok.ensures.next, c.new-numbers.ensures.next, c.in_ok-file.ensures.enters.next, c.in_ok-directories.ensures.enters.next, c.requires.agrees.on, c.requires.agrees.keeps.low) in
     record {
-      below = c.in_ok-take_away.ensures.gone.below (end + 257) (c.in_ok-directories.ensures.enters.below (c.in_ok-file.ensures.enters.below first));
+      below = c.in_ok-take_away.ensures.gone.below (end + PARTITION_START) (c.in_ok-directories.ensures.enters.below (c.in_ok-file.ensures.enters.below first));
       previous = subst (λ (p : Option ℕ). IfSome p (λ n. n < end)) (sym previous) low;
     }
 
@@ -49,17 +50,17 @@ returns-clause-plan g c =
     let at = table.at in
     let vat = table.vat in
     let nodes = file_list file ++ directories_list directories in
-    let begins : start ≡ next_of J - 257 = omega (arith, c.in-Ok.ensures.next, c.new-numbers.ensures.next) in
-    let low : 257 ≤ next_of J = omega (arith, c.requires.agrees.on, c.requires.agrees.keeps.low) in
-    let size : node_end ≡ next_of J - 257 + length nodes = omega (arith, begins, c.in_ok-file.ensures.enters.next, c.in_ok-directories.ensures.enters.next, length-append (file_list file) (directories_list directories)) in
+    let begins : start ≡ next_of J - PARTITION_START = omega (arith, c.in-Ok.ensures.next, c.new-numbers.ensures.next) in
+    let low : PARTITION_START ≤ next_of J = omega (arith, c.requires.agrees.on, c.requires.agrees.keeps.low) in
+    let size : node_end ≡ next_of J - PARTITION_START + length nodes = omega (arith, begins, c.in_ok-file.ensures.enters.next, c.in_ok-directories.ensures.enters.next, length-append (file_list file) (directories_list directories)) in
     let after : next_of J + 1 ≤ at = omega (arith, low, size, c.in_ok-table.ensures.placed.number, length-padded table.gap table.bytes.items, c.in_ok-table.ensures.some) in
     let commits : vat.sessions.commits ≡ c.args.self.now.vat.now.sessions.commits + 1 =
     ap (λ (v : Vat). v.sessions.commits) c.in_ok-table.ensures.vat ∙ c.in_ok-take_away.ensures.gone.stays.commits ∙ c.in_ok-directories.ensures.enters.stays.commits ∙ c.in_ok-file.ensures.enters.stays.commits ∙ c.in_ok-vat.ensures.begins.commits in
     let unique : vat.sessions.next_unique ≡ c.in_ok-vat.vat.sessions.next_unique =
     ap (λ (v : Vat). v.sessions.next_unique) c.in_ok-table.ensures.vat ∙ c.in_ok-take_away.ensures.gone.stays.unique ∙ c.in_ok-directories.ensures.enters.stays.unique ∙ c.in_ok-file.ensures.enters.stays.unique in
-    let first = below_later c.args.self.now.vat_icb_address (start + 257) c.in_ok-vat.vat.entries.items (omega (arith, begins, c.requires.agrees.on)) c.in_ok-vat.ensures.begins.below in
-    let gone = c.in_ok-take_away.ensures.gone.below (node_end + 257) (c.in_ok-directories.ensures.enters.below (c.in_ok-file.ensures.enters.below first)) in
-    let all : AreBelow at c.take_away.new.vat.entries.items = below_later (node_end + 257) at c.take_away.new.vat.entries.items (omega (arith, c.in_ok-table.ensures.placed.number)) gone in
+    let first = below_later c.args.self.now.vat_icb_address (start + PARTITION_START) c.in_ok-vat.vat.entries.items (omega (arith, begins, c.requires.agrees.on)) c.in_ok-vat.ensures.begins.below in
+    let gone = c.in_ok-take_away.ensures.gone.below (node_end + PARTITION_START) (c.in_ok-directories.ensures.enters.below (c.in_ok-file.ensures.enters.below first)) in
+    let all : AreBelow at c.take_away.new.vat.entries.items = below_later (node_end + PARTITION_START) at c.take_away.new.vat.entries.items (omega (arith, c.in_ok-table.ensures.placed.number)) gone in
     let second = subst (λ n. WritesNodes udf (directories_writings directories) n (directories_list directories) (directories_written directories)) c.in_ok-file.ensures.enters.next c.in_ok-directories.ensures.enters.written in
     let both = writes-append (file_writings c.args.moment file) (directories_writings directories) start (file_list file) (directories_list directories) (file_written file) (directories_written directories) c.in_ok-file.ensures.enters.written second in
     record {

@@ -3,6 +3,7 @@ use Rattle.std.specs.Prelude.{IfSome, Option}
 use Rattle.std.specs.Int.{div_ceil}
 use Rattle.std.proofs.lemmas.Bool.{false≢true}
 use Rattle.std.proofs.lemmas.Result.{err_from_is_err_and}
+use Rattle.limits.specs.declared.TheConstants.{BLOCK_BYTES, PARTITION_START}
 use Rattle.drive.specs.Journal.{held}
 use Rattle.recover.specs.declared.directory.Extent.{Extent}
 use Rattle.recover.specs.Walk.{LiesBelow}
@@ -30,7 +31,7 @@ returns-clause-body g c = record {
       };
   extent =
       extent_lies c.args.self.now.at c.in_ok-entry.entry.extent c.in_ok-entry.entry.fits
-      (subst (λ (n : ℕ). IfSome c.in_ok-entry.entry.extent (λ (e : Extent). e.first + 257 + div_ceil e.size 2048 ≤ n)) c.is_new_unique.ensures.rest.at (c.is_below.ensures.0 c.if-not-is_below.false));
+      (subst (λ (n : ℕ). IfSome c.in_ok-entry.entry.extent (λ (e : Extent). e.first + PARTITION_START + div_ceil e.size BLOCK_BYTES ≤ n)) c.is_new_unique.ensures.rest.at (c.is_below.ensures.0 c.if-not-is_below.false));
 }
 
 pub returns-clause-unique : goal.returns-clause-unique
@@ -71,5 +72,5 @@ returns-then-not-is_below-clause-refused g c = rw c.damaged-then-not-is_below.en
     (lies_there _ c.args.self.now.at c.args.entry_at said.block c.requires.below said.there) said.fields said.is
     (λ (kind, unique, file, below, drawn, fresh).
     let ends = ends_below c.args.self.now.at c.in_ok-entry.entry.extent (subst (λ (o : Option Extent). IfSome o (LiesBelow c.args.self.now.at)) (sym said.extent) below) in
-    let there = subst (λ (n : ℕ). IfSome c.in_ok-entry.entry.extent (λ (e : Extent). e.first + 257 + div_ceil e.size 2048 ≤ n)) (sym c.is_new_unique.ensures.rest.at) ends in
+    let there = subst (λ (n : ℕ). IfSome c.in_ok-entry.entry.extent (λ (e : Extent). e.first + PARTITION_START + div_ceil e.size BLOCK_BYTES ≤ n)) (sym c.is_new_unique.ensures.rest.at) ends in
     false≢true (sym c.if-not-is_below.true ∙ c.is_below.ensures.1 there)))

@@ -1,5 +1,6 @@
 use Rattle.std.proofs.Common.{◌+◌, ◌<◌, ◌^◌, List, subst, arith}
 use Rattle.std.proofs.lemmas.Result.{err_from_is_err_and}
+use Rattle.limits.specs.declared.TheConstants.{PARTITION_START}
 use Rattle.drive.proofs.Reading.{reads_then}
 use Rattle.drive.specs.Journal.{Event, held, next_of}
 use Rattle.vat.specs.Table.{view}
@@ -24,7 +25,7 @@ loop-vat-init g c = record {
 pub linked-requires-clause-fits : goal.linked-requires-clause-fits
 linked-requires-clause-fits g c =
     let below = link_below _ _ _ c.in-Some.is c.loop-vat.invariant.link in
-    let fits : c.in-Some.number + 257 < 4294967296 = omega (arith, below, c.loop-vat.invariant.fits) in fits
+    let fits : c.in-Some.number + PARTITION_START < 4294967296 = omega (arith, below, c.loop-vat.invariant.fits) in fits
 
 pub overflow_add-number : goal.overflow_add-number
 overflow_add-number g c = omega (arith, link_below _ _ _ c.in-Some.is c.loop-vat.invariant.link, c.loop-vat.invariant.fits)
@@ -37,7 +38,7 @@ loop-vat-preserved g c =
           c.in_ok-vat-2.ensures.commits c.of-in-Some.ensures c.in_ok-push-2.ensures.items;
       goes = λ h all is. left_next (held (g.D.Drive.journal c.args.drive.now)) c.in-Some.number (view c.loop-vat.vat) (view c.in_ok-vat-2.vat) c.in-Some.is
           (rw c.loop-vat.invariant.reads.journal at (c.in_ok-vat-2.ensures.table h)) (c.loop-vat.invariant.goes (c.linked.ensures.reads.honest h) all is);
-      within = more_within (next_of (g.D.Drive.journal c.args.drive.now)) (c.in-Some.number + 257) (view c.in_ok-vat-2.vat) _ _ _ c.loop-vat.invariant.within
+      within = more_within (next_of (g.D.Drive.journal c.args.drive.now)) (c.in-Some.number + PARTITION_START) (view c.in_ok-vat-2.vat) _ _ _ c.loop-vat.invariant.within
           (omega arith) (omega (arith, below, c.requires.agrees.on)) c.of-in-Some.ensures c.in_ok-push-2.ensures.items;
       fits = c.loop-vat.invariant.fits;
       link = next_below _ c.in-Some.number _ c.in_ok-vat-2.ensures.previous below;
@@ -65,5 +66,5 @@ pub returns-in_err-vat-2-clause-refused : goal.returns-in_err-vat-2-clause-refus
 returns-in_err-vat-2-clause-refused g c going =
     let q = err_from_is_err_and c.from_residual-in_err-vat-2.result c.from_residual-in_err-vat-2.ensures.1 in
     rw (q.1, q.2) (λ h.
-    let refused = subst (λ (K : List Event). IsLinkRefused (held K) (c.in-Some.number + 257) c.loop-vat.vat.sessions.commits c.in_err-vat-2.field-0.0) c.loop-vat.invariant.reads.journal (c.in_err-vat-2.ensures.refused h) in
+    let refused = subst (λ (K : List Event). IsLinkRefused (held K) (c.in-Some.number + PARTITION_START) c.loop-vat.vat.sessions.commits c.in_err-vat-2.field-0.0) c.loop-vat.invariant.reads.journal (c.in_err-vat-2.ensures.refused h) in
     history_link (held (g.D.Drive.journal c.args.drive.now)) c.args.self.now.vat_icb_address c.in-Some.number (view c.loop-vat.vat) c.in-Some.is (c.loop-vat.invariant.goes (c.linked.ensures.reads.honest h)) _ refused)

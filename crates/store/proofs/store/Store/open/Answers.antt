@@ -1,6 +1,7 @@
 use Rattle.std.proofs.Common.{◌<◌, ◌≤◌, ℕ, List, Option, refl, sym, subst, ◌∙◌, arith}
 use Rattle.std.specs.Prelude.{IfSome, IsTrue}
 use Rattle.std.proofs.lemmas.Result.{err_from_is_err_and}
+use Rattle.limits.specs.declared.TheConstants.{PARTITION_START}
 use Rattle.drive.specs.Journal.{Event, held, next_of}
 use Rattle.recover.specs.Faults.{IsShortage}
 use Rattle.recover.specs.declared.fault.StoreFault.{StoreFault}
@@ -15,7 +16,7 @@ use Rattle.store.proofs.store.Store.open.Goals as goal
 pub returns-clause-agrees : goal.returns-clause-agrees
 returns-clause-agrees g c =
     let sound = c.in_ok-capacity.ensures.sound in
-    let within = subst (λ (o : Option ℕ). IfSome o (λ at. (257 ≤ at) × (at < next_of (g.D.Drive.journal c.args.drive.now)))) c.in-Some.is c.in_ok-at.ensures.within in
+    let within = subst (λ (o : Option ℕ). IfSome o (λ at. (PARTITION_START ≤ at) × (at < next_of (g.D.Drive.journal c.args.drive.now)))) c.in-Some.is c.in_ok-at.ensures.within in
     record {
       keeps = record {
         low = omega (arith, sound.counted.few_commits);

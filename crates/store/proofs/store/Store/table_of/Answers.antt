@@ -1,5 +1,6 @@
 use Rattle.std.proofs.Common.{◌+◌, ◌<◌, ◌≤◌, ◌^◌, List, refl, subst, suc, arith}
 use Rattle.std.proofs.lemmas.Result.{err_from_is_err_and}
+use Rattle.limits.specs.declared.TheConstants.{PARTITION_START}
 use Rattle.drive.proofs.Reading.{reads_then}
 use Rattle.drive.specs.Journal.{Event, held, next_of}
 use Rattle.vat.specs.Table.{view}
@@ -16,7 +17,7 @@ loop-vat-init g c = record {
   table = c.in_ok-vat.ensures.table;
   more = λ h first there le. subst (λ (t : Table_). c.args.commit ≤ t.commits) (one_read (held (g.D.Drive.journal c.args.drive.now)) c.args.self.now.vat_icb_address first (view c.in_ok-vat.vat) there (c.in_ok-vat.ensures.table h)) le;
   first = c.in_ok-vat.ensures.first;
-  low = (let low : 257 ≤ c.args.self.now.vat_icb_address = omega (arith, c.requires.agrees.keeps.low) in low);
+  low = (let low : PARTITION_START ≤ c.args.self.now.vat_icb_address = omega (arith, c.requires.agrees.keeps.low) in low);
   high = c.requires.agrees.on;
   fits = (let fits : c.args.self.now.vat_icb_address < 2 ^ 32 = omega arith in fits);
   link = c.in_ok-vat.ensures.previous;
@@ -26,7 +27,7 @@ loop-vat-init g c = record {
 pub linked-requires-clause-fits : goal.linked-requires-clause-fits
 linked-requires-clause-fits g c =
     let below = link_below _ _ _ c.in-Some.is c.loop-vat.invariant.link in
-    let fits : c.in-Some.number + 257 < 4294967296 = omega (arith, below, c.loop-vat.invariant.fits) in fits
+    let fits : c.in-Some.number + PARTITION_START < 4294967296 = omega (arith, below, c.loop-vat.invariant.fits) in fits
 
 pub overflow_add-at : goal.overflow_add-at
 overflow_add-at g c = omega (arith, link_below _ _ _ c.in-Some.is c.loop-vat.invariant.link, c.loop-vat.invariant.fits)
@@ -49,9 +50,9 @@ loop-vat-preserved g c =
           let less = more_than c.args.commit c.loop-vat.vat.sessions.commits (c.loop-vat.invariant.more (c.linked.ensures.reads.honest h) first there le) c.loop-vat-test.true in
           omega (arith, less, c.in_ok-vat-2.ensures.commits);
       first = c.in_ok-vat-2.ensures.first;
-      low = (let low : 257 ≤ c.in-Some.number + 257 = omega arith in low);
-      high = (let high : c.in-Some.number + 257 < next_of (g.D.Drive.journal c.args.drive.now) = omega (arith, below, c.loop-vat.invariant.high) in high);
-      fits = (let fits : c.in-Some.number + 257 < 2 ^ 32 = omega (arith, below, c.loop-vat.invariant.fits) in fits);
+      low = (let low : PARTITION_START ≤ c.in-Some.number + PARTITION_START = omega arith in low);
+      high = (let high : c.in-Some.number + PARTITION_START < next_of (g.D.Drive.journal c.args.drive.now) = omega (arith, below, c.loop-vat.invariant.high) in high);
+      fits = (let fits : c.in-Some.number + PARTITION_START < 2 ^ 32 = omega (arith, below, c.loop-vat.invariant.fits) in fits);
       link = next_later _ c.in-Some.number c.in_ok-vat-2.ensures.previous;
       reads = reads_then c.loop-vat.invariant.reads c.in_ok-vat-2.ensures.reads;
     }
@@ -77,6 +78,6 @@ returns-in_err-vat-2-clause-refused g c =
     rw (q.1, q.2) (λ h.
     let now = c.linked.ensures.reads.honest h in
     let leads = c.loop-vat.invariant.leads now in
-    let refused = subst (λ (K : List Event). IsLinkRefused (held K) (c.in-Some.number + 257) c.loop-vat.vat.sessions.commits c.in_err-vat-2.field-0.0) c.loop-vat.invariant.reads.journal (c.in_err-vat-2.ensures.refused h) in
+    let refused = subst (λ (K : List Event). IsLinkRefused (held K) (c.in-Some.number + PARTITION_START) c.loop-vat.vat.sessions.commits c.in_err-vat-2.field-0.0) c.loop-vat.invariant.reads.journal (c.in_err-vat-2.ensures.refused h) in
     way_link (held (g.D.Drive.journal c.args.drive.now)) c.args.self.now.vat_icb_address c.args.commit leads.0 c.loop-vat.at c.in-Some.number (view c.loop-vat.vat) leads.1 (c.loop-vat.invariant.table now) c.in-Some.is
     (λ first there le. more_than c.args.commit c.loop-vat.vat.sessions.commits (c.loop-vat.invariant.more now first there le) c.loop-vat-test.true) _ refused)

@@ -1,4 +1,5 @@
 use Rattle.std.proofs.Common.{◌≡◌, ◌+◌, ◌<◌, ◌≤◌, ◌^◌, ◌↔◌, ℕ, IsTrue, IsNone, IfSome}
+use Rattle.limits.specs.declared.TheConstants.{PARTITION_START}
 use Rattle.drive.specs.Journal.{held, next_of}
 use Rattle.drive.specs.Reads.{ReadsOnly}
 use Rattle.vat.specs.Table.{Table, view}
@@ -12,10 +13,10 @@ invariant-loop-vat g l = record {
   table : IsTrue (g.D.Drive.honest l.drive) → HasTableAt (held (g.D.Drive.journal l.fn.drive)) l.at (view l.vat);
   more : IsTrue (g.D.Drive.honest l.drive) → (first : Table) → HasTableAt (held (g.D.Drive.journal l.fn.drive)) l.fn.self.vat_icb_address first → l.fn.commit ≤ first.commits → l.fn.commit ≤ l.vat.sessions.commits;
   first : IsNone l.vat.previous ↔ (l.vat.sessions.commits ≡ 0);
-  low : 257 ≤ l.at;
+  low : PARTITION_START ≤ l.at;
   high : l.at < next_of (g.D.Drive.journal l.fn.drive);
   fits : l.at < 2 ^ 32;
-  link : IfSome l.vat.previous (λ number. number + 257 < l.at);
+  link : IfSome l.vat.previous (λ number. number + PARTITION_START < l.at);
   reads : ReadsOnly g.D.Drive 0 l.fn.drive l.drive;
 }
 
