@@ -49,7 +49,7 @@ kept_ascii text spelled other ascii name is none =
     record {
       front = is ∙ ap (λ (t : List ℕ). 8 ∷ t) (sym same);
       name = subst IsName (sym same) name;
-      compressed_unicode =
+      spelling =
           ap (kept_spelling spelled) none ∙ is ∙ sym (ascii_compressed text ascii (text_some text name)) ∙ ap compressed (sym same);
     }
 
@@ -64,7 +64,7 @@ kept_other text spelled other name is told =
     record {
       front = is ∙ ap (λ (t : List ℕ). 8 ∷ t) (sym same);
       name = subst IsName (sym same) name;
-      compressed_unicode = kept_some spelled other (omega (arith, ap length told, name_some text name)) ∙ told ∙ ap compressed (sym same);
+      spelling = kept_some spelled other (omega (arith, ap length told, name_some text name)) ∙ told ∙ ap compressed (sym same);
     }
 
 -- the spelling of a kept name

@@ -154,7 +154,7 @@ module _ (capacity volume : ℕ) (J : List Event) (S : State) (store : Store) (k
           let entry_there = subst (λ (m : ℕ). udf.IsEntry (record { kind = TableEntry; moment = m; links = 0; identity = 0; size = length plan.table.bytes.items; place = Extent plan.table.first }) plan.table.entry (plan.table.at - PARTITION_START)) makes.moment is.table.mark in
           record {
             placed = subst (λ (n : ℕ). IsPlaced udf plan.table.bytes.items (n - PARTITION_START + length (node_list plan)) plan.table.first (table_data plan.table)) size_is is.table.placed;
-            spelled_length = subst (λ (n : ℕ). IsTableAt n (next_table knows.stands.at r.client r.number (code_of (model_operation r.op) S.tree) change.made (plan_written plan) change.removed (view store.vat)) plan.table.bytes.items) number spelled_there;
+            spelled = subst (λ (n : ℕ). IsTableAt n (next_table knows.stands.at r.client r.number (code_of (model_operation r.op) S.tree) change.made (plan_written plan) change.removed (view store.vat)) plan.table.bytes.items) number spelled_there;
             entry = subst (λ (n : ℕ). udf.IsEntry (record { kind = TableEntry; moment = r.moment; links = 0; identity = 0; size = length plan.table.bytes.items; place = Extent plan.table.first }) plan.table.entry n) number entry_there;
           }
 
