@@ -92,7 +92,7 @@ IsUnlogged after fault before now =
 -- a refusal writes nothing
 abbrev pub CommitIs : {T : Type 0} → ℕ → Result T Fault → CommitStatus → CommitStatus → Session → Session → Type 0
 CommitIs after (Ok x) before now old new = IsLogged after now (seen new)
-CommitIs after (Err fault) before now old new = (now ≡ before) × (cause : StoreFault) × (fault ≡ numbers.told_of cause) × IsUnlogged after cause (seen old) (seen new)
+CommitIs after (Err fault) before now old new = (now ≡ before) × (cause : StoreFault) × (fault ≡ numbers.fault_of_store cause) × IsUnlogged after cause (seen old) (seen new)
 
 abbrev pub AsksCommit : ℕ → ℤ → CommitStatus → CommitStatus → Session → Session → Type 0
 AsksCommit after number before now old new = (outcome : Result ⊤ Fault) × (number ≡ status outcome) × CommitIs after outcome before now old new × Asked old new

@@ -190,7 +190,7 @@ pub fn place_node(vat: &mut Vat, address: u32, number: u32) -> bool
 
 /// Whether a node of the kind is counted that is not the root.
 fn has_node(vat: &Vat, kind: Kind) -> bool
-    ensures { IsTrue result ↔ spec.HasNode kind (view vat.now) }
+    ensures { IsTrue result ↔ spec.CountsNode kind (view vat.now) }
 {
     match kind {
         Kind::File => vat.files > 0,
