@@ -1,5 +1,5 @@
 -- The planned blocks of a request are no more than it may need.
-use Rattle.std.proofs.Common.{if◌then◌else◌, ◌≡◌, ◌⊎◌, inl, inr, ℕ, zero, suc, ◌+◌, ◌*◌, ◌-◌, ◌≤◌, ◌<◌, ◌==◌, ◌&&◌, nat_lt, cond, Bool, true, false, List, [], ◌∷◌, ◌++◌, length, take, map, filter, replicate, Contains, Some, refl, sym, ◌∙◌, ap, subst, arith, eq-eqb, lt-ltb, le-ltb, length-append}
+use Rattle.std.proofs.Common.{if◌then◌else◌, ◌≡◌, ◌⊎◌, inl, inr, ℕ, ◌+◌, ◌*◌, ◌-◌, ◌≤◌, ◌<◌, ◌==◌, ◌&&◌, cond, Bool, true, false, List, [], ◌∷◌, ◌++◌, length, take, map, filter, replicate, Contains, Some, refl, sym, ◌∙◌, ap, subst, arith, eq-eqb, lt-ltb, length-append}
 use Rattle.std.specs.FinMap.{get}
 use Rattle.std.proofs.lemmas.Bool.{true≢false, ne_eqb}
 use Rattle.std.proofs.lemmas.List.{length-replicate}
@@ -7,7 +7,7 @@ use Rattle.model.specs.Tree.{Name, Path, Content, Tree, Has, names_at, names_in,
 use Rattle.model.specs.Tree.Content.{File, Directory}
 use Rattle.model.specs.Operation.{Operation, code_of, is_other, done}
 use Rattle.model.specs.Operation.Operation.{Create, Replace, MakeDir, Rename, Remove}
-use Rattle.model.specs.Session.{State, Request, ClientRecord, after_one}
+use Rattle.model.specs.Session.{State, Request, after_one}
 use Rattle.model.specs.Addresses.{free_address}
 use Rattle.model.specs.Graph.{Graph, Stored, Entry, Body, Reach, entries_in, entries_of, content_in, node_of, as_stored, is_directory}
 use Rattle.model.specs.Graph.Body.{Bytes, Entries}
@@ -19,7 +19,7 @@ use Rattle.model.proofs.ListsAfter.{ListsRenamed, lists_after}
 use Rattle.durability.specs.Formats.{Block, Table_, Formats, AreExact, AreBounded, AreDistinct, AreShort}
 use Rattle.durability.specs.Volume.{Medium, partition_start, blocks_for, graph_of, RecoversTo}
 use Rattle.durability.specs.Commit.{most_inside, file_blocks, most_for_file, most_for_directory, most_for_directory_at, most_for_nodes, most_for_table, table_size, need}
-use Rattle.durability.specs.Plan.{zeros, packed, Writing, Written, IsPlaced, PlacesFile, PlacesBody, WritesNode, WritesNodes, IsPlanned, Plans, PlansAddition, PlansReplacement, PlansRemoval, PlansRenaming, PlansMove, turned}
+use Rattle.durability.specs.Plan.{zeros, packed, Writing, Written, IsPlaced, PlacesFile, PlacesBody, WritesNodes, IsPlanned, Plans, PlansAddition, PlansRenaming, PlansMove}
 use Rattle.durability.specs.Plan.PlacesFile.{nowhere, inside, outside}
 use Rattle.durability.proofs.Packed.{length-packed}
 use Rattle.durability.proofs.Planned.{zero_or, tree_done, moved_reach, table_length_is}

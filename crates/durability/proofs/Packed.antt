@@ -1,9 +1,8 @@
 -- Bytes in blocks, and parts of a medium that goes on.
-use Rattle.std.proofs.Common.{◌≡◌, ℕ, zero, suc, ◌+◌, ◌*◌, ◌-◌, ◌≤◌, ◌<◌, ◌⊎◌, inl, inr, List, [], ◌∷◌, ◌++◌, length, take, drop, replicate, refl, sym, ◌∙◌, ap, arith, append_assoc, append-nil, length-append, length-drop}
+use Rattle.std.proofs.Common.{◌≡◌, ℕ, zero, suc, ◌+◌, ◌*◌, ◌-◌, ◌≤◌, ◌<◌, ◌⊎◌, inl, inr, List, [], ◌∷◌, ◌++◌, length, take, drop, replicate, refl, sym, ◌∙◌, ap, arith, append_assoc, append-nil, length-drop}
 use Rattle.std.specs.List.{flat_map}
 use Rattle.std.proofs.lemmas.List.{length-take, take-append-drop, take_all, drop_all, take-append-le}
 use Rattle.std.proofs.lemmas.Grind.{div_ceil_times}
-use Rattle.durability.specs.Formats.{Block}
 use Rattle.durability.specs.Volume.{blocks_for, bytes_in_blocks}
 use Rattle.durability.specs.Plan.{blocks_from, packed}
 use Rattle.durability.proofs.Lists.{side}

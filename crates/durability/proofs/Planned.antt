@@ -1,5 +1,5 @@
 -- The planned blocks of a request carry it out.
-use Rattle.std.proofs.Common.{if◌then◌else◌, ◌≡◌, ◌⊎◌, inl, inr, ℕ, zero, suc, ◌+◌, ◌-◌, ◌≤◌, ◌<◌, Bool, true, false, List, [], ◌∷◌, ◌++◌, length, take, drop, slice_get, Contains, Option, Some, None, refl, sym, ◌∙◌, ap, subst, arith, cond, eq-eqb, replicate, append-nil, append_assoc, length-append}
+use Rattle.std.proofs.Common.{if◌then◌else◌, ◌≡◌, ◌⊎◌, inl, inr, ℕ, zero, suc, ◌+◌, ◌-◌, ◌≤◌, ◌<◌, Bool, true, false, List, [], ◌∷◌, ◌++◌, length, take, slice_get, Contains, Option, Some, None, refl, sym, ◌∙◌, ap, subst, arith, cond, eq-eqb, replicate, append-nil, append_assoc, length-append}
 use Rattle.std.proofs.lemmas.Bool.{true≢false}
 use Rattle.std.proofs.lemmas.List.{take-append-drop}
 use Rattle.std.proofs.lemmas.Option.{same_Some, slice_get_within}
@@ -27,7 +27,7 @@ use Rattle.durability.specs.Formats.Kind.{Table as TableEntry}
 use Rattle.durability.specs.Formats.NodePlace.{Extent}
 use Rattle.durability.specs.Step.{FollowsRequest, CarriesOut}
 use Rattle.std.proofs.lemmas.Grind.{div_ceil_times}
-use Rattle.durability.specs.Volume.{Medium, partition_start, IsWithin, extent, bytes_in_blocks, HasTable, NoneImitates, IsStoredAt, graph_of, RecoversTo}
+use Rattle.durability.specs.Volume.{Medium, partition_start, IsWithin, extent, bytes_in_blocks, HasTable, NoneImitates, graph_of, RecoversTo}
 use Rattle.durability.proofs.Packed.{length-packed, bytes-packed}
 use Rattle.durability.specs.Plan.{zeros, packed, Writing, Written, WritesNodes, with_entry, with_written, without_all, entries_after, IsPlanned, Plans, turned, PlansAddition, PlansReplacement, PlansRemoval, PlansRenaming, PlansMove}
 use Rattle.durability.proofs.Commits.{keeps, reached_used}

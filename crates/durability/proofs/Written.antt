@@ -1,14 +1,14 @@
 -- Nodes that are written: they are stored where their entries lead, and none of their blocks imitates.
-use Rattle.std.proofs.Common.{◌≡◌, ◌⊎◌, inl, inr, ℕ, zero, suc, ◌+◌, ◌-◌, ◌≤◌, ◌<◌, List, [], ◌∷◌, ◌++◌, length, take, drop, replicate, slice_get, Option, Some, refl, sym, ◌∙◌, ap, subst, arith, append_assoc, append-nil, length-append}
+use Rattle.std.proofs.Common.{◌≡◌, ℕ, zero, suc, ◌+◌, ◌-◌, ◌≤◌, List, [], ◌∷◌, ◌++◌, length, take, drop, replicate, slice_get, Option, Some, refl, sym, ◌∙◌, ap, subst, arith, append_assoc, length-append}
 use Rattle.std.specs.Prelude.{Contains}
 use Rattle.std.proofs.lemmas.List.{length-replicate}
 use Rattle.std.proofs.lemmas.Option.{none-some, same_Some}
-use Rattle.model.specs.Graph.{Graph, Stored, Body, Entry}
+use Rattle.model.specs.Graph.{Graph, Body, Entry}
 use Rattle.model.specs.Graph.Body.{Bytes, Entries}
 use Rattle.model.proofs.Lists.{contains_here, contains_there}
 use Rattle.durability.specs.Formats.{Block, Kind, NodePlace, NodeFields, Formats, AreDistinct}
 use Rattle.durability.specs.Formats.Kind.{Directory, File, Table}
-use Rattle.durability.specs.Formats.NodePlace.{Nowhere, Extent, Inside}
+use Rattle.durability.specs.Formats.NodePlace.{Extent}
 use Rattle.durability.specs.Volume.{Medium, partition_start, blocks_for, IsWithin, extent, bytes_in_blocks, HoldsFile, HoldsDirectory, HoldsBody, IsStoredAt, graph_of, IsVatIcbAt, NoneImitates}
 use Rattle.durability.specs.Plan.{zeros, packed, kind_of_body, Writing, Written, IsPlaced, PlacesFile, PlacesBody, WritesNode, WritesNodes}
 use Rattle.durability.specs.Plan.PlacesFile.{nowhere, inside, outside}

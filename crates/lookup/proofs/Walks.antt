@@ -1,6 +1,6 @@
 -- A walk from the root: what each directory says of a name, and what that says of the tree.
-use Rattle.std.proofs.Common.{◌≡◌, ℕ, ◌+◌, ◌<◌, inl, inr, Bool, true, false, List, [], ◌∷◌, ◌++◌, length, map, take, drop, get_or, Contains, Option, Some, None, refl, sym, ap, subst, ◌∙◌}
-use Rattle.std.specs.Prelude.{nat_eq, IsSome, IfSome, IsTrue}
+use Rattle.std.proofs.Common.{◌≡◌, ℕ, ◌+◌, ◌<◌, inl, inr, true, false, List, [], ◌∷◌, ◌++◌, length, map, take, drop, get_or, Contains, Option, Some, None, refl, sym, ap, subst, ◌∙◌}
+use Rattle.std.specs.Prelude.{nat_eq, IsSome, IfSome}
 use Rattle.std.specs.Map.{lookup}
 use Rattle.std.specs.FinMap.{get}
 use Rattle.std.specs.Cmp.Lexicographic.{pointwise, same_text}
@@ -17,7 +17,7 @@ use Rattle.recover.proofs.Trees.{leads_push}
 use Rattle.dir.specs.declared.entry.Entry.{Entry as DirEntry}
 use Rattle.dir.specs.declared.entry.Kind.TheVariants as kinds
 use Rattle.model.specs.Tree.{Name, Path, Tree, IsTree, Has, has_names, names_in, names_at, found_directory, found_names, found_identity, is_directory_at, identity_at}
-use Rattle.model.specs.Graph.{Graph, Stored, Body, Entry, MakesTree, IsFunctional, entries_in, entries_of, content_in, content_of, node_of, is_directory}
+use Rattle.model.specs.Graph.{Graph, Stored, Body, Entry, MakesTree, IsFunctional, entries_in, entries_of, content_in, content_of, node_of}
 use Rattle.model.specs.Graph.Body.{Bytes, Entries}
 use Rattle.model.proofs.Lists.{contains_map, not_in_nil}
 use Rattle.model.proofs.Maps.{none_at, not_none, some_at, has_front}

@@ -1,12 +1,10 @@
 -- What is at the nodes of a state, and what a walk through them finds.
 use Rattle.std.specs.Prelude.{◌≡◌, ℕ, Bool, true, false, IsTrue, List, [], take, Option, Some, None, nat_eq}
 use Rattle.std.specs.Cmp.Lexicographic.{pointwise}
-use Rattle.std.specs.Map.{lookup}
-use Rattle.dir.specs.declared.entry.Entry.{Entry as DirEntry}
 use Rattle.std.specs.FinMap.{get}
 use Rattle.drive.specs.Journal.{Event, held}
 use Rattle.recover.specs.Nodes.{data_of}
-use Rattle.model.specs.Tree.{Name, Path, Tree, IsTree, is_directory_at, identity_at}
+use Rattle.model.specs.Tree.{Path, Tree, IsTree, is_directory_at, identity_at}
 use Rattle.model.specs.Graph.{Graph, Stored, Entry, MakesTree, is_directory}
 use Rattle.model.specs.Graph.Body.{Entries}
 use Rattle.model.specs.Change.{Found}

@@ -1,4 +1,4 @@
-use Rattle.std.proofs.Common.{rules, refl, Some}
+use Rattle.std.proofs.Common.{rules, Some}
 use Rattle.drive.proofs.Reading.{follows_any, follows_then}
 use Rattle.request.proofs.FrameLaws.{taken_first}
 use Rattle.engine.proofs.Messages.{answering_more, answering_some, on_err}

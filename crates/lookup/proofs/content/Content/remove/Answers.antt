@@ -1,4 +1,4 @@
-use Rattle.std.proofs.Common.{◌≡◌, ◌∙◌, ℕ, List, is_some, nat_eq, ap, sym, subst, rules}
+use Rattle.std.proofs.Common.{◌∙◌, ℕ, List, is_some, nat_eq, ap, sym, subst, rules}
 use Rattle.std.specs.Cmp.Lexicographic.{pointwise}
 use Rattle.std.specs.Map.{lookup}
 use Rattle.dir.proofs.Refusals.{none_of}

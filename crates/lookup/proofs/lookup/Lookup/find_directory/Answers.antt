@@ -1,4 +1,4 @@
-use Rattle.std.proofs.Common.{◌∙◌, sym, ap, subst, refl, Option, Some}
+use Rattle.std.proofs.Common.{◌∙◌, sym, ap, subst, Option, Some}
 use Rattle.model.specs.Tree.{found_directory}
 use Rattle.recover.specs.declared.node.Node.{Node}
 use Rattle.lookup.specs.Lookups.{graph_seen}

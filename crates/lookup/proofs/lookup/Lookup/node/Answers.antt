@@ -1,6 +1,4 @@
-use Rattle.std.proofs.Common.{subst, refl, Option, inl, inr, sym}
-use Rattle.recover.specs.Faults.{IsShortage}
-use Rattle.recover.specs.declared.fault.StoreFault.{StoreFault}
+use Rattle.std.proofs.Common.{subst, refl, Option, inl}
 use Rattle.model.specs.Tree.{Path}
 use Rattle.recover.specs.declared.node.Node.{Node}
 use Rattle.lookup.specs.Lookups.{graph_seen}

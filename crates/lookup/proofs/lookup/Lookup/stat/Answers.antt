@@ -1,4 +1,4 @@
-use Rattle.std.proofs.Common.{◌∙◌, sym, subst, refl, List, inr}
+use Rattle.std.proofs.Common.{◌∙◌, sym, subst, List, inr}
 use Rattle.drive.specs.Journal.{Event, Once}
 use Rattle.durability.specs.Runs.Query.{Stat}
 use Rattle.lookup.proofs.Listings.{shown_directory, shown_file, shown_none}
