@@ -6,9 +6,11 @@ use Rattle.drive.specs.Journal.{Event, Once, held}
 use Rattle.drive.specs.declared.Drive.{Ghosts}
 use Rattle.model.specs.Session.{State}
 use Rattle.model.specs.Tree.{Path, Tree}
+use Rattle.durability.specs.Volume.{RecoversTo}
 use Rattle.durability.specs.Runs.{told}
 use Rattle.durability.specs.Runs.Answer.{Data, Names}
 use Rattle.durability.specs.Runs.Query.{Get, List_}
+use Rattle.udf.specs.Udf.{udf}
 use Rattle.request.specs.Path.{IsPath, path_text}
 use Rattle.request.specs.declared.answer.Listed.{Listed}
 use Rattle.request.specs.declared.path.PathFault.{PathFault}
@@ -21,7 +23,7 @@ use Rattle.lookup.specs.Asked.{said_names}
 use Rattle.store.specs.Calls.{IsOpenOn}
 use Rattle.store.specs.History.{IsHistory, IsHistoryRefused}
 use Rattle.store.specs.Opened.{IsOpenRefused}
-use Rattle.store.specs.Past.{AllRecovered, IsCheckRefused}
+use Rattle.store.specs.Past.{AllRecovered, IsRecoveredCheckRefused}
 use Rattle.lookup.specs.Queries.{IsQueryRefused as QueryRefused}
 use Rattle.lookup.specs.Shows.{HasNodesOf as TreeShows}
 use Rattle.store.proofs.Knowing.{shows}
@@ -129,29 +131,22 @@ module _ (capacity : ℕ) (J : List Event) (store : Store) where
     pub commits_short : IsTrue later → Once J → IsOpenRefused capacity (held J) Memory ⊎ IsQuestionRefused Commits capacity J Memory
     commits_short honest once = inr (refused_of Commits Memory (known_at honest once) tt)
 
-    pub sound_said : (size n : ℕ) (bytes : List ℕ) → size ≡ capacity
-        → ((volume : ℕ) (T : State) → IsTrue later → IsOpenOn size volume K T store → (n ≡ T.commits) × AllRecovered size volume (held K) n)
-        → bytes ≡ sound_text n → IsTrue later → Once J → IsQuestionAnswered Soundness capacity J bytes
-    sound_said size n bytes same whole text honest once =
-        let known = known_at honest once in
-        let all = whole store.capacity known.0 honest (knows_here size same honest once) in
-        said_of Soundness bytes known (
-          subst (λ (m : ℕ). AllRecovered capacity store.capacity (held J) m) all.0
-              (subst (λ (c : ℕ). AllRecovered c store.capacity (held J) n) same (subst (λ (j : List Event). AllRecovered size store.capacity (held j) n) journal all.1)),
-          text ∙ ap sound_text all.0,
-        )
+-- ---- by what a check says
 
-    pub sound_refused : (size : ℕ) (fault : StoreFault) → size ≡ capacity → store.is_stopped ≡ false
-        → ((volume : ℕ) (T : State) → IsTrue later → IsOpenOn size volume K T store → store.is_stopped ≡ false → IsCheckRefused size volume (held K) T.commits fault)
-        → IsTrue later → Once J → IsOpenRefused capacity (held J) fault ⊎ IsQuestionRefused Soundness capacity J fault
-    sound_refused size fault same going refused honest once =
-        let known = known_at honest once in
-        inr (refused_of Soundness fault known
-        (subst (λ (c : ℕ). IsCheckRefused c store.capacity (held J) known.0.commits fault) same
-        (subst (λ (j : List Event). IsCheckRefused size store.capacity (held j) known.0.commits fault) journal (refused store.capacity known.0 honest (knows_here size same honest once) going))))
+module _ (capacity : ℕ) (J : List Event) (h : Type 0) where
+  pub sound_said : (n : ℕ) (bytes : List ℕ) → (h → (volume : ℕ) × (S : State) × RecoversTo udf capacity volume (held J) S)
+      → ((volume : ℕ) (S : State) → h → RecoversTo udf capacity volume (held J) S → (n ≡ S.commits) × AllRecovered capacity volume (held J) S.commits) → bytes ≡ sound_text n → h → Once J
+      → IsQuestionAnswered Soundness capacity J bytes
+  sound_said n bytes recovers counts text honest once =
+      let (volume, S, stands) = recovers honest in
+      let (count, whole) = counts volume S honest stands in
+      record { volume = volume; state = S; stands = stands; says = (whole, text ∙ ap sound_text count) }
 
-    pub sound_short : IsTrue later → Once J → IsOpenRefused capacity (held J) Memory ⊎ IsQuestionRefused Soundness capacity J Memory
-    sound_short honest once = inr (refused_of Soundness Memory (known_at honest once) tt)
+  pub sound_refused : (fault : StoreFault) → (h → IsOpenRefused capacity (held J) fault ⊎ IsRecoveredCheckRefused capacity (held J) fault) → h → Once J → IsOpenRefused capacity (held J) fault ⊎ IsQuestionRefused Soundness capacity J fault
+  sound_refused fault refused honest once = elim (refused honest) [
+    | inl unopened ↦ inl unopened
+    | inr (volume, S, stands, refuses) ↦ inr (record { volume = volume; state = S; stands = stands; refuses = refuses })
+  ]
 
 -- ---- on an image
 

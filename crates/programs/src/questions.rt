@@ -14,7 +14,7 @@ use media::Media;
 use request::Path;
 use std::alloc::Global;
 use std::io::Write;
-use store::Store;
+use store::{Store, check_volume};
 
 /// The names in a directory of the volume on an image.
 pub(crate) fn list_image<M: Media, O: Write>(
@@ -144,8 +144,7 @@ fn check<D: Drive, O: Write>(alloc: Global, drive: &mut D, output: &mut O) -> Re
     ensures writes { D.writes drive.new ≡ D.writes drive.old }
     ensures honest { IsTrue (D.honest drive.new) → IsTrue (D.honest drive.old) }
 {
-    let store = Store::open(alloc, drive)?;
-    let commits = store.check(alloc, drive)?;
+    let commits = check_volume(alloc, drive)?;
     let line = sound_line(alloc, commits)?;
     put(output, line.as_bytes())
 }

@@ -206,6 +206,11 @@ impl Directories {
         }
     }
 
+    /// Whether none is kept.
+    pub(crate) fn is_empty(&self) -> bool {
+        self.kept.is_empty()
+    }
+
     /// Keeps none any longer, and the room that they took for the next ones.
     pub(crate) fn clear(&mut self)
         ensures { (medium : List (List ℕ)) → AreCachedDirectories medium self.new }

@@ -65,9 +65,9 @@ impl ReadCache {
         }
     }
 
-    /// Whether the nodes that are read are kept.
-    pub(crate) fn keeps_nodes(&self) -> bool {
-        self.keeps_nodes
+    /// Whether a directory of the state before is left: of the first state, none.
+    pub(crate) fn has_directories(&self) -> bool {
+        !self.before.is_empty()
     }
 
     /// Goes on to the next state: of the directories, those of the state that was looked at last are kept.

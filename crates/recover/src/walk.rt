@@ -180,6 +180,7 @@ impl<'a> Walk<'a> {
         let Some(extent) = body.extent else {
             return Err(damaged(entry_at, cause::RANGE));
         };
+        let is_first = !known.has_directories();
         let names = read_names(
             alloc, drive, known, node.above, extent, body.links, entry_at,
         )?;
@@ -192,10 +193,9 @@ impl<'a> Walk<'a> {
         } = names;
         let count = dir.entries.len();
         let mut index = self.visit_checked(&files, 0, node.depth);
-        let is_once = !known.keeps_nodes();
-        self.announce(drive, is_once, &dir, index, AHEAD);
+        self.announce(drive, is_first, &dir, index, AHEAD);
         while index < count {
-            self.announce(drive, is_once, &dir, index.saturating_add(AHEAD), 1);
+            self.announce(drive, is_first, &dir, index.saturating_add(AHEAD), 1);
             let (_, entry) = dir.entries.get_index(index).unwrap();
             let child = node.child(entry, extent.first + PARTITION_START);
             self.visit(alloc, drive, known, &child)?;
@@ -206,12 +206,12 @@ impl<'a> Walk<'a> {
         Ok(())
     }
 
-    /// Tells the drive that the entries under so many names from this place on are read soon. Only a walk of one state
-    /// does so: states that follow one another lead to blocks all over the medium, which a system reads ahead better.
-    fn announce<D: Drive>(&self, drive: &D, is_once: bool, dir: &Dir, from: usize, count: usize)
+    /// Tells the drive that the entries under so many names from this place on are read soon. Only the walk of a first
+    /// state does so: a state before it has nearly all of its nodes, so that few of their entries are read.
+    fn announce<D: Drive>(&self, drive: &D, is_first: bool, dir: &Dir, from: usize, count: usize)
         requires { PARTITION_START ≤ self.now.at }
     {
-        if !is_once {
+        if !is_first {
             return;
         }
         for index in from..from.saturating_add(count) {

@@ -1,5 +1,6 @@
 -- The states of a chain, as they are shown one by one from the newest back.
-use Rattle.std.proofs.Common.{◌≡◌, ℕ, ◌+◌, ◌-◌, ◌<◌, ◌≤◌, List, [], ◌∷◌, ◌++◌, length, Option, Some, None, IsNone, IfSome, ◌↔◌, refl, sym, ap, subst, ◌∙◌, arith, append_assoc, slice_index_or}
+use Rattle.std.proofs.Common.{◌≡◌, ◌⊎◌, inl, inr, ℕ, ◌+◌, ◌-◌, ◌<◌, ◌≤◌, List, [], ◌∷◌, ◌++◌, length, Option, Some, None, IsNone, IfSome, Result, Ok, Err, ◌↔◌, refl, sym, ap, subst, ◌∙◌, arith, append_assoc, slice_index_or}
+use Rattle.std.specs.Prelude.{IfOk, IfErr, OnOk}
 use Rattle.std.proofs.Math.Seq.{get_or-append_seam}
 use Rattle.std.proofs.lemmas.List.{length-append}
 use Rattle.std.proofs.lemmas.List.Elements.{All-append, All-cons, All-nil}
@@ -7,21 +8,25 @@ use Rattle.std.proofs.lemmas.Option.{none-some, same_Some}
 use Rattle.limits.specs.declared.TheConstants.{PARTITION_START}
 use Rattle.drive.specs.Journal.{Event, held}
 use Rattle.durability.specs.Formats.{Table_}
+use Rattle.durability.specs.Volume.{RecoversTo}
 use Rattle.model.specs.Session as model
+use Rattle.udf.specs.Udf.{udf}
 use Rattle.vat.specs.Table.{Table}
 use Rattle.recover.specs.declared.fault.StoreFault.{StoreFault}
 use Rattle.recover.specs.declared.fault.StoreFault.TheVariants.{Device, Memory, Damaged}
 use Rattle.recover.specs.declared.state.State.{State}
 use Rattle.recover.specs.State.{IsShown, IsStateRefused, DescribesNoState}
-use Rattle.recover.specs.Tables.{HasTableAt}
+use Rattle.recover.specs.Tables.{HasTableAt, IsLastVatIcb}
+use Rattle.recover.proofs.States.{last_stands}
 use Rattle.recover.proofs.Told.{one_read}
 use Rattle.store.specs.declared.history.Commit.{Commit}
-use Rattle.store.specs.declared.store.Store.{Store}
-use Rattle.store.specs.Calls.{IsOpenOn}
 use Rattle.store.specs.History.{AreShown, HasUntold, IsChain, IsChecked, IsHistory, IsUnchecked, report_of}
-use Rattle.store.specs.Past.{IsCheckRefused}
+use Rattle.store.specs.Opened.{IsOpenRefused}
+use Rattle.store.specs.Past.{CountsCommits, IsCheckRefused, IsRecoveredCheckRefused}
 use Rattle.store.proofs.Histories.{GoesOn, ends, goes_on}
-use Rattle.store.proofs.Wholes.{history_stood, unshown}
+use Rattle.store.proofs.Opening.{at_last, not_read, table_is}
+use Rattle.store.proofs.Pasts.{IsNewest}
+use Rattle.store.proofs.Wholes.{history_stood, unshown, whole}
 
 -- a list ends with all that the chain of a table goes on to
 abbrev pub IsLeftToCheck : List (List ℕ) → Table → List Commit → Type 0
@@ -121,11 +126,48 @@ module _ (M : List (List ℕ)) (capacity at : ℕ) where
           absurd (other (ap (λ (x : Table_). x.commits + 1) one ∙ fewer))
 
 -- where one of them is not, no state was recovered after some commit
-pub unchecked : (capacity volume : ℕ) (J : List Event) (T : model.State) (store : Store) → IsOpenOn capacity volume J T store → (fault : StoreFault) → IsUnchecked capacity (held J) store.vat_icb_address fault
+pub unchecked : (capacity volume : ℕ) (J : List Event) (T : model.State) (top : ℕ) → IsNewest capacity volume (held J) T top → (fault : StoreFault) → IsUnchecked capacity (held J) top fault
     → IsCheckRefused capacity volume (held J) T.commits fault
-unchecked capacity volume J T store knows Device r = tt
-unchecked capacity volume J T store knows Memory r = tt
-unchecked capacity volume J T store knows (Damaged b c) r = λ whole.
-    let all = history_stood capacity volume J T store knows whole in
-    unshown capacity volume J T store knows all.0 all.1 (r all.0 all.1) whole
-unchecked capacity volume J T store knows _ r = absurd r
+unchecked capacity volume J T top newest Device r = tt
+unchecked capacity volume J T top newest Memory r = tt
+unchecked capacity volume J T top newest (Damaged b c) r = λ whole.
+    let all = history_stood capacity volume J T top newest whole in
+    unshown capacity volume J T top newest all.0 all.1 (r all.0 all.1) whole
+unchecked capacity volume J T top newest _ r = absurd r
+
+-- ---- from the last VAT ICB back
+
+module _ (capacity : ℕ) (J : List Event) (at : ℕ) (h : Type 0) (last : h → IsLastVatIcb (held J) (Some at)) where
+  -- a state is shown there, which has so many commits
+  abbrev IsCounted : ℕ → Type 0
+  IsCounted n = (state : State) × IsShown capacity (held J) at state × (n ≡ state.vat.sessions.commits)
+
+  newest_there : (volume : ℕ) (S : model.State) → h → RecoversTo udf capacity volume (held J) S → IsNewest capacity volume (held J) S at
+  newest_there volume S honest stands = record { stands = stands; at = at_last capacity volume (held J) S stands at (last honest) }
+
+  pub counts : (volume : ℕ) (S : model.State) (result : Result ℕ StoreFault) → OnOk result (h → IsChecked capacity (held J) at) → IfOk result (λ n. h → IsCounted n) → IfErr result (λ fault. h → IsUnchecked capacity (held J) at fault)
+      → h → RecoversTo udf capacity volume (held J) S → CountsCommits capacity volume (held J) S.commits result
+  counts volume S (Ok n) checked counted refused honest stands =
+      let all = checked honest in
+      let (state, shown, same) = counted honest in (
+        same ∙ ap (λ (t : Table_). t.commits) (table_is capacity volume (held J) S stands at state (last honest) shown) ∙ stands.tells.commits,
+        whole capacity volume J S at (newest_there volume S honest stands) all.commits (last honest).0 all.history all.shown,
+      )
+  counts volume S (Err fault) checked counted refused honest stands = unchecked capacity volume J S at (newest_there volume S honest stands) fault (refused honest)
+
+  pub recovers : (result : Result ℕ StoreFault) → IfOk result (λ n. h → IsCounted n) → OnOk result (h → (volume : ℕ) × (S : model.State) × RecoversTo udf capacity volume (held J) S)
+  recovers (Ok n) counted = λ honest. let (state, shown, same) = counted honest in (state.capacity, shown.said, last_stands capacity (held J) at state shown (last honest))
+  recovers (Err fault) counted = tt
+
+  pub leads_back : (result : Result ℕ StoreFault) → OnOk result (h → IsChecked capacity (held J) at) → OnOk result (h → (top : ℕ) × IsLastVatIcb (held J) (Some top) × IsChecked capacity (held J) top)
+  leads_back (Ok n) checked = λ honest. (at, last honest, checked honest)
+  leads_back (Err fault) checked = tt
+
+  pub not_counted : (result : Result ℕ StoreFault) → IfErr result (λ fault. h → IsUnchecked capacity (held J) at fault)
+      → IfErr result (λ fault. h → IsStateRefused capacity (held J) at fault ⊎ ((state : State) × IsShown capacity (held J) at state)) → IfErr result (λ fault. h → IsOpenRefused capacity (held J) fault ⊎ IsRecoveredCheckRefused capacity (held J) fault)
+  not_counted (Ok n) refused newest = tt
+  not_counted (Err fault) refused newest = λ honest. elim (newest honest) [
+    | inl unread ↦ inl (not_read capacity (held J) at fault (last honest) unread)
+    | inr (state, shown) ↦ let stands = last_stands capacity (held J) at state shown (last honest) in
+        inr (state.capacity, shown.said, stands, unchecked capacity state.capacity J shown.said at (newest_there state.capacity shown.said honest stands) fault (refused honest))
+  ]

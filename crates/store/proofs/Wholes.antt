@@ -15,14 +15,12 @@ use Rattle.recover.specs.State.{IsShown, DescribesNoState}
 use Rattle.recover.specs.Tables.{HasTableAt, IsAtRefused, IsLinkRefused}
 use Rattle.recover.proofs.Told.{is_read, one_read}
 use Rattle.store.specs.declared.history.Commit.{Commit}
-use Rattle.store.specs.declared.store.Store.{Store}
-use Rattle.store.specs.Calls.{IsOpenOn}
 use Rattle.store.specs.History.{AreShown, HasUntold, IsChain, IsHistory, IsHistoryRefused, report_of}
 use Rattle.store.specs.Past.{AllRecovered}
 use Rattle.store.proofs.Chains.{EndsAt, goes_back, shown_stood, step_back, step_on, stood_told}
 use Rattle.store.proofs.Chains as chains
 use Rattle.store.proofs.Histories.{one_before}
-use Rattle.store.proofs.Pasts.{commits_here, ends_here, past_of, steps_past, table_here, volume_told}
+use Rattle.store.proofs.Pasts.{IsNewest, commits_here, ends_here, past_of, steps_past, table_here, volume_told}
 use Rattle.store.proofs.Ways.{link_refused}
 
 module _ (M : Medium) where
@@ -144,32 +142,32 @@ module _ (M : Medium) where
         let rest = chain_of steps on.0 u S on.2 before (omega (arith, less, count)) on.3 on.4 in
         (report_of (n + PARTITION_START) u ∷ rest.0, (n, link, u, there, less, refl, rest.1))
 
-module _ (capacity volume : ℕ) (J : List Event) (T : model.State) (store : Store) (knows : IsOpenOn capacity volume J T store) where
-  pub history_known : (all : List Commit) → IsHistory (held J) store.vat_icb_address all → length all ≡ T.commits + 1
+module _ (capacity volume : ℕ) (J : List Event) (T : model.State) (top : ℕ) (newest : IsNewest capacity volume (held J) T top) where
+  pub history_known : (all : List Commit) → IsHistory (held J) top all → length all ≡ T.commits + 1
   history_known all is =
-      let here = table_here capacity volume J T store knows in
-      let one = history_length (held J) store.vat_icb_address here.0 all here.1 is in
-      omega (arith, one, commits_here capacity volume J T store knows)
+      let here = table_here capacity volume J T top newest in
+      let one = history_length (held J) top here.0 all here.1 is in
+      omega (arith, one, commits_here capacity volume J T top newest)
 
-  pub whole : (all : List Commit) → PARTITION_START ≤ store.vat_icb_address → IsHistory (held J) store.vat_icb_address all → AreShown capacity (held J) all → AllRecovered capacity volume (held J) T.commits
+  pub whole : (all : List Commit) → PARTITION_START ≤ top → IsHistory (held J) top all → AreShown capacity (held J) all → AllRecovered capacity volume (held J) T.commits
   whole all low is shown k le =
       let i : T.commits - k < length all = omega (arith, history_known all is) in
-      let stood = stood_in (held J) capacity volume (volume_told capacity volume J T store knows) store.vat_icb_address all low is shown (T.commits - k) i in
-      (stood.0, past_of capacity volume J T store knows k (T.commits - k) stood.0 (omega (arith, le)) (stood.1 (held J) (ends_here capacity volume J T store knows)))
+      let stood = stood_in (held J) capacity volume (volume_told capacity volume J T top newest) top all low is shown (T.commits - k) i in
+      (stood.0, past_of capacity volume J T top newest k (T.commits - k) stood.0 (omega (arith, le)) (stood.1 (held J) (ends_here capacity volume J T top newest)))
 
   -- where none is described of one of them, none was recovered after it
-  pub unshown : (all : List Commit) → IsHistory (held J) store.vat_icb_address all → HasUntold capacity (held J) all → AllRecovered capacity volume (held J) T.commits → ⊥
+  pub unshown : (all : List Commit) → IsHistory (held J) top all → HasUntold capacity (held J) all → AllRecovered capacity volume (held J) T.commits → ⊥
   unshown all is r stood =
       let few : r.0 ≤ T.commits = omega (arith, r.1, history_known all is) in
       let past = stood (T.commits - r.0) (omega arith) in
-      let steps : past.1.1 ≡ r.0 = omega (arith, few, steps_past capacity volume J T store knows (T.commits - r.0) past.0 past.1) in
-      not_in (held J) capacity volume store.vat_icb_address all is r.0 r.1 past.0 (held J) (ends_here capacity volume J T store knows) (subst (λ (n : ℕ). RecoveredBefore udf n capacity volume (held J) past.0) steps past.1.3) r.2
+      let steps : past.1.1 ≡ r.0 = omega (arith, few, steps_past capacity volume J T top newest (T.commits - r.0) past.0 past.1) in
+      not_in (held J) capacity volume top all is r.0 r.1 past.0 (held J) (ends_here capacity volume J T top newest) (subst (λ (n : ℕ). RecoveredBefore udf n capacity volume (held J) past.0) steps past.1.3) r.2
 
   -- a state was recovered after each commit only where a list is all of them
-  pub history_stood : AllRecovered capacity volume (held J) T.commits → (all : List Commit) × IsHistory (held J) store.vat_icb_address all
+  pub history_stood : AllRecovered capacity volume (held J) T.commits → (all : List Commit) × IsHistory (held J) top all
   history_stood stood =
-      let here = table_here capacity volume J T store knows in
+      let here = table_here capacity volume J T top newest in
       let past = stood 0 (omega arith) in
-      let count : here.0.commits ≡ past.1.1 = omega (arith, commits_here capacity volume J T store knows, steps_past capacity volume J T store knows 0 past.0 past.1) in
-      let rest = chain_of (held J) capacity volume past.1.1 store.vat_icb_address here.0 past.0 (held J) here.1 count (ends_here capacity volume J T store knows) past.1.3 in
-      (report_of store.vat_icb_address here.0 ∷ rest.0, (here.0, here.1, rest.0, refl, rest.1))
+      let count : here.0.commits ≡ past.1.1 = omega (arith, commits_here capacity volume J T top newest, steps_past capacity volume J T top newest 0 past.0 past.1) in
+      let rest = chain_of (held J) capacity volume past.1.1 top here.0 past.0 (held J) here.1 count (ends_here capacity volume J T top newest) past.1.3 in
+      (report_of top here.0 ∷ rest.0, (here.0, here.1, rest.0, refl, rest.1))

@@ -1,10 +1,10 @@
 -- The past states, as a store reports them.
-use Rattle.std.specs.Prelude.{◌≡◌, ⊤, ℕ, ◌<◌, ◌≤◌, Bool, IsTrue, List, [], length, take, Option}
+use Rattle.std.specs.Prelude.{◌≡◌, ⊤, ℕ, ◌<◌, ◌≤◌, Bool, IsTrue, List, [], length, take, Option, Result, Ok, Err}
 use Rattle.drive.specs.Journal.{Event, Once, held, next_of}
 use Rattle.model.specs.Graph.{MakesTree}
 use Rattle.model.specs.Session.{State}
 use Rattle.model.specs.Tree.{IsTree, Tree, identity_at}
-use Rattle.durability.specs.Volume.{RecoveredTo}
+use Rattle.durability.specs.Volume.{RecoveredTo, RecoversTo}
 use Rattle.udf.specs.Said.{model_table}
 use Rattle.udf.specs.Udf.{udf}
 use Rattle.vat.specs.declared.table.Vat.{Vat}
@@ -45,6 +45,15 @@ IsCheckRefused capacity volume medium commits Device = ⊤
 IsCheckRefused capacity volume medium commits Memory = ⊤
 IsCheckRefused capacity volume medium commits (Damaged block cause) = AllRecovered capacity volume medium commits → ⊥
 IsCheckRefused capacity volume medium commits _ = ⊥
+
+-- what is answered for so many commits: how many there are, where a state was recovered after each
+abbrev pub CountsCommits : ℕ → ℕ → List (List ℕ) → ℕ → Result ℕ StoreFault → Type 0
+CountsCommits capacity volume medium commits (Ok n) = (n ≡ commits) × AllRecovered capacity volume medium commits
+CountsCommits capacity volume medium commits (Err fault) = IsCheckRefused capacity volume medium commits fault
+
+-- why the commits of the state to which a medium recovers are not reported
+abbrev pub IsRecoveredCheckRefused : ℕ → List (List ℕ) → StoreFault → Type 0
+IsRecoveredCheckRefused capacity medium fault = (volume : ℕ) × (S : State) × RecoversTo udf capacity volume medium S × IsCheckRefused capacity volume medium S.commits fault
 
 -- What a snapshot shows stays where the journal goes on, each address once, as after any run: its nodes make the same tree,
 -- with whatever directories lie there, and its VAT ICB is on the medium.

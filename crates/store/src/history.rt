@@ -1,13 +1,16 @@
 //! The commits of a volume, and the state after each.
 
 ghost use Rattle.limits.specs.declared.TheConstants.{ADDRESSES, PARTITION_START};
-ghost use Rattle.std.specs.Prelude.{◌≡◌, ◌+◌, ◌<◌, ◌≤◌, ℕ, All, Err, IsTrue, IfOk, IfErr, OnOk, false, length};
+ghost use Rattle.std.specs.Prelude.{◌≡◌, ◌⊎◌, ◌+◌, ◌<◌, ◌≤◌, ℕ, All, Err, IsTrue, IfOk, IfErr, OnOk, Some, false, length};
 ghost use Rattle.drive.specs.Journal.{held, next_of};
 ghost use Rattle.drive.specs.Reads.{ReadsOnly};
+ghost use Rattle.durability.specs.Volume.{RecoversTo};
 ghost use Rattle.model.specs.Session as said;
+ghost use Rattle.udf.specs.Udf.{udf};
 ghost use Rattle.vat.specs.Table.{view};
 ghost use Rattle.recover.specs.Faults.{devices};
-ghost use Rattle.recover.specs.State.{IsShown};
+ghost use Rattle.recover.specs.State.{IsShown, IsStateRefused};
+ghost use Rattle.recover.specs.Tables.{IsLastVatIcb};
 ghost use Rattle.recover.specs.declared.state.State.{State};
 ghost use Rattle.recover.specs.declared.fault.StoreFault.TheVariants.{NoCommit, Stopped};
 ghost use Rattle.std.proofs.Props.{props};
@@ -15,7 +18,8 @@ ghost use Rattle.store.specs.Agrees.{IsStoreOn};
 ghost use Rattle.recover.specs.Below.{AreBelow};
 ghost use Rattle.store.specs.Calls.{IsOpenOn};
 ghost use Rattle.store.specs.History.{IsChecked, IsHistory, IsHistoryRefused, IsTableOf, IsUnchecked, IsWayRefused, report_of};
-ghost use Rattle.store.specs.Past.{AllRecovered, IsCheckRefused, IsPast, IsPastRefused};
+ghost use Rattle.store.specs.Opened.{IsOpenRefused};
+ghost use Rattle.store.specs.Past.{AllRecovered, CountsCommits, IsCheckRefused, IsPast, IsPastRefused, IsRecoveredCheckRefused};
 
 use crate::queries::nodes_of;
 use crate::store::Store;
@@ -23,7 +27,7 @@ use drive::Drive;
 use limits::PARTITION_START;
 use lookup::Lookup;
 use recover::{
-    ReadCache, State, StoreFault, cause, damaged, linked, state_at, state_sharing, table_at,
+    ReadCache, State, StoreFault, cause, damaged, last, linked, state_at, state_sharing, table_at,
 };
 use request::{FileData, Listing, NodeStatus, Path};
 use std::alloc::Global;
@@ -272,22 +276,45 @@ impl Store {
     }
 }
 
+/// How many commits the volume on a drive has, where the state after each of them is recovered. Each state is looked at once,
+/// the newest too, so this reads less than to open a store and to ask it.
+pub fn check_volume<D: Drive>(alloc: Global, drive: &mut D) -> Result<u32, StoreFault>
+    // Where a state is recovered its commits are counted, unless none was recovered after one of them.
+    ensures counts { (volume : ℕ) (S : said.State) → IsTrue (D.honest drive.new) → RecoversTo udf (D.capacity drive.old) volume (held (D.journal drive.old)) S → CountsCommits (D.capacity drive.old) volume (held (D.journal drive.old)) S.commits result }
+    // Nothing is counted where none is.
+    ensures recovers { OnOk result (IsTrue (D.honest drive.new) → (volume : ℕ) × (S : said.State) × RecoversTo udf (D.capacity drive.old) volume (held (D.journal drive.old)) S) }
+    ensures history { OnOk result (IsTrue (D.honest drive.new) → (at : ℕ) × IsLastVatIcb (held (D.journal drive.old)) (Some at) × IsChecked (D.capacity drive.old) (held (D.journal drive.old)) at) }
+    // Where it is refused no store is opened, or a state is recovered, and none was after one of its commits.
+    ensures refused { IfErr result (λ fault. IsTrue (D.honest drive.new) → IsOpenRefused (D.capacity drive.old) (held (D.journal drive.old)) fault ⊎ IsRecoveredCheckRefused (D.capacity drive.old) (held (D.journal drive.old)) fault) }
+    ensures reads { ReadsOnly D.Drive (devices result) drive.old drive.new }
+{
+    match last(drive)? {
+        Some(at) => check_states(alloc, drive, at),
+        None => Err(StoreFault::NotFormatted),
+    }
+}
+
 /// How many blocks below a VAT ICB the drive is told of. A commit's directories and tables lie right below its VAT ICB, and
 /// the commit before it below those; one of a small file has some ten blocks.
 const AHEAD: u32 = 64;
 
-/// The state after each commit is recovered, from the one whose VAT ICB is at `at` back to the format. The chain is walked
-/// once: each table is that of a state, and what two states that follow one another have alike is read once.
-fn check_states<D: Drive>(alloc: Global, drive: &mut D, at: u32) -> Result<(), StoreFault>
+/// How many commits there are, where the state after each of them is recovered, from the one whose VAT ICB is at `at` back to
+/// the format. The chain is walked once: each table is that of a state, and what two states that follow one another have alike
+/// is read once.
+fn check_states<D: Drive>(alloc: Global, drive: &mut D, at: u32) -> Result<u32, StoreFault>
     requires low { PARTITION_START ≤ at }
     requires within { at < next_of (D.journal drive.old) }
     ensures checked { OnOk result (IsTrue (D.honest drive.new) → IsChecked (D.capacity drive.old) (held (D.journal drive.old)) at) }
+    ensures count { IfOk result (λ n. IsTrue (D.honest drive.new) → (state : State) × IsShown (D.capacity drive.old) (held (D.journal drive.old)) at state × (n ≡ state.vat.sessions.commits)) }
     // Where it is refused no list is the history, or of one of its commits no state is described, or the drive failed or memory was short.
     ensures refused { IfErr result (λ fault. IsTrue (D.honest drive.new) → IsUnchecked (D.capacity drive.old) (held (D.journal drive.old)) at fault) }
+    // It is the newest state that is not described, or that one is.
+    ensures newest { IfErr result (λ fault. IsTrue (D.honest drive.new) → IsStateRefused (D.capacity drive.old) (held (D.journal drive.old)) at fault ⊎ ((state : State) × IsShown (D.capacity drive.old) (held (D.journal drive.old)) at state)) }
     ensures reads { ReadsOnly D.Drive (devices result) drive.old drive.new }
 {
     let mut known = ReadCache::new(alloc);
     let State { vat: newest, .. } = state_sharing(alloc, drive, &mut known, at)?;
+    let commits = newest.sessions.commits;
     let mut vat = newest;
     while let Some(number) = vat.previous {
         let there = number + PARTITION_START;
@@ -298,5 +325,5 @@ fn check_states<D: Drive>(alloc: Global, drive: &mut D, at: u32) -> Result<(), S
         }
         vat = before;
     }
-    Ok(())
+    Ok(commits)
 }

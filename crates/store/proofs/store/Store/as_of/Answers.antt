@@ -8,7 +8,8 @@ use Rattle.recover.proofs.Told.{one_read}
 use Rattle.recover.specs.declared.fault.StoreFault.{StoreFault}
 use Rattle.recover.specs.State.{IsStateRefused}
 use Rattle.store.specs.Past.{IsPastRefused}
-use Rattle.store.proofs.Pasts.{past_shown, state_refused, way_refused}
+use Rattle.store.proofs.Knowing.{commits}
+use Rattle.store.proofs.Pasts.{newest_known, past_shown, state_refused, way_refused}
 use Rattle.recover.proofs.BelowLemmas.{below_entry}
 use Rattle.store.proofs.store.Store.as_of.Goals as goal
 
@@ -37,7 +38,7 @@ returns-clause-past g c volume T h knows =
     let J = g.D.Drive.journal c.args.drive.now in
     let capacity = g.D.Drive.capacity c.args.drive.now in
     let shown = rw c.table_of.ensures.reads.capacity at (rw c.table_of.ensures.reads.journal at (c.in_ok-vat.ensures.shown h)) in
-    past_shown capacity volume J T c.args.self.now knows c.args.commit c.in_ok-at.at c.in_ok-at.field-0-1 (c.in_ok-at.ensures.table (c.state_at.ensures.reads.honest h)) c.in_ok-vat.field-0
+    past_shown capacity volume J T c.args.self.now.vat_icb_address (newest_known capacity volume J T c.args.self.now knows) c.args.commit c.in_ok-at.at c.in_ok-at.field-0-1 (c.in_ok-at.ensures.table (c.state_at.ensures.reads.honest h)) c.in_ok-vat.field-0
     c.in_ok-at.ensures.within.0 c.in_ok-at.ensures.within.1 shown
 
 pub returns-in_err-at-clause-refused : goal.returns-in_err-at-clause-refused
@@ -45,9 +46,9 @@ returns-in_err-at-clause-refused g c volume T h knows going =
     let q = err_from_is_err_and c.from_residual.result c.from_residual.ensures.1 in
     let J = g.D.Drive.journal c.args.drive.now in
     let capacity = g.D.Drive.capacity c.args.drive.now in
-    let enough : c.args.commit ≤ c.args.self.now.vat.sessions.commits = omega (arith, c.if-commit-self.false) in
+    let enough : c.args.commit ≤ T.commits = omega (arith, c.if-commit-self.false, commits capacity volume J T c.args.self.now knows) in
     let refused = subst (λ (f : StoreFault). IsPastRefused capacity volume (held J) T.commits c.args.commit f) (sym q.2)
-    (way_refused capacity volume J T c.args.self.now knows c.args.commit enough _ (c.in_err-at.ensures.refused h)) in
+    (way_refused capacity volume J T c.args.self.now.vat_icb_address (newest_known capacity volume J T c.args.self.now knows) c.args.commit enough _ (c.in_err-at.ensures.refused h)) in
     rw q.1 refused
 
 pub returns-in_err-vat-clause-refused : goal.returns-in_err-vat-clause-refused
@@ -58,7 +59,7 @@ returns-in_err-vat-clause-refused g c volume T h knows going =
     let unread = subst (λ (n : ℕ). IsStateRefused n (held J) c.in_ok-at.at c.in_err-vat.field-0.0) c.table_of.ensures.reads.capacity
     (subst (λ (K : List Event). IsStateRefused (g.D.Drive.capacity c.table_of.new.drive) (held K) c.in_ok-at.at c.in_err-vat.field-0.0) c.table_of.ensures.reads.journal (c.in_err-vat.ensures.refused h)) in
     let refused = subst (λ (f : StoreFault). IsPastRefused capacity volume (held J) T.commits c.args.commit f) (sym q.2)
-    (state_refused capacity volume J T c.args.self.now knows c.args.commit c.in_ok-at.at c.in_ok-at.field-0-1 (c.in_ok-at.ensures.table (c.state_at.ensures.reads.honest h)) _ unread) in
+    (state_refused capacity volume J T c.args.self.now.vat_icb_address (newest_known capacity volume J T c.args.self.now knows) c.args.commit c.in_ok-at.at c.in_ok-at.field-0-1 (c.in_ok-at.ensures.table (c.state_at.ensures.reads.honest h)) _ unread) in
     rw q.1 refused
 
 pub returns-clause-reads : goal.returns-clause-reads

@@ -6,6 +6,7 @@ use Rattle.drive.specs.Journal.{Event, held, next_of}
 use Rattle.vat.specs.Table.{view}
 use Rattle.store.proofs.Histories.{begins, ends, first_within, goes_on, link_below, more_within, next_below, no_link}
 use Rattle.recover.specs.Tables.{IsLinkRefused}
+use Rattle.store.proofs.Pasts.{newest_known}
 use Rattle.store.proofs.Wholes.{history_first, history_known, history_link, left_first, left_next}
 use Rattle.store.proofs.store.Store.history.Goals as goal
 
@@ -54,7 +55,7 @@ returns-clause-history g c = λ h.
 pub returns-clause-all : goal.returns-clause-all
 returns-clause-all g c volume T h knows =
     let J = g.D.Drive.journal c.args.drive.now in
-    history_known (g.D.Drive.capacity c.args.drive.now) volume J T c.args.self.now knows c.loop-vat.commits.items
+    history_known (g.D.Drive.capacity c.args.drive.now) volume J T c.args.self.now.vat_icb_address (newest_known (g.D.Drive.capacity c.args.drive.now) volume J T c.args.self.now knows) c.loop-vat.commits.items
     (ends (held J) c.args.self.now.vat_icb_address (view c.loop-vat.vat) c.loop-vat.commits.items (c.loop-vat.invariant.found h) (no_link _ c.in_default.not-Some) c.loop-vat.invariant.first)
 
 pub returns-in_err-vat-clause-refused : goal.returns-in_err-vat-clause-refused
