@@ -1,5 +1,7 @@
 //! Answers and their frames.
 
+use crate::compare::{shown, words_of};
+use crate::texts::text_of;
 use crate::trouble::Trouble;
 use limits::FILE_BYTES;
 use osta::Name;
@@ -7,49 +9,93 @@ use request::{
     Answer, Cause, Code, FileData, Listed, Listing, NodeKind, NodeStatus, Reply, encode_answer,
 };
 use std::alloc::Global;
-use std::str;
-use words::{number, read_bytes, show_bytes};
+use words::{number, read_bytes};
+
+/// What is said of an answer that is none.
+const NO_ANSWER: Trouble = Trouble::Line("no such answer");
 
 /// Whether the bytes are the frame of the answer that the words say: these again, or the bytes that it has.
 pub fn frame(alloc: Global, bytes: &[u8], said: &str) -> Result<String, Trouble> {
     let words: Vec<&str> = said.split_whitespace().collect(alloc)?;
-    let answer = read_answer(alloc, &words)?;
+    let out = encoded(alloc, &words)?;
+    if out.first() == Some(&9) && out.get(1..) == Some(bytes) {
+        return words_of(alloc, said);
+    }
+    shown(alloc, out.get(1..).unwrap_or(&[]))
+}
+
+/// The frame of an answer, after a byte that stays.
+fn encoded(alloc: Global, words: &[&str]) -> Result<Vec<u8>, Trouble> {
+    let answer = read_answer(alloc, words)?;
     let mut out = vec![in alloc; 9u8]?;
     encode_answer(&answer, &mut out)?;
-    if out.first() == Some(&9) && out.get(1..) == Some(bytes) {
-        return Ok(String::from_str(alloc, said)?);
-    }
-    let mut text = String::new(alloc);
-    show_bytes(out.get(1..).unwrap_or(&[]), &mut text)?;
-    Ok(text)
+    Ok(out)
 }
 
 fn read_answer(alloc: Global, words: &[&str]) -> Result<Answer, Trouble> {
-    Ok(match words {
-        ["code", code, "commit", commit] => Answer::Reply(Reply {
-            code: Code::of(number(code)?).ok_or(Trouble::Line("no such code"))?,
-            commit: number(commit)?,
-        }),
-        ["stale", latest] => Answer::Stale(number(latest)?),
-        ["gap", latest] => Answer::Gap(number(latest)?),
-        ["clients-full"] => Answer::ClientsFull,
-        ["full"] => Answer::Full,
-        ["failed"] => Answer::Fault,
-        ["memory"] => Answer::Memory,
-        ["malformed", cause] => Answer::Malformed(cause_of(cause)?),
-        ["damaged"] => Answer::Damaged,
-        ["not-found"] => Answer::NotFound,
-        ["is-directory"] => Answer::IsDirectory,
-        ["not-directory"] => Answer::NotDirectory,
-        ["data", rest @ ..] => Answer::Data(data(alloc, rest)?),
-        ["names", rest @ ..] => Answer::Names(names(alloc, rest)?),
-        ["node", kind, "moment", moment, "size", size] => Answer::Node(NodeStatus {
-            kind: kind_of(kind)?,
-            moment: number(moment)?,
-            size: number(size)?,
-        }),
-        _ => return Err(Trouble::Line("no such answer")),
-    })
+    let [name, rest @ ..] = words else {
+        return Err(NO_ANSWER);
+    };
+    match *name {
+        "data" => Ok(Answer::Data(data(alloc, rest)?)),
+        "names" => Ok(Answer::Names(names(alloc, rest)?)),
+        "code" => reply(rest),
+        "node" => node(rest),
+        _ => short_answer(name, rest),
+    }
+}
+
+/// An answer with one number or none.
+fn short_answer(name: &str, words: &[&str]) -> Result<Answer, Trouble> {
+    match words {
+        [] => bare_answer(name),
+        [word] => numbered(name, word),
+        _ => Err(NO_ANSWER),
+    }
+}
+
+fn bare_answer(name: &str) -> Result<Answer, Trouble> {
+    match name {
+        "clients-full" => Ok(Answer::ClientsFull),
+        "full" => Ok(Answer::Full),
+        "failed" => Ok(Answer::Fault),
+        "memory" => Ok(Answer::Memory),
+        "damaged" => Ok(Answer::Damaged),
+        "not-found" => Ok(Answer::NotFound),
+        "is-directory" => Ok(Answer::IsDirectory),
+        "not-directory" => Ok(Answer::NotDirectory),
+        _ => Err(NO_ANSWER),
+    }
+}
+
+fn numbered(name: &str, word: &str) -> Result<Answer, Trouble> {
+    match name {
+        "stale" => Ok(Answer::Stale(number(word)?)),
+        "gap" => Ok(Answer::Gap(number(word)?)),
+        "malformed" => Ok(Answer::Malformed(cause_of(word)?)),
+        _ => Err(NO_ANSWER),
+    }
+}
+
+fn reply(words: &[&str]) -> Result<Answer, Trouble> {
+    let [code, "commit", commit] = words else {
+        return Err(NO_ANSWER);
+    };
+    Ok(Answer::Reply(Reply {
+        code: Code::of(number(code)?).ok_or(Trouble::Line("no such code"))?,
+        commit: number(commit)?,
+    }))
+}
+
+fn node(words: &[&str]) -> Result<Answer, Trouble> {
+    let [kind, "moment", moment, "size", size] = words else {
+        return Err(NO_ANSWER);
+    };
+    Ok(Answer::Node(NodeStatus {
+        kind: kind_of(kind)?,
+        moment: number(moment)?,
+        size: number(size)?,
+    }))
 }
 
 fn cause_of(word: &str) -> Result<Cause, Trouble> {
@@ -94,19 +140,21 @@ fn names(alloc: Global, words: &[&str]) -> Result<Listing, Trouble> {
         let [kind, word] = pair else {
             return Err(Trouble::Line("a kind without a name"));
         };
-        let mut bytes = Vec::new(alloc);
-        read_bytes(&[*word], &mut bytes)?;
-        let name = match str::from_utf8(&bytes).map(|text| Name::read(alloc, text)) {
-            Ok(Ok(name)) => name,
-            _ => return Err(Trouble::Line("no such name")),
-        };
         if listing.names().len() >= 512 {
             return Err(Trouble::Line("too many names"));
         }
         listing.push(Listed {
             kind: kind_of(kind)?,
-            name,
+            name: name_of(alloc, word)?,
         })?;
     }
     Ok(listing)
+}
+
+fn name_of(alloc: Global, word: &str) -> Result<Name, Trouble> {
+    let text = text_of(alloc, &[word])?;
+    match Name::read(alloc, &text) {
+        Ok(name) => Ok(name),
+        Err(_) => Err(Trouble::Line("no such name")),
+    }
 }

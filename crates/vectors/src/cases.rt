@@ -8,6 +8,9 @@ use words::{Line, number, read_word};
 /// The bytes of a block.
 const BLOCK: usize = 2048;
 
+/// What is said of a line that is none.
+const NO_LINE: Trouble = Trouble::Line("no such line");
+
 /// Bytes that a name stands for.
 #[derive(Drop)]
 struct Named {
@@ -62,22 +65,40 @@ impl Reader {
             return Ok(true);
         }
         let words: Vec<&str> = line.text.split_whitespace().collect(self.alloc)?;
-        match words.as_slice() {
-            ["let", name, rest @ ..] => self.keep(name, rest)?,
-            ["words", name, rest @ ..] => self.speak(name, rest)?,
-            ["case", name] => self.begin(name)?,
-            ["capacity", blocks] => self.medium.capacity = number(blocks)?,
-            ["bytes", rest @ ..] => {
-                let mut bytes = Vec::new(self.alloc);
-                bytes.append(&mut self.medium.bytes)?;
-                self.read(rest, &mut bytes)?;
-                self.medium.bytes = bytes;
-            }
-            ["put", address, rest @ ..] => self.put(number(address)?, rest)?,
-            ["flip", block, places] => self.flip(number(block)?, places)?,
-            _ => return Err(Trouble::Line("no such line")),
-        }
+        self.take(&words)?;
         Ok(false)
+    }
+
+    fn take(&mut self, words: &[&str]) -> Result<(), Trouble> {
+        match words {
+            ["bytes", rest @ ..] => self.append(rest),
+            ["case", name] => self.begin(name),
+            ["capacity", blocks] => {
+                self.medium.capacity = number(blocks)?;
+                Ok(())
+            }
+            ["flip", block, places] => self.flip(number(block)?, places),
+            [kind, name, rest @ ..] => self.define(kind, name, rest),
+            _ => Err(NO_LINE),
+        }
+    }
+
+    fn define(&mut self, kind: &str, name: &str, words: &[&str]) -> Result<(), Trouble> {
+        match kind {
+            "let" => self.keep(name, words),
+            "words" => self.speak(name, words),
+            "put" => self.put(number(name)?, words),
+            _ => Err(NO_LINE),
+        }
+    }
+
+    /// Appends bytes to those of the case.
+    fn append(&mut self, words: &[&str]) -> Result<(), Trouble> {
+        let mut bytes = Vec::new(self.alloc);
+        bytes.append(&mut self.medium.bytes)?;
+        self.read(words, &mut bytes)?;
+        self.medium.bytes = bytes;
+        Ok(())
     }
 
     /// Appends the bytes that the words say. `..` is zeros up to the end of the block, and `{front}` what that name stands for.

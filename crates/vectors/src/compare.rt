@@ -4,7 +4,10 @@ use crate::trouble::Trouble;
 use crate::{answers, directories, entries, fronts, messages, structures, tables, texts, volumes};
 use ecma::Block;
 use std::alloc::Global;
-use words::number;
+use words::{number, show_bytes};
+
+/// What is said of a question that is none.
+pub const NO_QUESTION: Trouble = Trouble::Line("no such question");
 
 /// The bytes of a case, and the drive on which they lie where they are a medium.
 #[derive(Drop)]
@@ -33,39 +36,70 @@ pub fn answer(
     question: &str,
     wanted: &str,
 ) -> Result<String, Trouble> {
-    let bytes = medium.bytes.as_slice();
     let words: Vec<&str> = question.split_whitespace().collect(alloc)?;
     match words.as_slice() {
-        ["last"] => volumes::last_table(alloc, medium),
-        ["before", at] => volumes::table_before(alloc, medium, number(at)?),
-        ["state", at] => volumes::state(alloc, medium, number(at)?),
-        ["states", ats @ ..] => volumes::states(alloc, medium, ats),
-        ["answer"] => answers::frame(alloc, bytes, wanted),
-        ["fields"] => structures::fields(alloc, bytes, wanted),
-        ["crc"] => structures::check(alloc, bytes),
-        ["tag", id, location] => structures::tag(alloc, bytes, number(id)?, number(location)?),
-        ["timestamp"] => structures::timestamp(alloc, bytes),
-        ["moment", moment] => structures::moment(alloc, number(moment)?),
-        [
-            "spelling" | "dstring" | "name" | "label" | "set-identifier",
-            ..
-        ] => texts::answer(alloc, bytes, &words),
-        ["entry", location] => entries::entry(alloc, bytes, number(location)?),
-        ["file-set"] => entries::file_set(alloc, bytes),
-        ["directory", first, size] => {
-            directories::directory(alloc, bytes, number(first)?, number(size)?)
-        }
-        ["numbered", count, letters, first] => {
-            directories::numbered(alloc, number(count)?, number(letters)?, number(first)?)
-        }
-        ["table", icb] => tables::table(alloc, bytes, number(icb)?),
-        ["is-table-entry", block] => tables::is_entry(alloc, bytes, number(block)?),
-        ["clear-start", from] => tables::start(alloc, bytes, number(from)?),
-        ["front"] => fronts::front(alloc, bytes),
-        ["payload"] => messages::payload(alloc, bytes),
-        ["frames"] => messages::frames(alloc, bytes),
-        ["path"] => messages::path(alloc, bytes),
-        _ => Err(Trouble::Line("no such question")),
+        [] => Err(NO_QUESTION),
+        [name] => of_bytes(alloc, medium, name, wanted),
+        [name, rest @ ..] => with_words(alloc, medium, name, rest),
+    }
+}
+
+/// The answer to a question of one word.
+fn of_bytes(alloc: Global, medium: &Medium, name: &str, wanted: &str) -> Result<String, Trouble> {
+    let bytes = medium.bytes.as_slice();
+    match name {
+        "last" => volumes::last_table(alloc, medium),
+        "answer" => answers::frame(alloc, bytes, wanted),
+        "fields" => structures::fields(alloc, bytes, wanted),
+        "crc" => structures::check(alloc, bytes),
+        "timestamp" => structures::timestamp(alloc, bytes),
+        "spelling" => texts::spelling(alloc, bytes),
+        "dstring" => texts::dstring(alloc, bytes),
+        "name" => texts::name(alloc, bytes),
+        "label" => texts::label(alloc, bytes),
+        "set-identifier" => texts::set_identifier(alloc, bytes),
+        "file-set" => entries::file_set(alloc, bytes),
+        "front" => fronts::front(alloc, bytes),
+        "payload" => messages::payload(alloc, bytes),
+        "frames" => messages::frames(alloc, bytes),
+        "path" => messages::path(alloc, bytes),
+        _ => Err(NO_QUESTION),
+    }
+}
+
+/// The answer to a question with further words.
+fn with_words(
+    alloc: Global,
+    medium: &Medium,
+    name: &str,
+    words: &[&str],
+) -> Result<String, Trouble> {
+    match name {
+        "states" => volumes::states(alloc, medium, words),
+        "moment" => structures::moment(alloc, words),
+        "tag" => structures::tag(alloc, &medium.bytes, words),
+        "directory" => directories::directory(alloc, &medium.bytes, words),
+        "numbered" => directories::numbered(alloc, words),
+        "spelling" | "name" | "label" | "dstring" => texts::written(alloc, name, words),
+        _ => at_block(alloc, medium, name, words),
+    }
+}
+
+/// The answer to a question about what is at a block.
+fn at_block(alloc: Global, medium: &Medium, name: &str, words: &[&str]) -> Result<String, Trouble> {
+    let [block] = words else {
+        return Err(NO_QUESTION);
+    };
+    let block = number(block)?;
+    let bytes = medium.bytes.as_slice();
+    match name {
+        "before" => volumes::table_before(alloc, medium, block),
+        "state" => volumes::state(alloc, medium, block),
+        "entry" => entries::entry(alloc, bytes, block),
+        "table" => tables::table(alloc, bytes, block),
+        "is-table-entry" => tables::is_entry(alloc, bytes, block),
+        "clear-start" => tables::start(alloc, bytes, block),
+        _ => Err(NO_QUESTION),
     }
 }
 
@@ -89,4 +123,16 @@ pub fn blocks_of(alloc: Global, bytes: &[u8]) -> Result<Vec<Block>, Trouble> {
 /// An answer of some words.
 pub fn words_of(alloc: Global, text: &str) -> Result<String, Trouble> {
     Ok(String::from_str(alloc, text)?)
+}
+
+/// The answer that is a fault of this number.
+pub fn fault(alloc: Global, number: u8) -> Result<String, Trouble> {
+    Ok(format!(in alloc; "fault {number}")?)
+}
+
+/// The answer that is bytes.
+pub fn shown(alloc: Global, bytes: &[u8]) -> Result<String, Trouble> {
+    let mut out = String::new(alloc);
+    show_bytes(bytes, &mut out)?;
+    Ok(out)
 }

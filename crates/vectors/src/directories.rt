@@ -1,6 +1,6 @@
 //! Directories (ECMA-167 4/14.4).
 
-use crate::compare::{blocks_of, words_of};
+use crate::compare::{NO_QUESTION, blocks_of, fault, words_of};
 use crate::texts::show_text;
 use crate::trouble::Trouble;
 use dir::{DataSize, Dir, Entry, Kind, Lay, lay, read_dir};
@@ -10,27 +10,40 @@ use limits::{BLOCK_SIZE, DIRECTORY_NAMES, PARTITION_BLOCKS};
 use osta::Name;
 use std::alloc::Global;
 use std::fmt::Write;
+use words::number;
 
 /// What the directory says whose data of so many bytes begins at a block number.
-pub fn directory(alloc: Global, bytes: &[u8], first: u32, size: u32) -> Result<String, Trouble> {
+pub fn directory(alloc: Global, bytes: &[u8], words: &[&str]) -> Result<String, Trouble> {
+    let [first, size] = words else {
+        return Err(NO_QUESTION);
+    };
+    let (first, size) = (number(first)?, number(size)?);
     let blocks = blocks_of(alloc, bytes)?;
     let dir = match read(alloc, &blocks, first, size)? {
         Ok(dir) => dir,
-        Err(fault) => return Ok(format!(in alloc; "fault {fault}")?),
+        Err(number) => return fault(alloc, number),
     };
     if size_of(&dir) != Some(size) || !lays(alloc, &dir, first, &blocks)? {
         return words_of(alloc, "laid otherwise");
     }
+    told(alloc, &dir)
+}
+
+fn told(alloc: Global, dir: &Dir) -> Result<String, Trouble> {
     let mut text = format!(in alloc; "parent {}", dir.parent)?;
     for (name, entry) in &dir.entries {
-        let kind = match entry.kind {
-            Kind::File => "file",
-            Kind::Directory => "directory",
-        };
-        write!(text, " {kind} {} {} ", entry.virtual_address, entry.unique)?;
-        show_text(name.as_str(), &mut text)?;
+        tell_entry(name, entry, &mut text)?;
     }
     Ok(text)
+}
+
+fn tell_entry(name: &Name, entry: &Entry, out: &mut String) -> Result<(), Trouble> {
+    let kind = match entry.kind {
+        Kind::File => "file",
+        Kind::Directory => "directory",
+    };
+    write!(out, " {kind} {} {} ", entry.virtual_address, entry.unique)?;
+    show_text(name.as_str(), out)
 }
 
 /// The directory, or the number of its fault.
@@ -81,24 +94,44 @@ fn lays(alloc: Global, dir: &Dir, first: u32, blocks: &[Block]) -> Result<bool, 
 
 /// The size of the data of a directory of files and the check of its blocks. It has so many names of so many letters at least,
 /// each the letter `x` and then the name's number, from 0 on.
-pub fn numbered(alloc: Global, count: u32, letters: usize, first: u32) -> Result<String, Trouble> {
-    let dir = files(alloc, count, letters)?;
+pub fn numbered(alloc: Global, words: &[&str]) -> Result<String, Trouble> {
+    let [count, letters, first] = words else {
+        return Err(NO_QUESTION);
+    };
+    let dir = files(alloc, number(count)?, number(letters)?)?;
+    laid(alloc, &dir, number(first)?)
+}
+
+fn laid(alloc: Global, dir: &Dir, first: u32) -> Result<String, Trouble> {
     if dir.entries.len() > DIRECTORY_NAMES || first > PARTITION_BLOCKS {
         return Err(Trouble::Line("no such directory"));
     }
-    let blocks = lay(alloc, &dir, first)?;
-    let Some(size) = size_of(&dir) else {
+    let blocks = lay(alloc, dir, first)?;
+    let Some(size) = size_of(dir) else {
         return words_of(alloc, "no size");
     };
-    if !lays(alloc, &dir, first, &blocks)? {
+    if !lays(alloc, dir, first, &blocks)? {
         return words_of(alloc, "laid otherwise");
     }
-    match read(alloc, &blocks, first, size)? {
-        Ok(again) if are_alike(&again, &dir) => {}
-        _ => return words_of(alloc, "read otherwise"),
+    if !reads(alloc, dir, first, size, &blocks)? {
+        return words_of(alloc, "read otherwise");
     }
     let check = crc(blocks.as_flattened());
     Ok(format!(in alloc; "size {size} crc {check:04X}")?)
+}
+
+/// Whether a directory is read from these blocks.
+fn reads(
+    alloc: Global,
+    dir: &Dir,
+    first: u32,
+    size: u32,
+    blocks: &[Block],
+) -> Result<bool, Trouble> {
+    match read(alloc, blocks, first, size)? {
+        Ok(again) => Ok(are_alike(&again, dir)),
+        Err(_) => Ok(false),
+    }
 }
 
 fn files(alloc: Global, count: u32, letters: usize) -> Result<Dir, Trouble> {
@@ -112,18 +145,22 @@ fn files(alloc: Global, count: u32, letters: usize) -> Result<Dir, Trouble> {
         unique: 16,
     };
     for number in 0..count.min(512) {
-        let digits = format!(in alloc; "{number}")?;
-        let mut text = String::new(alloc);
-        for _ in digits.len()..letters {
-            text.push('x')?;
-        }
-        text.push_str(&digits)?;
-        match Name::read(alloc, &text) {
-            Ok(name) => dir.entries.insert(name, entry)?,
-            Err(_) => return Err(Trouble::Line("no such name")),
-        };
+        dir.entries.insert(name_of(alloc, number, letters)?, entry)?;
     }
     Ok(dir)
+}
+
+fn name_of(alloc: Global, number: u32, letters: usize) -> Result<Name, Trouble> {
+    let digits = format!(in alloc; "{number}")?;
+    let mut text = String::new(alloc);
+    for _ in digits.len()..letters {
+        text.push('x')?;
+    }
+    text.push_str(&digits)?;
+    match Name::read(alloc, &text) {
+        Ok(name) => Ok(name),
+        Err(_) => Err(Trouble::Line("no such name")),
+    }
 }
 
 fn are_alike(one: &Dir, other: &Dir) -> bool {

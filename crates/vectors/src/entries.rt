@@ -1,6 +1,7 @@
 //! File entries and file set descriptors (ECMA-167 4/14.9 and 4/14.1).
 
-use crate::compare::{block_of, words_of};
+use crate::compare::{block_of, fault, words_of};
+use crate::texts::tell_label;
 use crate::trouble::Trouble;
 use ecma::Block;
 use icb::{FileEntry, Kind, Place, decode_fe, decode_fsd, encode_fe, encode_fsd};
@@ -21,7 +22,7 @@ pub fn entry(alloc: Global, bytes: &[u8], location: u32) -> Result<String, Troub
     let block = only_block(bytes)?;
     let entry = match decode_fe(&block, location) {
         Ok(entry) => entry,
-        Err(fault) => return Ok(format!(in alloc; "fault {}", fault.number())?),
+        Err(found) => return fault(alloc, found.number()),
     };
     if encode_fe(&entry, location) != block {
         return words_of(alloc, "written otherwise");
@@ -59,14 +60,13 @@ pub fn file_set(alloc: Global, bytes: &[u8]) -> Result<String, Trouble> {
     let block = only_block(bytes)?;
     let set = match decode_fsd(&block) {
         Ok(set) => set,
-        Err(fault) => return Ok(format!(in alloc; "fault {}", fault.number())?),
+        Err(found) => return fault(alloc, found.number()),
     };
     if encode_fsd(&set) != block {
         return words_of(alloc, "written otherwise");
     }
     let mut text = String::new(alloc);
-    text.push_str("label ")?;
-    show_bytes(set.label.text(alloc)?.as_bytes(), &mut text)?;
+    tell_label(alloc, &set.label, &mut text)?;
     write!(text, " moment {}", set.moment.moment())?;
     Ok(text)
 }

@@ -20,42 +20,49 @@ pub fn payload(alloc: Global, bytes: &[u8]) -> Result<String, Trouble> {
 
 fn tell(message: &Message<'_>, out: &mut String) -> Result<(), Trouble> {
     match message {
-        Message::Request(request) => tell_request(request, out)?,
-        Message::Query(Query::Get(path)) => tell_path("get path", path, out)?,
-        Message::Query(Query::List(path)) => tell_path("list path", path, out)?,
-        Message::Query(Query::Stat(path)) => tell_path("stat path", path, out)?,
-        Message::Malformed(cause) => write!(out, "malformed {}", cause.number())?,
-        Message::NoMemory => return Err(Trouble::Memory),
+        Message::Request(request) => tell_request(request, out),
+        Message::Query(Query::Get(path)) => tell_path("get path", path, out),
+        Message::Query(Query::List(path)) => tell_path("list path", path, out),
+        Message::Query(Query::Stat(path)) => tell_path("stat path", path, out),
+        Message::Malformed(cause) => Ok(write!(out, "malformed {}", cause.number())?),
+        Message::NoMemory => Err(Trouble::Memory),
     }
-    Ok(())
 }
 
 fn tell_request(request: &Request<'_>, out: &mut String) -> Result<(), Trouble> {
-    let kind = match &request.op {
-        Op::Create { .. } => "create",
-        Op::Replace { .. } => "replace",
-        Op::MakeDir { .. } => "make",
-        Op::Rename { .. } => "rename",
-        Op::Remove { .. } => "remove",
-    };
+    let kind = kind_of(&request.op);
     write!(
         out,
         "{kind} client {} number {} moment {} ",
         request.client, request.number, request.moment
     )?;
-    match &request.op {
+    tell_op(&request.op, out)
+}
+
+fn kind_of(op: &Op<'_>) -> &'static str {
+    match op {
+        Op::Create { .. } => "create",
+        Op::Replace { .. } => "replace",
+        Op::MakeDir { .. } => "make",
+        Op::Rename { .. } => "rename",
+        Op::Remove { .. } => "remove",
+    }
+}
+
+fn tell_op(op: &Op<'_>, out: &mut String) -> Result<(), Trouble> {
+    match op {
         Op::Create { path, bytes } | Op::Replace { path, bytes } => {
             tell_path("path", path, out)?;
             out.push_str(" data ")?;
             show_bytes(bytes.as_slice(), out)?;
+            Ok(())
         }
-        Op::MakeDir { path } | Op::Remove { path } => tell_path("path", path, out)?,
+        Op::MakeDir { path } | Op::Remove { path } => tell_path("path", path, out),
         Op::Rename { from, to } => {
             tell_path("from", from, out)?;
-            tell_path(" to", to, out)?;
+            tell_path(" to", to, out)
         }
     }
-    Ok(())
 }
 
 /// The names of a path; the root has none.
@@ -90,22 +97,28 @@ fn fed(alloc: Global, bytes: &[u8], size: usize) -> Result<String, Trouble> {
     let mut frames = Frames::new(alloc);
     for piece in bytes.chunks(size.max(1)) {
         frames.feed(piece)?;
-        for _ in 0..u32::MAX {
-            let Some(message) = frames.first() else {
-                break;
-            };
-            if !text.is_empty() {
-                text.push_str(" ; ")?;
-            }
-            tell(&message, &mut text)?;
-            drop(message);
-            frames.skip();
-        }
+        tell_frames(&mut frames, &mut text)?;
     }
     if frames.is_over() {
         text.push_str(" ; over")?;
     }
     Ok(text)
+}
+
+/// The messages that are whole.
+fn tell_frames(frames: &mut Frames, out: &mut String) -> Result<(), Trouble> {
+    for _ in 0..u32::MAX {
+        let Some(message) = frames.first() else {
+            break;
+        };
+        if !out.is_empty() {
+            out.push_str(" ; ")?;
+        }
+        tell(&message, out)?;
+        drop(message);
+        frames.skip();
+    }
+    Ok(())
 }
 
 /// The names of a path by its text.

@@ -1,24 +1,36 @@
 //! Tags, checks, timestamps and the fields of descriptors (ECMA-167 1/7, 3/7).
 
-use crate::compare::words_of;
+use crate::compare::{NO_QUESTION, fault, shown, words_of};
 use crate::trouble::Trouble;
 use ecma::{
     CS0, EntityId, ExtentAd, Field, LbAddr, LongAd, Timestamp, crc, open_tag, seal, write_fields,
 };
 use std::alloc::Global;
-use words::{number, read_word, show_bytes};
+use words::{number, read_word};
 
 /// The check of the bytes.
 pub fn check(alloc: Global, bytes: &[u8]) -> Result<String, Trouble> {
     Ok(format!(in alloc; "{:04X}", crc(bytes))?)
 }
 
-/// What the tag of the descriptor says that the bytes are.
-pub fn tag(alloc: Global, bytes: &[u8], id: u16, location: u32) -> Result<String, Trouble> {
+/// What the tag of the descriptor says that the bytes are, with this identifier and location.
+pub fn tag(alloc: Global, bytes: &[u8], words: &[&str]) -> Result<String, Trouble> {
+    let [id, location] = words else {
+        return Err(NO_QUESTION);
+    };
+    let (id, location) = (number(id)?, number(location)?);
     let tag = match open_tag(bytes, id, location) {
         Ok(tag) => tag,
-        Err(fault) => return Ok(format!(in alloc; "fault {}", fault.number())?),
+        Err(found) => return fault(alloc, found.number()),
     };
+    if sealed(alloc, bytes, id, location)?.as_slice() != bytes {
+        return words_of(alloc, "sealed otherwise");
+    }
+    Ok(format!(in alloc; "crc {:04X} length {}", tag.crc, tag.crc_length)?)
+}
+
+/// The bytes with their tag written again.
+fn sealed(alloc: Global, bytes: &[u8], id: u16, location: u32) -> Result<Vec<u8>, Trouble> {
     let mut again = Vec::from_slice(alloc, bytes)?;
     let size = again.len();
     if size < 16 || size > 65_551 {
@@ -26,10 +38,7 @@ pub fn tag(alloc: Global, bytes: &[u8], id: u16, location: u32) -> Result<String
     }
     again[..16].fill(0);
     seal(id, location, &mut again);
-    if again.as_slice() != bytes {
-        return words_of(alloc, "sealed otherwise");
-    }
-    Ok(format!(in alloc; "crc {:04X} length {}", tag.crc, tag.crc_length)?)
+    Ok(again)
 }
 
 /// The moment of a timestamp.
@@ -52,13 +61,14 @@ pub fn timestamp(alloc: Global, bytes: &[u8]) -> Result<String, Trouble> {
 }
 
 /// The timestamp of a moment.
-pub fn moment(alloc: Global, moment: u64) -> Result<String, Trouble> {
-    let Some(stamp) = Timestamp::of(moment) else {
-        return words_of(alloc, "none");
+pub fn moment(alloc: Global, words: &[&str]) -> Result<String, Trouble> {
+    let [moment] = words else {
+        return Err(NO_QUESTION);
     };
-    let mut text = String::new(alloc);
-    show_bytes(&stamp.to_bytes(), &mut text)?;
-    Ok(text)
+    match Timestamp::of(number(moment)?) {
+        Some(stamp) => shown(alloc, &stamp.to_bytes()),
+        None => words_of(alloc, "none"),
+    }
 }
 
 /// Whether the bytes are those of the fields: these again, or the bytes that they have.
@@ -71,11 +81,9 @@ pub fn fields(alloc: Global, bytes: &[u8], said: &str) -> Result<String, Trouble
         }
     }
     if written.as_slice() == bytes {
-        return Ok(String::from_str(alloc, said)?);
+        return words_of(alloc, said);
     }
-    let mut text = String::new(alloc);
-    show_bytes(&written, &mut text)?;
-    Ok(text)
+    shown(alloc, &written)
 }
 
 /// The field that a word says.

@@ -1,18 +1,18 @@
 //! Virtual allocation tables (UDF 2.01 2.2.10), and the starts at which data shows none.
 
-use crate::compare::{block_of, words_of};
+use crate::compare::{block_of, fault, words_of};
+use crate::texts::tell_label;
 use crate::trouble::Trouble;
 use limits::{FILE_BYTES, PARTITION_BLOCKS};
 use std::alloc::Global;
 use std::fmt::Write;
 use vat::{Record, Vat, Version, clear_start, decode_vat, encode_vat, is_vat_icb};
-use words::show_bytes;
 
 /// What the table says whose entry is at a block number.
 pub fn table(alloc: Global, bytes: &[u8], icb: u32) -> Result<String, Trouble> {
     let vat = match decode_vat(alloc, bytes, icb) {
         Ok(vat) => vat,
-        Err(fault) => return Ok(format!(in alloc; "fault {}", fault.number())?),
+        Err(found) => return fault(alloc, found.number()),
     };
     if encode_vat(alloc, &vat)?.as_slice() != bytes {
         return words_of(alloc, "written otherwise");
@@ -24,8 +24,15 @@ pub fn table(alloc: Global, bytes: &[u8], icb: u32) -> Result<String, Trouble> {
 
 /// What a table says, in words.
 pub fn tell_table(alloc: Global, vat: &Vat, out: &mut String) -> Result<(), Trouble> {
-    out.push_str("label ")?;
-    show_bytes(vat.label.text(alloc)?.as_bytes(), out)?;
+    tell_label(alloc, &vat.label, out)?;
+    tell_head(vat, out)?;
+    for record in &vat.sessions.records {
+        tell_record(record, out)?;
+    }
+    tell_entries(&vat.entries, out)
+}
+
+fn tell_head(vat: &Vat, out: &mut String) -> Result<(), Trouble> {
     match vat.previous {
         Some(number) => write!(out, " previous {number}")?,
         None => out.push_str(" previous none")?,
@@ -39,10 +46,7 @@ pub fn tell_table(alloc: Global, vat: &Vat, out: &mut String) -> Result<(), Trou
         " files {} directories {} version {version} next-unique {} commits {}",
         vat.files, vat.directories, vat.sessions.next_unique, vat.sessions.commits
     )?;
-    for record in &vat.sessions.records {
-        tell_record(record, out)?;
-    }
-    tell_entries(&vat.entries, out)
+    Ok(())
 }
 
 fn tell_record(record: &Record, out: &mut String) -> Result<(), Trouble> {

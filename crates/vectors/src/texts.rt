@@ -1,32 +1,24 @@
 //! Texts on the medium: spellings, dstrings, names and labels (UDF 2.01 2.1.1 to 2.1.3, ECMA-167 1/7.2.12).
 
-use crate::compare::words_of;
+use crate::compare::{fault, shown, words_of};
 use crate::trouble::Trouble;
 use osta::{Label, Name, NameFault, check_encoding, compress, dstring_read, dstring_write, expand};
 use std::alloc::Global;
 use std::str;
 use words::{number, read_bytes, show_bytes};
 
-/// What is answered of a text. Where the question has a text of its own it is written, else the bytes are read.
-pub fn answer(alloc: Global, bytes: &[u8], question: &[&str]) -> Result<String, Trouble> {
+/// The bytes in which the text of a question is written.
+pub fn written(alloc: Global, question: &str, words: &[&str]) -> Result<String, Trouble> {
     match question {
-        ["spelling"] => spelling(alloc, bytes),
-        ["dstring"] => dstring(alloc, bytes),
-        ["name"] => name(alloc, bytes),
-        ["label"] => label(alloc, bytes),
-        ["set-identifier"] => set_identifier(alloc, bytes),
-        ["spelling", words @ ..] => spelled(alloc, &text_of(alloc, words)?),
-        ["name", words @ ..] => named(alloc, &text_of(alloc, words)?),
-        ["label", words @ ..] => labelled(alloc, &text_of(alloc, words)?),
-        ["dstring", room, words @ ..] => {
-            in_dstring(alloc, number(room)?, &text_of(alloc, words)?)
-        }
-        _ => Err(Trouble::Line("no such question")),
+        "spelling" => spelled(alloc, &text_of(alloc, words)?),
+        "name" => named(alloc, &text_of(alloc, words)?),
+        "label" => labelled(alloc, &text_of(alloc, words)?),
+        _ => in_dstring(alloc, words),
     }
 }
 
 /// The text whose UTF-8 the words say; `empty` is the one without a character.
-fn text_of(alloc: Global, words: &[&str]) -> Result<String, Trouble> {
+pub fn text_of(alloc: Global, words: &[&str]) -> Result<String, Trouble> {
     let mut bytes = Vec::new(alloc);
     if words != ["empty"].as_slice() {
         read_bytes(words, &mut bytes)?;
@@ -47,10 +39,11 @@ pub fn show_text(text: &str, out: &mut String) -> Result<(), Trouble> {
     Ok(())
 }
 
-fn shown(alloc: Global, bytes: &[u8]) -> Result<String, Trouble> {
-    let mut out = String::new(alloc);
-    show_bytes(bytes, &mut out)?;
-    Ok(out)
+/// A label by its text.
+pub fn tell_label(alloc: Global, label: &Label, out: &mut String) -> Result<(), Trouble> {
+    out.push_str("label ")?;
+    show_bytes(label.text(alloc)?.as_bytes(), out)?;
+    Ok(())
 }
 
 fn told(alloc: Global, text: &str) -> Result<String, Trouble> {
@@ -59,12 +52,8 @@ fn told(alloc: Global, text: &str) -> Result<String, Trouble> {
     Ok(out)
 }
 
-fn fault(alloc: Global, number: u8) -> Result<String, Trouble> {
-    Ok(format!(in alloc; "fault {number}")?)
-}
-
 /// The text of a spelling.
-fn spelling(alloc: Global, bytes: &[u8]) -> Result<String, Trouble> {
+pub fn spelling(alloc: Global, bytes: &[u8]) -> Result<String, Trouble> {
     let text = match expand(alloc, bytes) {
         Ok(text) => text,
         Err(found) if check_encoding(bytes) == Err(found) => return fault(alloc, found.number()),
@@ -88,7 +77,7 @@ fn spelled(alloc: Global, text: &str) -> Result<String, Trouble> {
 }
 
 /// The text of a dstring.
-fn dstring(alloc: Global, bytes: &[u8]) -> Result<String, Trouble> {
+pub fn dstring(alloc: Global, bytes: &[u8]) -> Result<String, Trouble> {
     if bytes.is_empty() || bytes.len() > 256 {
         return Err(Trouble::Line("no dstring is so long"));
     }
@@ -107,10 +96,14 @@ fn dstring(alloc: Global, bytes: &[u8]) -> Result<String, Trouble> {
 }
 
 /// A text in a dstring of so many bytes, which stays as it was where the text is refused.
-fn in_dstring(alloc: Global, room: usize, text: &str) -> Result<String, Trouble> {
+fn in_dstring(alloc: Global, words: &[&str]) -> Result<String, Trouble> {
+    let [room, words @ ..] = words else {
+        return Err(Trouble::Line("no room"));
+    };
+    let text = text_of(alloc, words)?;
     let mut field = [7u8; 256];
-    let size = room.min(256).max(1);
-    let written = dstring_write(text, &mut field[..size]);
+    let size = number::<usize>(room)?.min(256).max(1);
+    let written = dstring_write(&text, &mut field[..size]);
     match written {
         Ok(()) => shown(alloc, &field[..size]),
         Err(found) if field.iter().all(|byte| *byte == 7) => fault(alloc, found.number()),
@@ -119,7 +112,7 @@ fn in_dstring(alloc: Global, room: usize, text: &str) -> Result<String, Trouble>
 }
 
 /// The name that is spelled so.
-fn name(alloc: Global, bytes: &[u8]) -> Result<String, Trouble> {
+pub fn name(alloc: Global, bytes: &[u8]) -> Result<String, Trouble> {
     let Some(name) = Name::of(alloc, bytes)? else {
         return words_of(alloc, "none");
     };
@@ -140,7 +133,7 @@ fn named(alloc: Global, text: &str) -> Result<String, Trouble> {
 }
 
 /// The label of a dstring.
-fn label(alloc: Global, bytes: &[u8]) -> Result<String, Trouble> {
+pub fn label(alloc: Global, bytes: &[u8]) -> Result<String, Trouble> {
     let Some(label) = Label::of(bytes) else {
         return words_of(alloc, "none");
     };
@@ -165,7 +158,7 @@ fn labelled(alloc: Global, text: &str) -> Result<String, Trouble> {
 }
 
 /// The label after the sixteen digits of a volume set identifier (UDF 2.01 2.2.2.5), after these.
-fn set_identifier(alloc: Global, bytes: &[u8]) -> Result<String, Trouble> {
+pub fn set_identifier(alloc: Global, bytes: &[u8]) -> Result<String, Trouble> {
     if bytes.is_empty() || bytes.len() > 256 {
         return Err(Trouble::Line("no dstring is so long"));
     }

@@ -12,7 +12,6 @@ use ecma::Block;
 use limits::PARTITION_START;
 use recover::{ReadCache, State, StoreFault, before, last, state_at, state_sharing};
 use std::alloc::Global;
-use std::fmt::Write;
 use words::number;
 
 /// A drive on which the bytes are written, block by block.
@@ -85,6 +84,10 @@ pub fn state(alloc: Global, medium: &Medium, at: u32) -> Result<String, Trouble>
         Ok(state) => state,
         Err(fault) => return refusal(alloc, fault),
     };
+    told(alloc, &state)
+}
+
+fn told(alloc: Global, state: &State) -> Result<String, Trouble> {
     if state.label != state.vat.label {
         return words_of(alloc, "another label");
     }
@@ -115,14 +118,7 @@ type Told = Result<u32, StoreFault>;
 /// The commits of up to three states, or why each is refused. Each is looked at alone, and in turn with what is known of those
 /// before, which must say the same.
 pub fn states(alloc: Global, medium: &Medium, words: &[&str]) -> Result<String, Trouble> {
-    let mut ats = [PARTITION_START; 3];
-    let mut last = PARTITION_START;
-    for (index, at) in ats.iter_mut().enumerate() {
-        if let Some(word) = words.get(index) {
-            last = number(word)?;
-        }
-        *at = last;
-    }
+    let ats = addresses(words)?;
     let mut drive = drive_of(alloc, medium)?;
     let shared = shared(alloc, &mut drive, ats)?;
     if alone(alloc, &mut drive, ats)? != shared {
@@ -133,12 +129,29 @@ pub fn states(alloc: Global, medium: &Medium, words: &[&str]) -> Result<String, 
         if !text.is_empty() {
             text.push_str(" ; ")?;
         }
-        match told {
-            Ok(commits) => write!(text, "commits {commits}")?,
-            Err(fault) => text.push_str(&refusal(alloc, *fault)?)?,
-        }
+        text.push_str(&commits_told(alloc, *told)?)?;
     }
     Ok(text)
+}
+
+/// Three addresses, the last of those in the words for each that is not there.
+fn addresses(words: &[&str]) -> Result<[u32; 3], Trouble> {
+    let mut ats = [PARTITION_START; 3];
+    let mut last = PARTITION_START;
+    for (index, at) in ats.iter_mut().enumerate() {
+        if let Some(word) = words.get(index) {
+            last = number(word)?;
+        }
+        *at = last;
+    }
+    Ok(ats)
+}
+
+fn commits_told(alloc: Global, told: Told) -> Result<String, Trouble> {
+    match told {
+        Ok(commits) => Ok(format!(in alloc; "commits {commits}")?),
+        Err(fault) => refusal(alloc, fault),
+    }
 }
 
 /// What is reported of three states, looked at in turn with what is known of those before.
