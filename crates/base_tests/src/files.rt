@@ -1,6 +1,6 @@
 //! Drives over files of the system.
 
-use crate::steps::{Step, play_file};
+use crate::steps::{Step, play};
 use drive::{DriveFault, FileDrive, create_image, open_image};
 use std::fs;
 use std::fs::File;
@@ -8,17 +8,32 @@ use std::os::fd::IntoRawFd;
 use std::os::unix::fs::symlink;
 use std::test::Fail;
 
-/// A new image file with room for so many blocks.
-fn created(rt: &HostRuntime, path: &str, capacity: u32) -> Result<FileDrive, Fail> {
-    let _ = fs::remove_file(rt, path);
-    Ok(FileDrive::create(rt, path, capacity)?)
+/// Plays the steps on an image, which is made where it is missing.
+fn play_created(
+    rt: &HostRuntime,
+    path: &str,
+    capacity: u32,
+    steps: &[Step<'_>],
+) -> Result<(), Fail> {
+    let mut drive = FileDrive::create(rt, path, capacity)?;
+    play(rt, &mut drive, steps)
 }
 
-/// Whether a file has this size, and these bytes at their places.
-fn holds(rt: &HostRuntime, path: &str, size: usize, bytes: &[(usize, u8)]) -> Result<bool, Fail> {
-    let found = fs::read(rt, path)?;
-    let found = found.as_slice();
-    Ok(found.len() == size && bytes.iter().all(|(at, byte)| found.get(*at) == Some(byte)))
+/// Plays the steps on a new image, in the place of one that is there.
+fn play_new(rt: &HostRuntime, path: &str, capacity: u32, steps: &[Step<'_>]) -> Result<(), Fail> {
+    let _ = fs::remove_file(rt, path);
+    play_created(rt, path, capacity, steps)
+}
+
+/// Plays the steps on an image that is there.
+fn play_opened(
+    rt: &HostRuntime,
+    path: &str,
+    capacity: u32,
+    steps: &[Step<'_>],
+) -> Result<(), Fail> {
+    let mut drive = FileDrive::open(rt, path, capacity)?;
+    play(rt, &mut drive, steps)
 }
 
 /// Whether a path is refused that is opened, opened to be read, and made an image.
@@ -35,50 +50,49 @@ fn number_is_refused(file: File, capacity: u32) -> bool {
     FileDrive::over_number(file.into_raw_fd(), capacity).is_err()
 }
 
+const KEPT: [Step<'static>; 7] = [
+    Step::Capacity(10),
+    Step::Next(Ok(0)),
+    Step::Write(0, &[7, 8], Ok(())),
+    Step::Next(Ok(2)),
+    Step::Write(2, &[9], Ok(())),
+    Step::Next(Ok(3)),
+    Step::File("keeps_blocks.img", 6144, &[(0, 7), (2048, 8), (4096, 9)]),
+];
+
+const OPENED_AGAIN: [Step<'static>; 4] = [
+    Step::Next(Ok(3)),
+    Step::Read(1, Ok(())),
+    Step::Holds(8),
+    Step::Remove("keeps_blocks.img"),
+];
+
 #[test]
 fn a_file_keeps_blocks(rt: HostRuntime) -> Result<(), Fail> {
-    let path = "keeps_blocks.img";
-    let mut drive = created(&rt, path, 10)?;
-    let steps = [
-        Step::Capacity(10),
-        Step::Next(Ok(0)),
-        Step::Write(0, &[7, 8], Ok(())),
-        Step::Next(Ok(2)),
-        Step::Write(2, &[9], Ok(())),
-        Step::Next(Ok(3)),
-    ];
-    play_file(&rt, &mut drive, &steps)?;
-    assert!(rt; holds(&rt, path, 6144, &[(0, 7), (2048, 8), (4096, 9)])?);
-    drop(drive);
-    let mut again = FileDrive::open(&rt, path, 3)?;
-    let steps = [Step::Next(Ok(3)), Step::Read(1, Ok(())), Step::Holds(8)];
-    play_file(&rt, &mut again, &steps)?;
-    fs::remove_file(&rt, path)?;
-    Ok(())
+    play_new(&rt, "keeps_blocks.img", 10, &KEPT)?;
+    play_opened(&rt, "keeps_blocks.img", 3, &OPENED_AGAIN)
 }
+
+const RUN: [Step<'static>; 9] = [
+    Step::Capacity(100),
+    Step::Next(Ok(0)),
+    Step::Run(0, &[7; 40], &[8, 9], Ok(())),
+    Step::Next(Ok(42)),
+    Step::File(
+        "run.img",
+        42 * 2048,
+        &[(39 * 2048, 7), (40 * 2048, 8), (41 * 2048, 9)],
+    ),
+    Step::Next(Ok(42)),
+    Step::Run(41, &[1], &[], Err(DriveFault)),
+    Step::Next(Ok(42)),
+    Step::Remove("run.img"),
+];
 
 /// The second slice of a run lies after the first, and a run that does not begin at the next address is a fault.
 #[test]
 fn a_run_lies_in_one_piece(rt: HostRuntime) -> Result<(), Fail> {
-    let path = "run.img";
-    let mut drive = created(&rt, path, 100)?;
-    let steps = [
-        Step::Capacity(100),
-        Step::Next(Ok(0)),
-        Step::Run(0, &[7; 40], &[8, 9], Ok(())),
-        Step::Next(Ok(42)),
-    ];
-    play_file(&rt, &mut drive, &steps)?;
-    let bytes = [(39 * 2048, 7), (40 * 2048, 8), (41 * 2048, 9)];
-    assert!(rt; holds(&rt, path, 42 * 2048, &bytes)?);
-    let steps = [
-        Step::Next(Ok(42)),
-        Step::Run(41, &[1], &[], Err(DriveFault)),
-        Step::Next(Ok(42)),
-    ];
-    play_file(&rt, &mut drive, &steps)?;
-    fs::remove_file(&rt, path)?;
-    Ok(())
+    play_new(&rt, "run.img", 100, &RUN)
 }
 
 /// A new image of one block, by the number of a descriptor.
@@ -89,6 +103,13 @@ fn by_number(rt: &HostRuntime, path: &str) -> Result<FileDrive, Fail> {
     Ok(FileDrive::over_number(file.into_raw_fd(), 10)?)
 }
 
+const NUMBERED: [Step<'static>; 4] = [
+    Step::Capacity(10),
+    Step::Next(Ok(1)),
+    Step::Write(1, &[7], Ok(())),
+    Step::File("number.img", 4096, &[(2048, 7)]),
+];
+
 /// An image by the number of a descriptor is held like another.
 #[test]
 fn a_descriptor_is_an_image_by_its_number(rt: HostRuntime) -> Result<(), Fail> {
@@ -96,18 +117,17 @@ fn a_descriptor_is_an_image_by_its_number(rt: HostRuntime) -> Result<(), Fail> {
     let mut drive = by_number(&rt, path)?;
     assert!(rt; FileDrive::open(&rt, path, 10).is_err(), "it is held");
     assert!(rt; number_is_refused(open_image(&rt, path)?, 10));
-    let steps = [
-        Step::Capacity(10),
-        Step::Next(Ok(1)),
-        Step::Write(1, &[7], Ok(())),
-    ];
-    play_file(&rt, &mut drive, &steps)?;
+    play(&rt, &mut drive, &NUMBERED)?;
     drop(drive);
     assert!(rt; refuses_numbers(&rt, path)?);
-    assert!(rt; holds(&rt, path, 4096, &[(2048, 7)])?);
-    fs::remove_file(&rt, path)?;
-    Ok(())
+    play_opened(&rt, path, 10, &REFUSED_NUMBERS)
 }
+
+/// Nothing was written by what was refused.
+const REFUSED_NUMBERS: [Step<'static>; 2] = [
+    Step::File("number.img", 4096, &[(2048, 7)]),
+    Step::Remove("number.img"),
+];
 
 /// Whether a descriptor is refused that cannot be written, that is no file's or no descriptor at all, or whose image of two
 /// blocks is longer than its capacity.
@@ -120,29 +140,18 @@ fn refuses_numbers(rt: &HostRuntime, path: &str) -> Result<bool, Fail> {
     )
 }
 
-#[test]
-fn a_file_that_shrank_is_a_fault(rt: HostRuntime) -> Result<(), Fail> {
-    let path = "shrank.img";
-    let mut drive = created(&rt, path, 10)?;
-    let steps = [
-        Step::Capacity(10),
-        Step::Next(Ok(0)),
-        Step::Write(0, &[7, 8], Ok(())),
-        Step::Next(Ok(2)),
-        Step::Resize(path, 2048 + 2047),
-        Step::Next(Err(DriveFault)),
-        Step::Read(1, Err(DriveFault)),
-    ];
-    play_file(&rt, &mut drive, &steps)?;
-    drop(drive);
-    let mut cut = FileDrive::open(&rt, path, 10)?;
-    play_file(&rt, &mut cut, &CUT)?;
-    fs::remove_file(&rt, path)?;
-    Ok(())
-}
+const SHRANK: [Step<'static>; 7] = [
+    Step::Capacity(10),
+    Step::Next(Ok(0)),
+    Step::Write(0, &[7, 8], Ok(())),
+    Step::Next(Ok(2)),
+    Step::Resize("shrank.img", 2048 + 2047),
+    Step::Next(Err(DriveFault)),
+    Step::Read(1, Err(DriveFault)),
+];
 
 /// A drive that is opened on a file with a part of its second block begins with one block, and writes over the part.
-const CUT: [Step<'static>; 9] = [
+const CUT: [Step<'static>; 10] = [
     Step::Capacity(10),
     Step::Part(Ok(2047)),
     Step::Holds(8),
@@ -152,108 +161,112 @@ const CUT: [Step<'static>; 9] = [
     Step::Part(Ok(0)),
     Step::Read(1, Ok(())),
     Step::Holds(9),
+    Step::Remove("shrank.img"),
+];
+
+#[test]
+fn a_file_that_shrank_is_a_fault(rt: HostRuntime) -> Result<(), Fail> {
+    play_new(&rt, "shrank.img", 10, &SHRANK)?;
+    play_opened(&rt, "shrank.img", 10, &CUT)
+}
+
+/// A new image of one block that is open for reading, as if it could be written.
+fn read_only(rt: &HostRuntime, path: &str) -> Result<FileDrive, Fail> {
+    create_image(rt, path)?.set_len(2048)?;
+    Ok(FileDrive::over(File::open(rt, path)?, 10)?)
+}
+
+const READ_ONLY: [Step<'static>; 6] = [
+    Step::Capacity(10),
+    Step::Next(Ok(1)),
+    Step::Write(1, &[7, 8], Err(DriveFault)),
+    // It cannot be cut back either.
+    Step::Next(Err(DriveFault)),
+    Step::File("takes_none.img", 2048, &[]),
+    Step::Remove("takes_none.img"),
 ];
 
 #[test]
 fn a_file_that_takes_no_block_fails(rt: HostRuntime) -> Result<(), Fail> {
-    let path = "takes_none.img";
-    create_image(&rt, path)?.set_len(2048)?;
-    let mut drive = FileDrive::over(File::open(&rt, path)?, 10)?;
-    let steps = [
-        Step::Capacity(10),
-        Step::Next(Ok(1)),
-        // It is open for reading.
-        Step::Write(1, &[7, 8], Err(DriveFault)),
-        // It cannot be cut back either.
-        Step::Next(Err(DriveFault)),
-    ];
-    play_file(&rt, &mut drive, &steps)?;
-    assert!(rt; holds(&rt, path, 2048, &[])?);
-    fs::remove_file(&rt, path)?;
-    Ok(())
+    let mut drive = read_only(&rt, "takes_none.img")?;
+    play(&rt, &mut drive, &READ_ONLY)
 }
+
+const TWICE: [Step<'static>; 9] = [
+    Step::Capacity(10),
+    Step::Next(Ok(0)),
+    Step::Write(0, &[7, 8], Ok(())),
+    Step::Next(Ok(2)),
+    Step::Write(1, &[9], Err(DriveFault)),
+    Step::Next(Ok(2)),
+    Step::Read(1, Ok(())),
+    Step::Holds(8),
+    Step::Remove("twice.img"),
+];
 
 #[test]
 fn no_block_of_a_file_is_written_twice(rt: HostRuntime) -> Result<(), Fail> {
-    let path = "twice.img";
-    let mut drive = created(&rt, path, 10)?;
-    let steps = [
-        Step::Capacity(10),
-        Step::Next(Ok(0)),
-        Step::Write(0, &[7, 8], Ok(())),
-        Step::Next(Ok(2)),
-        Step::Write(1, &[9], Err(DriveFault)),
-        Step::Next(Ok(2)),
-        Step::Read(1, Ok(())),
-        Step::Holds(8),
-    ];
-    play_file(&rt, &mut drive, &steps)?;
-    fs::remove_file(&rt, path)?;
-    Ok(())
+    play_new(&rt, "twice.img", 10, &TWICE)
 }
+
+#[test]
+fn a_missing_file_is_not_opened(rt: HostRuntime) {
+    let path = "missing.img";
+    let _ = fs::remove_file(&rt, path);
+    let (open, read, file) = (
+        FileDrive::open(&rt, path, 10).is_err(),
+        FileDrive::open_to_read(&rt, path, 10).is_err(),
+        open_image(&rt, path).is_err(),
+    );
+    assert_eq!(rt; (open, read, file), (true, true, true));
+}
+
+/// One that is there is not made anew, and has no name any more once it is removed.
+const NAMELESS: [Step<'static>; 3] = [
+    Step::Next(Ok(3)),
+    Step::Remove("within.img"),
+    Step::Next(Err(DriveFault)),
+];
 
 #[test]
 fn a_file_is_opened_within_its_capacity(rt: HostRuntime) -> Result<(), Fail> {
     let path = "within.img";
-    let _ = fs::remove_file(&rt, path);
-    assert!(rt; FileDrive::open(&rt, path, 10).is_err(), "it is missing");
-    assert!(rt; FileDrive::open_to_read(&rt, path, 10).is_err());
-    assert!(rt; open_image(&rt, path).is_err());
     create_image(&rt, path)?.set_len(3 * 2048)?;
     assert_eq!(rt; refused(&rt, path, 2), (true, true, true), "it is longer");
     assert!(rt; FileDrive::open(&rt, path, 3).is_ok());
-    // One that is there is not made anew.
-    let mut drive = FileDrive::create(&rt, path, 3)?;
-    let steps = [
-        Step::Next(Ok(3)),
-        Step::Remove(path),
-        // It has no name any more.
-        Step::Next(Err(DriveFault)),
-    ];
-    play_file(&rt, &mut drive, &steps)
+    play_created(&rt, path, 3, &NAMELESS)
 }
+
+/// Of the last one no file is there.
+const NO_FILES: [&str; 4] = [".", "/dev/null", "", "nowhere.link"];
 
 #[test]
 fn what_is_no_file_is_no_image(rt: HostRuntime) -> Result<(), Fail> {
-    let link = "nowhere.link";
-    let _ = fs::remove_file(&rt, link);
-    symlink(&rt, "nowhere.img", link)?;
-    for path in [".", "/dev/null", "", link] {
+    let _ = fs::remove_file(&rt, "nowhere.link");
+    symlink(&rt, "nowhere.img", "nowhere.link")?;
+    for path in NO_FILES {
         assert_eq!(rt; refused(&rt, path, 10), (true, true, true));
     }
     assert!(rt; !fs::exists(&rt, "nowhere.img")?);
-    assert!(rt; FileDrive::over(File::open(&rt, ".")?, 10).is_err());
-    fs::remove_file(&rt, link)?;
+    fs::remove_file(&rt, "nowhere.link")?;
     Ok(())
 }
 
 #[test]
-fn a_file_has_one_writer(rt: HostRuntime) -> Result<(), Fail> {
-    let path = "one_writer.img";
-    let mut drive = created(&rt, path, 10)?;
-    let steps = [
-        Step::Capacity(10),
-        Step::Next(Ok(0)),
-        Step::Write(0, &[7], Ok(())),
-    ];
-    play_file(&rt, &mut drive, &steps)?;
-    assert_eq!(rt; refused(&rt, path, 10), (true, false, true));
-    // A reader has the blocks that were there, and no others.
-    let mut reader = FileDrive::open_to_read(&rt, path, 10)?;
-    let steps = [Step::Next(Ok(1)), Step::Write(1, &[8], Ok(()))];
-    play_file(&rt, &mut drive, &steps)?;
-    play_file(&rt, &mut reader, &READER)?;
-    drop(drive);
-    assert!(rt;
-        FileDrive::open(&rt, path, 10).is_ok(),
-        "nobody holds it any more"
-    );
-    assert!(rt; holds(&rt, path, 4096, &[(2048, 8)])?);
-    fs::remove_file(&rt, path)?;
+fn a_folder_is_no_image(rt: HostRuntime) -> Result<(), Fail> {
+    assert!(rt; FileDrive::over(File::open(&rt, ".")?, 10).is_err());
     Ok(())
 }
 
-/// A drive that was opened to be read, on a file to which a second block came then.
+const FIRST_WRITER: [Step<'static>; 3] = [
+    Step::Capacity(10),
+    Step::Next(Ok(0)),
+    Step::Write(0, &[7], Ok(())),
+];
+
+const SECOND_BLOCK: [Step<'static>; 2] = [Step::Next(Ok(1)), Step::Write(1, &[8], Ok(()))];
+
+/// A drive that was opened to be read, on a file to which a second block came then, has the blocks that were there.
 const READER: [Step<'static>; 6] = [
     Step::Capacity(10),
     Step::Next(Ok(1)),
@@ -262,3 +275,22 @@ const READER: [Step<'static>; 6] = [
     Step::Write(1, &[9], Err(DriveFault)),
     Step::Next(Ok(1)),
 ];
+
+const NOBODY_HOLDS: [Step<'static>; 2] = [
+    Step::File("one_writer.img", 4096, &[(2048, 8)]),
+    Step::Remove("one_writer.img"),
+];
+
+#[test]
+fn a_file_has_one_writer(rt: HostRuntime) -> Result<(), Fail> {
+    let path = "one_writer.img";
+    let _ = fs::remove_file(&rt, path);
+    let mut drive = FileDrive::create(&rt, path, 10)?;
+    play(&rt, &mut drive, &FIRST_WRITER)?;
+    assert_eq!(rt; refused(&rt, path, 10), (true, false, true));
+    let mut reader = FileDrive::open_to_read(&rt, path, 10)?;
+    play(&rt, &mut drive, &SECOND_BLOCK)?;
+    play(&rt, &mut reader, &READER)?;
+    drop(drive);
+    play_opened(&rt, path, 10, &NOBODY_HOLDS)
+}

@@ -1,47 +1,52 @@
 //! Media in memory and over files: images by their paths, which are taken out and put back.
 
-use crate::steps::block;
+use crate::steps::{block, holds};
 use drive::{Drive, DriveFault, Fault};
 use media::{FileMedia, Media, MemMedia};
 use std::fs;
 use std::test::Fail;
 
-/// What is reported of a medium that has no image at two paths yet.
-#[derive(Clone, Copy, Debug, PartialEq, Eq)]
-struct Told {
-    is_missing: bool,
-    counts: (u32, u32),
-    bytes: (u8, u8, u8),
-    is_too_long: bool,
-    count_after: u32,
+/// What is asked of the image at a path, each time by a drive of its own, and what is seen.
+#[derive(Clone, Copy)]
+enum Step {
+    /// How many blocks an image of this capacity has, and nothing where it is refused.
+    Count(&'static str, u32, Option<u32>),
+    /// Adds a block that begins with this byte, to an image that is made where it is missing. False: that is refused.
+    Add(&'static str, u8, bool),
+    /// The block at an address begins with this byte. The image is taken out to be written.
+    Byte(&'static str, u32, u8),
 }
 
-/// Two blocks at one path and one at another, each written by a drive of its own.
-fn two_images<M: Media>(media: &mut M, one: &str, other: &str) -> Result<Told, DriveFault> {
-    let is_missing = count(media, one, 10).is_err();
-    add(media, one, 7)?;
-    add(media, other, 9)?;
-    add(media, one, 8)?;
-    Ok(Told {
-        is_missing,
-        counts: (count(media, one, 2)?, count(media, other, 450_000)?),
-        bytes: (
-            first_byte(media, one, 0)?,
-            first_byte(media, one, 1)?,
-            first_byte(media, other, 0)?,
-        ),
-        is_too_long: count(media, one, 1).is_err(),
-        count_after: count(media, one, 10)?,
-    })
-}
+/// Two blocks in one image and one in another, of which there is none at first.
+const TWO_IMAGES: [Step; 11] = [
+    Step::Count("media_one.img", 10, None),
+    Step::Add("media_one.img", 7, true),
+    Step::Add("media_other.img", 9, true),
+    Step::Add("media_one.img", 8, true),
+    Step::Count("media_one.img", 2, Some(2)),
+    Step::Count("media_other.img", 450_000, Some(1)),
+    Step::Byte("media_one.img", 0, 7),
+    Step::Byte("media_one.img", 1, 8),
+    Step::Byte("media_other.img", 0, 9),
+    // It is too long.
+    Step::Count("media_one.img", 1, None),
+    Step::Count("media_one.img", 10, Some(2)),
+];
 
-const TOLD: Told = Told {
-    is_missing: true,
-    counts: (2, 1),
-    bytes: (7, 8, 9),
-    is_too_long: true,
-    count_after: 2,
-};
+/// The first step that does not go as it is written.
+fn failing<M: Media>(media: &mut M, steps: &[Step]) -> Option<usize> {
+    for (i, step) in steps.iter().enumerate() {
+        let goes = match *step {
+            Step::Count(path, capacity, told) => count(media, path, capacity).ok() == told,
+            Step::Add(path, byte, told) => add(media, path, byte).is_ok() == told,
+            Step::Byte(path, at, byte) => first_byte(media, path, at) == Ok(byte),
+        };
+        if !goes {
+            return Some(i);
+        }
+    }
+    None
+}
 
 /// How many blocks an image has.
 fn count<M: Media>(media: &mut M, path: &str, capacity: u32) -> Result<u32, DriveFault> {
@@ -85,10 +90,9 @@ fn read_byte<D: Drive>(drive: &mut D, at: u32) -> Result<u8, DriveFault> {
 }
 
 #[test]
-fn memory_has_images(rt: HostRuntime) -> Result<(), Fail> {
+fn memory_has_images(rt: HostRuntime) {
     let mut media = MemMedia::new(rt.alloc());
-    assert_eq!(rt; two_images(&mut media, "a", "b"), Ok(TOLD));
-    Ok(())
+    assert_eq!(rt; failing(&mut media, &TWO_IMAGES), None);
 }
 
 /// An image has one drive.
@@ -99,10 +103,16 @@ fn an_image_in_memory_is_out_once(rt: HostRuntime) -> Result<(), Fail> {
     let drive = media.open("a", 10)?;
     assert!(rt; media.open("a", 10).is_err(), "it is out");
     assert!(rt; media.create("a", 10).is_err(), "it is out");
-    let mut part = block(1);
-    assert_eq!(rt; media.part("a", &drive, &mut part), Ok(0));
+    assert_eq!(rt; media.part("a", &drive, &mut block(1)), Ok(0));
     Ok(())
 }
+
+const ONE_FAULT: [Step; 4] = [
+    Step::Add("a", 8, false),
+    Step::Count("a", 10, Some(0)),
+    Step::Add("a", 9, true),
+    Step::Byte("a", 0, 9),
+];
 
 /// A fault stays set while the image is put back.
 #[test]
@@ -111,10 +121,7 @@ fn an_image_in_memory_keeps_its_fault(rt: HostRuntime) -> Result<(), Fail> {
     let mut drive = media.create("a", 10)?;
     drive.arm(Fault::AfterBlocks(0));
     media.put_back("a", drive);
-    assert!(rt; add(&mut media, "a", 8).is_err(), "the fault is set");
-    assert_eq!(rt; count(&mut media, "a", 10), Ok(0));
-    add(&mut media, "a", 9)?;
-    assert_eq!(rt; first_byte(&mut media, "a", 0), Ok(9));
+    assert_eq!(rt; failing(&mut media, &ONE_FAULT), None);
     Ok(())
 }
 
@@ -132,18 +139,13 @@ fn an_image_in_memory_is_in_order(rt: HostRuntime) -> Result<(), Fail> {
 
 #[test]
 fn files_are_images(rt: HostRuntime) -> Result<(), Fail> {
-    let paths = ["media_one.img", "media_other.img"];
-    for path in paths {
-        let _ = fs::remove_file(&rt, path);
-    }
-    let mut media = FileMedia::over(&rt);
-    assert_eq!(rt; two_images(&mut media, paths[0], paths[1]), Ok(TOLD));
-    let found = fs::read(&rt, paths[0])?;
-    assert_eq!(rt; found.len(), 4096);
-    assert_eq!(rt; (found[0], found[2048]), (7, 8));
-    for path in paths {
-        fs::remove_file(&rt, path)?;
-    }
+    let _ = fs::remove_file(&rt, "media_one.img");
+    let _ = fs::remove_file(&rt, "media_other.img");
+    let mut media = FileMedia::new(&rt);
+    assert_eq!(rt; failing(&mut media, &TWO_IMAGES), None);
+    assert!(rt; holds(&rt, "media_one.img", 4096, &[(0, 7), (2048, 8)])?);
+    fs::remove_file(&rt, "media_one.img")?;
+    fs::remove_file(&rt, "media_other.img")?;
     Ok(())
 }
 
@@ -152,13 +154,17 @@ fn files_are_images(rt: HostRuntime) -> Result<(), Fail> {
 fn a_part_of_a_block_is_shown(rt: HostRuntime) -> Result<(), Fail> {
     let path = "media_part.img";
     fs::write(&rt, path, [5; 2051])?;
-    let mut media = FileMedia::over(&rt);
+    let mut media = FileMedia::new(&rt);
     let drive = media.open(path, 10)?;
     let mut part = block(0);
-    assert_eq!(rt; media.part(path, &drive, &mut part), Ok(3));
-    assert_eq!(rt; (part[0], part[2], part[3]), (5, 5, 0));
+    let count = media.part(path, &drive, &mut part);
     media.put_back(path, drive);
-    assert_eq!(rt; count(&mut media, path, 10), Ok(1));
+    assert_eq!(rt; count, Ok(3));
+    assert_eq!(rt; (part[0], part[2], part[3]), (5, 5, 0));
+    assert_eq!(rt;
+        failing(&mut media, &[Step::Count(path, 10, Some(1))]),
+        None
+    );
     fs::remove_file(&rt, path)?;
     Ok(())
 }

@@ -2,7 +2,9 @@
 //! any cut, and the answers.
 
 use request::{Code, Frames, Message, PathFault, Query, read_payload};
-use std::test::*;
+use std::alloc::Global;
+use std::process::Abort;
+use std::test::Fail;
 
 /// Client 7 number 1 creates `/a` with `hello`.
 pub(crate) const CREATE: [u8; 42] = [
@@ -13,43 +15,39 @@ pub(crate) const CREATE: [u8; 42] = [
 /// A length that no payload has.
 pub(crate) const OVERLONG: [u8; 4] = [0, 0, 0, 0x80];
 
+/// The number of the cause for which a message is refused, and 0 for a query.
 fn cause_of(message: &Message<'_>) -> Option<u16> {
     match message {
         Message::Malformed(cause) => Some(cause.number()),
+        Message::Query(_) => Some(0),
         _ => None,
     }
 }
 
-/// What is answered to a kind with no field after it.
-fn cause_of_kind(kind: u8) -> u16 {
-    match kind {
-        1..=5 | 16..=18 => 53,
+/// The same of a kind with no field after it, or with the first byte of one.
+fn cause_wanted(payload: &[u8]) -> u16 {
+    match payload {
+        [16..=18, 0] => 0,
+        [1..=5 | 16..=18, ..] => 53,
         _ => 52,
     }
+}
+
+fn check_payload(rt: &impl Abort, alloc: Global, payload: &[u8]) {
+    let message = read_payload(alloc, payload);
+    assert_eq!(rt;
+        cause_of(&message),
+        Some(cause_wanted(payload)),
+        "{payload:?}"
+    );
 }
 
 #[test]
 fn payloads_of_one_and_two_bytes(rt: HostRuntime) {
     for kind in 0..=255u8 {
-        let payload = [kind];
-        let message = read_payload(rt.alloc(), &payload);
-        assert_eq!(rt;
-            cause_of(&message),
-            Some(cause_of_kind(kind)),
-            "kind {kind}"
-        );
+        check_payload(&rt, rt.alloc(), &[kind]);
         for count in 0..=255u8 {
-            let payload = [kind, count];
-            let message = read_payload(rt.alloc(), &payload);
-            if count == 0 && (16..=18).contains(&kind) {
-                assert!(rt; matches!(message, Message::Query(_)), "kind {kind}");
-            } else {
-                assert_eq!(rt;
-                    cause_of(&message),
-                    Some(cause_of_kind(kind)),
-                    "kind {kind}, {count}"
-                );
-            }
+            check_payload(&rt, rt.alloc(), &[kind, count]);
         }
     }
 }
@@ -67,8 +65,7 @@ fn a_message_is_held_until_it_is_let_go(rt: HostRuntime) -> Result<(), Fail> {
     frames.feed(&[2, 0, 0])?;
     frames.skip();
     frames.feed(&[0, 0x11, 0])?;
-    assert!(rt; first_is_list(&frames));
-    assert!(rt; first_is_list(&frames));
+    assert!(rt; first_is_list(&frames) && first_is_list(&frames));
     frames.skip();
     assert!(rt; frames.first().is_none());
     Ok(())

@@ -5,7 +5,8 @@ use request::{FeedFault, Frames};
 use std::alloc::{AllocError, Global};
 use std::io;
 use std::io::{Error, ErrorKind, Read};
-use std::test::*;
+use std::process::Abort;
+use std::test::Fail;
 
 /// What a reader does when it is asked next.
 #[derive(Clone, Copy)]
@@ -66,149 +67,195 @@ fn long_create(alloc: Global, count: u16) -> Result<Vec<u8>, AllocError> {
     Ok(frame)
 }
 
+/// A create, a query and a payload that is refused.
+const THREE: [&[u8]; 3] = [&CREATE, &[2, 0, 0, 0, 0x11, 0], &[1, 0, 0, 0, 9]];
+
+fn put_all(bytes: &mut Vec<u8>, pieces: &[&[u8]]) -> Result<(), AllocError> {
+    for piece in pieces {
+        bytes.extend_from_slice(piece)?;
+    }
+    Ok(())
+}
+
 /// Creates, queries and payloads that are refused, a file that is longer than a piece, and at last half a frame.
 fn stream(alloc: Global) -> Result<Vec<u8>, AllocError> {
+    let (half, _) = CREATE.as_slice().split_at(20);
     let mut bytes = Vec::new(alloc);
     for _ in 0..3u8 {
-        bytes.extend_from_slice(&CREATE)?;
-        bytes.extend_from_slice(&[2, 0, 0, 0, 0x11, 0])?;
-        bytes.extend_from_slice(&[1, 0, 0, 0, 9])?;
+        put_all(&mut bytes, &THREE)?;
     }
     bytes.extend_from_slice(&long_create(alloc, 65_530)?)?;
-    bytes.extend_from_slice(&CREATE)?;
-    bytes.extend_from_slice(&[0, 0, 0, 0])?;
-    let (half, _) = CREATE.as_slice().split_at(20);
+    put_all(&mut bytes, &[&CREATE, &[0, 0, 0, 0]])?;
     bytes.extend_from_slice(half)?;
     Ok(bytes)
 }
 
-/// Adds what the messages that are whole say, in words.
-fn tell(alloc: Global, frames: &mut Frames, told: &mut Vec<String>) -> Result<(), AllocError> {
-    for _ in 0..u32::MAX {
-        let Some(message) = frames.first() else {
-            break;
-        };
-        let words = format!(in alloc; "{message:?}")?;
-        drop(message);
-        frames.skip();
-        told.push(words)?;
+/// A reader of frames, and what the messages said that were whole, in words.
+#[derive(Drop)]
+struct Listener {
+    alloc: Global,
+    frames: Frames,
+    told: Vec<String>,
+}
+
+impl Listener {
+    fn new(alloc: Global) -> Listener {
+        Listener {
+            alloc,
+            frames: Frames::new(alloc),
+            told: Vec::new(alloc),
+        }
     }
-    Ok(())
+
+    /// Takes the messages that are whole.
+    fn take(&mut self) -> Result<(), AllocError> {
+        for _ in 0..u32::MAX {
+            let Some(message) = self.frames.first() else {
+                break;
+            };
+            let words = format!(in self.alloc; "{message:?}")?;
+            drop(message);
+            self.frames.skip();
+            self.told.push(words)?;
+        }
+        Ok(())
+    }
+
+    /// Takes bytes in one piece.
+    fn feed(&mut self, bytes: &[u8]) -> Result<(), AllocError> {
+        self.frames.feed(bytes)?;
+        self.take()
+    }
+
+    /// Reads bytes to their end, of which the reader gives `size` and is asked for `most` at once, and counts them.
+    fn read(&mut self, bytes: &[u8], size: usize, most: usize) -> Result<usize, Fail> {
+        let mut reader = reader_of(bytes, size);
+        let mut sum = 0usize;
+        for _ in 0..u32::MAX {
+            match self.frames.read_from(&mut reader, most.max(1)) {
+                Ok(0) => break,
+                Ok(count) => sum = sum.wrapping_add(count),
+                Err(_) => return Err(Fail::from("a read")),
+            }
+            self.take()?;
+        }
+        Ok(sum)
+    }
 }
 
 /// What the messages of bytes say that are fed in one piece.
 fn told_of(alloc: Global, bytes: &[u8]) -> Result<Vec<String>, AllocError> {
-    let mut told = Vec::new(alloc);
-    let mut frames = Frames::new(alloc);
-    frames.feed(bytes)?;
-    tell(alloc, &mut frames, &mut told)?;
-    Ok(told)
+    let mut listener = Listener::new(alloc);
+    listener.feed(bytes)?;
+    Ok(listener.told)
 }
 
-/// Reads at most so many bytes at once to the end of the stream, and counts them.
-fn read_all(
+/// Whether so many messages are told, and the same, where bytes are read to their end in pieces of `size` and `most`.
+fn is_told(
     alloc: Global,
-    reader: &mut Halting<'_>,
-    frames: &mut Frames,
+    bytes: &[u8],
+    wanted: &[String],
+    size: usize,
     most: usize,
-    told: &mut Vec<String>,
-) -> Result<usize, Fail> {
-    let mut sum = 0usize;
-    for _ in 0..u32::MAX {
-        match frames.read_from(reader, most.max(1)) {
-            Ok(0) => break,
-            Ok(count) => sum = sum.wrapping_add(count),
-            Err(_) => return Err(Fail::from("a read")),
-        }
-        tell(alloc, frames, told)?;
-    }
-    Ok(sum)
+) -> Result<bool, Fail> {
+    let mut listener = Listener::new(alloc);
+    let count = listener.read(bytes, size, most)?;
+    Ok(count == bytes.len() && listener.told.as_slice() == wanted)
 }
 
 #[test]
 fn a_stream_in_pieces_has_the_messages_that_are_fed(rt: HostRuntime) -> Result<(), Fail> {
-    let alloc = rt.alloc();
-    let bytes = stream(alloc)?;
-    let wanted = told_of(alloc, &bytes)?;
+    let bytes = stream(rt.alloc())?;
+    let wanted = told_of(rt.alloc(), &bytes)?;
     assert_eq!(rt; wanted.len(), 12);
     for most in [1, 7, 65_536] {
         for size in [1, 5, 1_000, 100_000] {
-            let mut reader = reader_of(&bytes, size);
-            let mut frames = Frames::new(alloc);
-            let mut told = Vec::new(alloc);
-            let count = read_all(alloc, &mut reader, &mut frames, most, &mut told)?;
-            assert_eq!(rt; count, bytes.len(), "{most} of {size}");
-            assert!(rt; told == wanted, "{most} of {size}");
+            assert!(rt;
+                is_told(rt.alloc(), &bytes, &wanted, size, most)?,
+                "{most} of {size}"
+            );
         }
     }
     Ok(())
 }
 
+/// What the messages say where the bytes up to a cut are read, then half of the others fed, and the rest read.
+fn told_in_parts(alloc: Global, bytes: &[u8], cut: usize) -> Result<Vec<String>, Fail> {
+    let (front, back) = bytes.split_at(cut.min(bytes.len()));
+    let (middle, last) = back.split_at(back.len() / 2);
+    let mut listener = Listener::new(alloc);
+    listener.read(front, 50, 64)?;
+    listener.feed(middle)?;
+    listener.read(last, 50, 64)?;
+    Ok(listener.told)
+}
+
 #[test]
 fn what_is_fed_and_what_is_read_are_one_stream(rt: HostRuntime) -> Result<(), Fail> {
-    let alloc = rt.alloc();
-    let bytes = stream(alloc)?;
-    let wanted = told_of(alloc, &bytes)?;
+    let bytes = stream(rt.alloc())?;
+    let wanted = told_of(rt.alloc(), &bytes)?;
     for cut in [1, 60, 300, 66_000] {
-        let (front, back) = bytes.as_slice().split_at(cut.min(bytes.len()));
-        let (_, last) = back.split_at(back.len() / 2);
-        let mut frames = Frames::new(alloc);
-        let mut told = Vec::new(alloc);
-        let mut reader = reader_of(front, 50);
-        read_all(alloc, &mut reader, &mut frames, 64, &mut told)?;
-        let (middle, _) = back.split_at(back.len() / 2);
-        frames.feed(middle)?;
-        tell(alloc, &mut frames, &mut told)?;
-        let mut reader = reader_of(last, 50);
-        read_all(alloc, &mut reader, &mut frames, 64, &mut told)?;
-        assert!(rt; told == wanted, "cut at {cut}");
+        assert!(rt;
+            told_in_parts(rt.alloc(), &bytes, cut)? == wanted,
+            "cut at {cut}"
+        );
     }
     Ok(())
+}
+
+/// What a reader does, how many bytes it is asked for, and what is reported.
+type Asked = (Turn, usize, Result<usize, FeedFault>);
+
+/// Reads of 30 bytes of a create, which are no message yet.
+const BEGUN: [Asked; 3] = [
+    (Turn::Gives, 64, Ok(30)),
+    (Turn::Fails, 64, Err(FeedFault::Read)),
+    (Turn::Interrupted, 64, Ok(0)),
+];
+
+/// Reads of the 12 others. No memory holds as many as are asked for first, and none is read.
+const ENDED: [Asked; 2] = [
+    (Turn::Gives, usize::MAX, Err(FeedFault::Memory)),
+    (Turn::Gives, 64, Ok(12)),
+];
+
+fn check_reads(rt: &impl Abort, frames: &mut Frames, bytes: &[u8], asked: &[Asked]) {
+    let mut reader = reader_of(bytes, 100);
+    for (turn, most, told) in asked {
+        reader.turn = *turn;
+        assert_eq!(rt; frames.read_from(&mut reader, (*most).max(1)), *told);
+    }
 }
 
 #[test]
 fn a_read_that_fails_takes_nothing(rt: HostRuntime) -> Result<(), Fail> {
-    let alloc = rt.alloc();
     let (front, back) = CREATE.as_slice().split_at(30);
-    let mut frames = Frames::new(alloc);
-    let mut reader = reader_of(front, 100);
-    assert_eq!(rt; frames.read_from(&mut reader, 64), Ok(30));
-    reader.turn = Turn::Fails;
-    assert_eq!(rt; frames.read_from(&mut reader, 64), Err(FeedFault::Read));
-    reader.turn = Turn::Interrupted;
-    assert_eq!(rt; frames.read_from(&mut reader, 64), Ok(0));
-    assert!(rt; frames.first().is_none());
-    reader = reader_of(back, 100);
-    // No memory holds so many bytes, and none is read.
-    let told = frames.read_from(&mut reader, usize::MAX);
-    assert_eq!(rt; told, Err(FeedFault::Memory));
-    assert_eq!(rt; reader.bytes.len(), 12);
-    assert_eq!(rt; frames.read_from(&mut reader, 64), Ok(12));
-    let wanted = told_of(alloc, &CREATE)?;
-    let mut found = Vec::new(alloc);
-    tell(alloc, &mut frames, &mut found)?;
-    assert_eq!(rt; found.len(), 1);
-    assert!(rt; found == wanted);
-    assert!(rt; frames.first().is_none());
+    let mut listener = Listener::new(rt.alloc());
+    check_reads(&rt, &mut listener.frames, front, &BEGUN);
+    assert!(rt; listener.frames.first().is_none());
+    check_reads(&rt, &mut listener.frames, back, &ENDED);
+    listener.take()?;
+    assert_eq!(rt; listener.told.len(), 1);
+    assert!(rt; listener.told == told_of(rt.alloc(), &CREATE)?);
+    assert!(rt; listener.frames.first().is_none());
     Ok(())
+}
+
+/// A frame that is too long after a create, and fifty creates after it.
+fn overlong(alloc: Global) -> Result<Vec<u8>, AllocError> {
+    let mut bytes = Vec::new(alloc);
+    put_all(&mut bytes, &[&CREATE, &OVERLONG])?;
+    put_all(&mut bytes, &[CREATE.as_slice(); 50])?;
+    Ok(bytes)
 }
 
 #[test]
 fn nothing_after_a_frame_that_is_too_long(rt: HostRuntime) -> Result<(), Fail> {
-    let alloc = rt.alloc();
-    let mut bytes = Vec::from_slice(alloc, &CREATE)?;
-    bytes.extend_from_slice(&OVERLONG)?;
-    for _ in 0..50u8 {
-        bytes.extend_from_slice(&CREATE)?;
-    }
-    let wanted = told_of(alloc, &bytes)?;
+    let bytes = overlong(rt.alloc())?;
+    let wanted = told_of(rt.alloc(), &bytes)?;
     assert_eq!(rt; wanted.len(), 2);
-    let mut reader = reader_of(&bytes, 9);
-    let mut frames = Frames::new(alloc);
-    let mut told = Vec::new(alloc);
-    let count = read_all(alloc, &mut reader, &mut frames, 10, &mut told)?;
-    assert_eq!(rt; count, bytes.len());
-    assert!(rt; told == wanted);
-    assert!(rt; frames.is_over());
+    let mut listener = Listener::new(rt.alloc());
+    assert_eq!(rt; listener.read(&bytes, 9, 10)?, bytes.len());
+    assert!(rt; listener.told == wanted && listener.frames.is_over());
     Ok(())
 }

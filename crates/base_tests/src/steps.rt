@@ -3,7 +3,6 @@
 
 ghost use Rattle.std.specs.Prelude.{◌≡◌, ◌≤◌, IfOk};
 ghost use Rattle.drive.specs.Journal.{next_of};
-ghost use Rattle.drive.specs.MemDrive.{journal_of};
 
 use drive::{Block, Drive, DriveFault, Fault, FileDrive, Look, MemDrive, PACKET, open_image};
 use std::alloc::{AllocError, Global};
@@ -26,6 +25,8 @@ pub(crate) enum Step<'a> {
     Holds(u8),
     /// How many bytes a file has after its last whole block, which are read.
     Part(Result<usize, DriveFault>),
+    /// The file at a path has this size, and these bytes at their places.
+    File(&'a str, usize, &'a [(usize, u8)]),
     /// Gives the file at a path so many bytes, beside its drive.
     Resize(&'a str, u64),
     /// Removes the file at a path, beside its drive.
@@ -44,6 +45,76 @@ pub(crate) enum Step<'a> {
 #[derive(Clone, Copy, Debug)]
 struct NotSo {
     step: usize,
+}
+
+/// A drive that has steps of its own.
+pub(crate) trait Steps: Drive {
+    /// Whether such a step went so.
+    fn own_step(
+        &mut self,
+        rt: &HostRuntime,
+        into: &mut Block,
+        step: &Step<'_>,
+    ) -> Result<bool, Fail>
+        ensures { Self.journal self.new ≡ Self.journal self.old };
+}
+
+impl Steps for MemDrive {
+    fn own_step(
+        &mut self,
+        _rt: &HostRuntime,
+        _into: &mut Block,
+        step: &Step<'_>,
+    ) -> Result<bool, Fail> {
+        match *step {
+            Step::Arm(fault) => {
+                self.arm(fault);
+                Ok(true)
+            }
+            Step::Written(count) => Ok(self.journal().len() == count),
+            Step::Event(index, at, first) => match self.journal().get(index) {
+                Some(event) => Ok(event.0 == at && event.1[0] == first),
+                None => Ok(false),
+            },
+            Step::Failures(count) => Ok(self.failures() == count),
+            _ => Err(Fail::from("no step in memory")),
+        }
+    }
+}
+
+impl Steps for FileDrive {
+    fn own_step(
+        &mut self,
+        rt: &HostRuntime,
+        into: &mut Block,
+        step: &Step<'_>,
+    ) -> Result<bool, Fail> {
+        match *step {
+            Step::Part(told) => Ok(self.part(into, &mut Look::new(&[])) == told),
+            Step::File(path, size, bytes) => holds(rt, path, size, bytes),
+            Step::Resize(path, size) => {
+                open_image(rt, path)?.set_len(size)?;
+                Ok(true)
+            }
+            Step::Remove(path) => {
+                fs::remove_file(rt, path)?;
+                Ok(true)
+            }
+            _ => Err(Fail::from("no step on a file")),
+        }
+    }
+}
+
+/// Whether a file has this size, and these bytes at their places.
+pub(crate) fn holds(
+    rt: &HostRuntime,
+    path: &str,
+    size: usize,
+    bytes: &[(usize, u8)],
+) -> Result<bool, Fail> {
+    let found = fs::read(rt, path)?;
+    let found = found.as_slice();
+    Ok(found.len() == size && bytes.iter().all(|(at, byte)| found.get(*at) == Some(byte)))
 }
 
 /// A block that begins with this byte.
@@ -120,8 +191,8 @@ fn read<D: Drive>(
 }
 
 /// A step on any drive: whether it went so, and how far the next address is known after it.
-fn step_on<D: Drive>(
-    alloc: Global,
+fn step_on<D: Steps>(
+    rt: &HostRuntime,
     drive: &mut D,
     next: u32,
     into: &mut Block,
@@ -136,92 +207,30 @@ fn step_on<D: Drive>(
             Ok(found) => Ok((told == Ok(found), found)),
             Err(fault) => Ok((told == Err(fault), next)),
         },
-        Step::Write(at, firsts, told) => Ok((write(alloc, drive, next, at, firsts)? == told, 0)),
+        Step::Write(at, firsts, told) => Ok((
+            write(rt.alloc(), drive, next, at, firsts)? == told,
+            0,
+        )),
         Step::Run(at, firsts, seconds, told) => {
-            let found = write_run(alloc, drive, next, at, firsts, seconds)?;
+            let found = write_run(rt.alloc(), drive, next, at, firsts, seconds)?;
             Ok((found == told, 0))
         }
         Step::Read(at, told) => Ok((read(drive, next, at, into)? == told, next)),
         Step::Holds(first) => Ok((into[0] == first, next)),
-        _ => Err(Fail::from("no step of this drive")),
+        _ => Ok((drive.own_step(rt, into, step)?, next)),
     }
 }
 
-/// A step on a drive in memory, as `step_on`.
-fn step_in_memory(
-    alloc: Global,
-    drive: &mut MemDrive,
-    next: u32,
-    into: &mut Block,
-    step: &Step<'_>,
-) -> Result<(bool, u32), Fail>
-    requires { next ≤ next_of (journal_of drive.old) }
-    ensures { IfOk result (λ known. known.1 ≤ next_of (journal_of drive.new)) }
-{
-    match *step {
-        Step::Arm(fault) => {
-            drive.arm(fault);
-            Ok((true, next))
-        }
-        Step::Written(count) => Ok((drive.journal().len() == count, next)),
-        Step::Event(index, at, first) => match drive.journal().get(index) {
-            Some(event) => Ok((event.0 == at && event.1[0] == first, next)),
-            None => Ok((false, next)),
-        },
-        Step::Failures(count) => Ok((drive.failures() == count, next)),
-        _ => step_on(alloc, drive, next, into, step),
-    }
-}
-
-/// Plays the steps on a drive in memory.
-pub(crate) fn play(alloc: Global, drive: &mut MemDrive, steps: &[Step<'_>]) -> Result<(), Fail> {
-    let mut next = 0;
-    let mut into = block(0);
-    for (i, step) in steps.iter().enumerate() {
-        let (holds, known) = step_in_memory(alloc, drive, next, &mut into, step)?;
-        if !holds {
-            return Err(Fail::from(NotSo { step: i }));
-        }
-        next = known;
-    }
-    Ok(())
-}
-
-/// A step on a drive over a file, as `step_on`.
-fn step_on_file(
+/// Plays the steps on a drive.
+pub(crate) fn play<D: Steps>(
     rt: &HostRuntime,
-    drive: &mut FileDrive,
-    next: u32,
-    into: &mut Block,
-    step: &Step<'_>,
-) -> Result<(bool, u32), Fail>
-    requires { next ≤ next_of drive.old.contents.journal }
-    ensures { IfOk result (λ known. known.1 ≤ next_of drive.new.contents.journal) }
-{
-    match *step {
-        Step::Part(told) => Ok((drive.part(into, &mut Look::new(&[])) == told, next)),
-        Step::Resize(path, size) => {
-            open_image(rt, path)?.set_len(size)?;
-            Ok((true, next))
-        }
-        Step::Remove(path) => {
-            fs::remove_file(rt, path)?;
-            Ok((true, next))
-        }
-        _ => step_on(rt.alloc(), drive, next, into, step),
-    }
-}
-
-/// Plays the steps on a drive over a file.
-pub(crate) fn play_file(
-    rt: &HostRuntime,
-    drive: &mut FileDrive,
+    drive: &mut D,
     steps: &[Step<'_>],
 ) -> Result<(), Fail> {
     let mut next = 0;
     let mut into = block(0);
     for (i, step) in steps.iter().enumerate() {
-        let (holds, known) = step_on_file(rt, drive, next, &mut into, step)?;
+        let (holds, known) = step_on(rt, drive, next, &mut into, step)?;
         if !holds {
             return Err(Fail::from(NotSo { step: i }));
         }

@@ -1,5 +1,0 @@
-use Rattle.std.proofs.Common.{[]}
-use Rattle.base_tests.proofs.images.a_part_of_a_block_is_shown.Given as goal
-
-abbrev pub ghost-over : goal.ghost-over
-ghost-over g a = []

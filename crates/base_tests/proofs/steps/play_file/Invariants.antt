@@ -1,6 +1,0 @@
-use Rattle.std.proofs.Common.{◌≤◌}
-use Rattle.drive.specs.Journal.{next_of}
-use Rattle.base_tests.proofs.steps.play_file.Given as goal
-
-abbrev pub invariant-loop-i : goal.invariant-loop-i
-invariant-loop-i l = l.next ≤ next_of l.drive.contents.journal
