@@ -1,13 +1,15 @@
 -- Whether bytes begin a block of a format that was made in memory.
-use Rattle.std.proofs.Common.{◌≡◌, ℕ, zero, suc, ◌<◌, ◌≤◌, List, [], ◌∷◌, ◌++◌, length, drop, Bool, true, false, Result, Ok, Err, Option, Some, inl, inr, sym, ap, subst, ◌∙◌, arith, ◌==◌}
+use Rattle.std.proofs.Common.{◌≡◌, ℕ, zero, suc, ◌<◌, ◌≤◌, List, [], ◌∷◌, ◌++◌, length, drop, Bool, true, false, Result, Ok, Err, Option, Some, inl, inr, refl, sym, ap, subst, ◌∙◌, arith, ◌==◌}
 use Rattle.std.specs.Prelude.{slice_index_or, IfErr, OnOk}
 use Rattle.std.specs.List.{starts_with}
 use Rattle.std.proofs.lemmas.Bool.Decides.{Decides-eqb}
 use Rattle.std.proofs.lemmas.Bool.{true≢false}
 use Rattle.std.proofs.lemmas.Slice.Eq.{starts_is}
 use Rattle.drive.specs.Journal.{Event, written, next_of}
+use Rattle.drive.specs.Reads.{CountsFailures}
 use Rattle.drive.proofs.Journals.{length-written}
 use Rattle.formatting.specs.NewVolume.{words_on, IsFormatOf, IsFormatted}
+use Rattle.recover.specs.Faults.{device_failures, devices}
 use Rattle.recover.specs.declared.fault.StoreFault.{StoreFault}
 use Rattle.formatting.specs.Beginning.{Begins, BeginsNot, IsBegun, IsNoPart, IsPartBegun, IsPartUnbegun, IsUnbegun}
 
@@ -57,6 +59,18 @@ pub begun_part : {T : Type 0} (outcome : Result T StoreFault) (room capacity mom
 begun_part (Ok x) room capacity moment at label part journal size next h =
     inr (subst (λ (n : ℕ). Begins (words_on capacity label moment) n part) next (subst (λ (n : ℕ). Begins (words_on n label moment) at part) size h))
 begun_part (Err fault) room capacity moment at label part journal size next h = tt
+
+-- bytes are not refused for a failure of the drive, so none is counted
+no_failure : {T : Type 0} (outcome : Result T StoreFault) (capacity moment at : ℕ) (label part : List ℕ) → IfErr outcome (IsNoPart capacity label moment at part) → devices outcome ≡ 0
+no_failure (Ok x) capacity moment at label part h = refl
+no_failure (Err fault) capacity moment at label part (inl h) = ap device_failures h.0
+no_failure (Err fault) capacity moment at label part (inr (inl h)) = ap device_failures h.0
+no_failure (Err fault) capacity moment at label part (inr (inr (inl h))) = ap device_failures h.0
+no_failure (Err fault) capacity moment at label part (inr (inr (inr h))) = ap device_failures h
+
+pub counts_part : {T : Type 0} (outcome : Result T StoreFault) (capacity moment at before now : ℕ) (label part : List ℕ) → now ≡ before
+    → IfErr outcome (IsNoPart capacity label moment at part) → CountsFailures (devices outcome) before now
+counts_part outcome capacity moment at before now label part same h few = omega (arith, same, no_failure outcome capacity moment at label part h)
 
 -- the same of what a look found, and of its count of bytes
 pub unbegun_look : {T : Type 0} (outcome : Result T StoreFault) (capacity moment : ℕ) (label part : List ℕ) (journal : List Event) (look : Option (List ℕ)) → look ≡ Some part → length part < 2048

@@ -2,8 +2,10 @@
 
 ghost use Rattle.limits.specs.declared.TheConstants.{MOMENT_LIMIT};
 ghost use Rattle.std.specs.Prelude.{◌≡◌, ◌<◌, IfErr, OnOk};
+ghost use Rattle.drive.specs.Reads.{CountsFailures};
 ghost use Rattle.formatting.specs.NewVolume.{words_on};
 ghost use Rattle.formatting.specs.Beginning.{Begins, IsNoPart, IsPartBegun, IsPartUnbegun};
+ghost use Rattle.recover.specs.Faults.{devices};
 
 use crate::formatting::format;
 use drive::{Drive, MemDrive};
@@ -24,6 +26,8 @@ pub fn require_beginning<D: Drive>(
     ensures writes { D.writes drive.new ≡ D.writes drive.old }
     ensures capacity { D.capacity drive.new ≡ D.capacity drive.old }
     ensures honest { D.honest drive.new ≡ D.honest drive.old }
+    // A failure of the drive is reported only where the drive has failed.
+    ensures failures { CountsFailures (devices result) (D.failures drive.old) (D.failures drive.new) }
     ensures begun { OnOk result (IsPartBegun (D.capacity drive.old) label.now moment (D.journal drive.old) part.now) }
     ensures refused { IfErr result (IsPartUnbegun (D.capacity drive.old) label.now moment (D.journal drive.old) part.now) }
 {
