@@ -1,22 +1,16 @@
-//! What the layers take, beside plain work on the same bytes.
+//! What frames and codecs take, beside plain work on the same bytes.
 //!
 //! The words are names of benches, each with a count after it, as `crc 4 dir 2`; each bench says what it counts. What was
-//! done is printed, which is the same in each run. With `--times` as the first word, the time it took follows: processor
-//! time in microseconds, or memory. `drive` and `memory` write an image in the folder where the program runs, and remove it.
+//! done is printed, which is the same in each run. With `--times` as the first word, the processor time it took follows, in
+//! microseconds.
 #![tactic(auto)]
 
 mod bytes;
 mod checks;
-mod commits;
-mod drives;
-mod histories;
 mod layouts;
-mod peaks;
 mod report;
-mod requests;
 mod streams;
 mod tables;
-mod volumes;
 
 use report::Report;
 use std::process::ExitCode;
@@ -27,13 +21,9 @@ use std::{env, io};
 fn run(rt: &HostRuntime, report: Report, name: &str, count: u32) -> io::Result<bool> {
     match name {
         "crc" => checks::measure(rt, report, count)?,
-        "drive" => drives::measure(rt, report, count)?,
         "dir" => layouts::measure(rt, report, count)?,
         "vat" => tables::measure(rt, report, count)?,
         "request" => streams::measure(rt, report, count)?,
-        "commit" => commits::measure(rt, report, count)?,
-        "history" => histories::measure(rt, report, count)?,
-        "memory" => peaks::measure(rt, report, count)?,
         _ => return Ok(false),
     }
     Ok(true)
