@@ -7,34 +7,34 @@ use indexmap::IndexMap;
 use limits::DIRECTORY_NAMES;
 use osta::Name;
 use std::alloc::Global;
+use std::fmt::Write;
 use std::io;
 
 /// Where the directory's data begins.
 const FIRST: u32 = 6;
 
+/// A name of so many letters at least, which ends in a number.
+fn name_of(alloc: Global, number: u32, letters: usize) -> io::Result<Name> {
+    let mut text = String::new(alloc);
+    for _ in 3..letters {
+        text.push('x')?;
+    }
+    write!(text, "{number:03}")?;
+    Name::read(alloc, text.as_str()).map_err(|_| wrong())
+}
+
 /// A directory of 512 files, whose names have so many letters at least.
 fn many(alloc: Global, letters: usize) -> io::Result<Dir> {
-    let mut dir = Dir {
-        parent: 1,
-        entries: IndexMap::new(alloc),
-    };
+    let mut entries = IndexMap::new(alloc);
     for number in 0..512u32 {
-        let mut text = String::new(alloc);
-        for _ in 3..letters {
-            text.push('x')?;
-        }
-        let digits = format!(in alloc; "{number:03}")?;
-        text.push_str(digits.as_str())?;
         let entry = Entry {
             kind: Kind::File,
             virtual_address: number,
             unique: number,
         };
-        if let Ok(name) = Name::read(alloc, text.as_str()) {
-            dir.entries.insert(name, entry)?;
-        }
+        entries.insert(name_of(alloc, number, letters)?, entry)?;
     }
-    Ok(dir)
+    Ok(Dir { parent: 1, entries })
 }
 
 /// How many blocks are laid in all.
@@ -73,6 +73,47 @@ fn read_often(alloc: Global, blocks: &[Block], size: u32, rounds: u32) -> io::Re
     Ok(count)
 }
 
+/// How much was done, and the processor time that it took.
+#[derive(Clone, Copy)]
+struct Timed {
+    count: usize,
+    taken: u128,
+}
+
+impl Timed {
+    /// What began at this time has ended.
+    fn since(rt: &HostRuntime, start: u128, count: usize) -> Timed {
+        Timed {
+            count,
+            taken: since(rt, start),
+        }
+    }
+}
+
+/// Copies and reads the blocks of such a directory, which were laid before, and whose data has so many bytes.
+fn of_blocks(
+    rt: &HostRuntime,
+    report: Report,
+    blocks: &[Block],
+    laid: Timed,
+    size: u32,
+    rounds: u32,
+) -> io::Result<()> {
+    let start = used(rt);
+    let copied = copy_often(rt.alloc(), blocks, rounds)?;
+    let copied = Timed::since(rt, start, copied);
+    let start = used(rt);
+    let read = read_often(rt.alloc(), blocks, size, rounds)?;
+    let read = Timed::since(rt, start, read);
+    print!(rt;
+        "{size} bytes x{rounds}: {} blocks laid, {} copied",
+        laid.count, copied.count
+    )?;
+    report.took_beside(rt, laid.taken, copied.taken)?;
+    print!(rt; "{size} bytes x{rounds}: {} names read", read.count)?;
+    report.took_beside(rt, read.taken, copied.taken)
+}
+
 /// Lays, copies and reads such a directory, whose data has so many bytes.
 fn of_letters(
     rt: &HostRuntime,
@@ -81,25 +122,15 @@ fn of_letters(
     size: u32,
     rounds: u32,
 ) -> io::Result<()> {
-    let alloc = rt.alloc();
-    let dir = many(alloc, letters)?;
+    let dir = many(rt.alloc(), letters)?;
     let start = used(rt);
-    let laid = lay_often(alloc, &dir, rounds)?;
-    let lay_time = since(rt, start);
+    let laid = lay_often(rt.alloc(), &dir, rounds)?;
+    let laid = Timed::since(rt, start, laid);
     if dir.entries.len() > DIRECTORY_NAMES {
         return Err(wrong());
     }
-    let blocks = lay(alloc, &dir, FIRST)?;
-    let start = used(rt);
-    let copied = copy_often(alloc, &blocks, rounds)?;
-    let copy_time = since(rt, start);
-    let start = used(rt);
-    let read = read_often(alloc, &blocks, size, rounds)?;
-    let read_time = since(rt, start);
-    print!(rt; "{size} bytes x{rounds}: {laid} blocks laid, {copied} copied")?;
-    report.took_beside(rt, lay_time, copy_time)?;
-    print!(rt; "{size} bytes x{rounds}: {read} names read")?;
-    report.took_beside(rt, read_time, copy_time)
+    let blocks = lay(rt.alloc(), &dir, FIRST)?;
+    of_blocks(rt, report, &blocks, laid, size, rounds)
 }
 
 /// Spellings of 4 and of 255 bytes, each directory so many times.

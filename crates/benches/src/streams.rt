@@ -10,19 +10,24 @@ use std::io::{Error, ErrorKind};
 /// What a frame of a file of one letter in the root has beside the file's bytes.
 const BESIDE: usize = 37;
 
+/// Appends a frame of a mebibyte, which creates a file of these bytes by the request of this number.
+fn put_large(bytes: &mut Vec<u8>, number: u32, file: &[u8]) -> Result<(), AllocError> {
+    bytes.extend_from_slice(&(MEBIBYTE as u32 - 4).to_le_bytes())?;
+    bytes.push(1)?;
+    for part in [7, u64::from(number), 0] {
+        bytes.extend_from_slice(&part.to_le_bytes())?;
+    }
+    bytes.extend_from_slice(&[1, 1, 0, b'a'])?;
+    bytes.extend_from_slice(&((MEBIBYTE - BESIDE) as u32).to_le_bytes())?;
+    bytes.extend_from_slice(file)
+}
+
 /// Requests, each in a frame of a mebibyte that creates a file.
 fn large_frames(alloc: Global, count: u32) -> Result<Vec<u8>, AllocError> {
     let file = vec![in alloc; 7u8; MEBIBYTE - BESIDE]?;
     let mut bytes = Vec::new(alloc);
     for number in 0..count {
-        bytes.extend_from_slice(&(MEBIBYTE as u32 - 4).to_le_bytes())?;
-        bytes.push(1)?;
-        bytes.extend_from_slice(&7u64.to_le_bytes())?;
-        bytes.extend_from_slice(&u64::from(number).to_le_bytes())?;
-        bytes.extend_from_slice(&0u64.to_le_bytes())?;
-        bytes.extend_from_slice(&[1, 1, 0, b'a'])?;
-        bytes.extend_from_slice(&((MEBIBYTE - BESIDE) as u32).to_le_bytes())?;
-        bytes.extend_from_slice(&file)?;
+        put_large(&mut bytes, number, &file)?;
     }
     Ok(bytes)
 }

@@ -150,26 +150,43 @@ fn write_often(alloc: Global, vat: &Vat, rounds: u32) -> io::Result<usize>
     Ok(count)
 }
 
+/// The processor times of a table that is read, of one that is written, and of a copy of its bytes.
+#[derive(Clone, Copy)]
+struct Times {
+    read: u128,
+    write: u128,
+    copy: u128,
+}
+
+/// Reads and writes the table so many times, and copies its bytes as often. It says how many entries, bytes and bytes these are.
+fn timed(rt: &HostRuntime, bytes: &[u8], vat: &Vat, rounds: u32) -> io::Result<(Times, [usize; 3])>
+    requires { FitsTable (view vat.now) }
+{
+    let begun = used(rt);
+    let read = read_often(rt.alloc(), bytes, rounds)?;
+    let done = used(rt);
+    let written = write_often(rt.alloc(), vat, rounds)?;
+    let written_at = used(rt);
+    let copied = copy_often(rt.alloc(), bytes, rounds)?;
+    let times = Times {
+        read: done.saturating_sub(begun),
+        write: written_at.saturating_sub(done),
+        copy: since(rt, written_at),
+    };
+    Ok((times, [read, written, copied]))
+}
+
 /// The table read and written so many times, and a copy of its bytes as often.
 fn tables(rt: &HostRuntime, report: Report, rounds: u32) -> io::Result<()> {
-    let alloc = rt.alloc();
-    let bytes = table(alloc)?;
-    let Ok(vat) = decode_vat(alloc, &bytes, ICB) else {
+    let bytes = table(rt.alloc())?;
+    let Ok(vat) = decode_vat(rt.alloc(), &bytes, ICB) else {
         return Err(wrong());
     };
-    let start = used(rt);
-    let read = read_often(alloc, &bytes, rounds)?;
-    let read_time = since(rt, start);
-    let start = used(rt);
-    let written = write_often(alloc, &vat, rounds)?;
-    let write_time = since(rt, start);
-    let start = used(rt);
-    let copied = copy_often(alloc, &bytes, rounds)?;
-    let copy_time = since(rt, start);
+    let (times, [read, written, copied]) = timed(rt, &bytes, &vat, rounds)?;
     print!(rt; "table x{rounds}: {read} entries read")?;
-    report.took_beside(rt, read_time, copy_time)?;
+    report.took_beside(rt, times.read, times.copy)?;
     print!(rt; "table x{rounds}: {written} bytes written, {copied} copied")?;
-    report.took_beside(rt, write_time, copy_time)
+    report.took_beside(rt, times.write, times.copy)
 }
 
 /// A mebibyte whose blocks imitate at each start so many times, an ordinary one and a table ten times as often.
