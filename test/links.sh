@@ -12,6 +12,7 @@
 #   src/x.rt, specs/X.antt   a file of some crate, in the text
 #   `FILE`, `name`           a file and what it defines: the name is in the file
 #   `src/x.rt`, `X.edit`     below a heading that is a crate's name, a file of that crate and an edit that it must refuse
+#   `X.edit`                 below the heading 'Wrong bodies', an edit that the gate tries
 #   `a::b`, `CamelCase`, `snake_case`   in a document on the code, a name: some source defines the last part
 #   ```antt FILE             a quotation: each line is in the file, in this order; '..' is for lines left out
 #   a paragraph              has 700 characters at most, a line 1,000
@@ -65,7 +66,7 @@ fenced {
     }
     next
 }
-/^#+ / { crate = ($0 ~ /^#+ `[a-z_]+`$/) ? substr($2, 2, length($2) - 2) : "" }
+/^#+ / { crate = ($0 ~ /^#+ `[a-z_]+`$/) ? substr($2, 2, length($2) - 2) : ""; in_gate = ($0 == "## Wrong bodies") }
 # An indented line is a command or what it shows.
 /^    / { next }
 {
@@ -89,7 +90,7 @@ fenced {
             continue
         }
         span = of_crate(parts[i])
-        if (span ~ /^[a-z_.0-9]+\.edit$/) { told("edit", crate == "" ? "*" : crate, span); source = ""; continue }
+        if (span ~ /^[a-z_.0-9]+\.edit$/) { told(in_gate ? "gate" : "edit", crate == "" ? "*" : crate, span); source = ""; continue }
         words = split(span, word, " ")
         for (j = 1; j <= words; j++) {
             if (word[j] ~ /^[.A-Za-z_-]+\// && word[j] !~ /[*$]|NAME|(^|\/)out\//) told("path", word[j], "")
@@ -192,6 +193,13 @@ while IFS="$tab" read -r document line kind first second; do
                 if [ -e "$file" ]; then found=$file; fi
             done
             if [ -n "$found" ]; then pass; else fail "$where: no edit $second in crate $first"; fi
+            ;;
+        gate)
+            found=
+            for file in crates/$first/must-fail/"$second"; do
+                if [ -e "$file" ]; then found=$file; fi
+            done
+            if [ -n "$found" ]; then pass; else fail "$where: the gate does not try $second"; fi
             ;;
         some)
             found=
