@@ -9,6 +9,9 @@ use std::test::Fail;
 pub(crate) const CREATE: [u8; 42] =
     *b"\x26\0\0\0\x01\x07\0\0\0\0\0\0\0\x01\0\0\0\0\0\0\0\0\0\0\0\0\0\0\0\x01\x01\0a\x05\0\0\0hello";
 
+/// Its answer: it is the first commit.
+pub(crate) const CREATED: [u8; 10] = [6, 0, 0, 0, 0, 0, 1, 0, 0, 0];
+
 /// A request to make the directory `/d`, of client 7 under number 2.
 pub(crate) const MAKE: [u8; 33] =
     *b"\x1d\0\0\0\x03\x07\0\0\0\0\0\0\0\x02\0\0\0\0\0\0\0\0\0\0\0\0\0\0\0\x01\x01\0d";
@@ -55,6 +58,22 @@ pub(crate) fn run_on<M: Media>(
 /// Runs `udfburn` on these words and this input, over files.
 pub(crate) fn run(rt: &HostRuntime, words: &[&str], input: &[u8]) -> Told {
     run_on(rt, &mut FileMedia::new(rt), words, input)
+}
+
+/// Whether `udfburn` on these words and this input, over files, has this status, output and error.
+pub(crate) fn reports(
+    rt: &HostRuntime,
+    words: &[&str],
+    input: &[u8],
+    wanted: (u8, &[u8], &[u8]),
+) -> bool {
+    let (status, output, errors) = wanted;
+    run(rt, words, input).is(status, output, errors)
+}
+
+/// Whether the file at a path has these bytes.
+pub(crate) fn holds(rt: &HostRuntime, path: &str, bytes: &[u8]) -> Result<bool, Fail> {
+    Ok(fs::read(rt, path)?.as_slice() == bytes)
 }
 
 /// Runs `udfburnd` on these words, over files.

@@ -1,6 +1,6 @@
 //! The commands of `udfburn`: statuses, output and lines.
 
-use crate::asking::{CREATE, MAKE, formatted, run};
+use crate::asking::{CREATE, MAKE, formatted, holds, reports, run};
 use std::fs;
 use std::test::Fail;
 
@@ -142,30 +142,29 @@ fn no_daemon_is_there(rt: HostRuntime) -> Result<(), Fail> {
     Ok(())
 }
 
+/// Whether a format by these words refuses an image of these bytes, and leaves them.
+fn refuses(rt: &HostRuntime, words: &[&str], image: &str, bytes: &[u8]) -> Result<bool, Fail> {
+    fs::write(rt, image, bytes)?;
+    let is_refused = reports(rt, words, b"", (1, b"", b"udfburn: 61 NotBlank\n"));
+    Ok(is_refused && holds(rt, image, bytes)?)
+}
+
 #[test]
 fn a_file_that_begins_no_format(rt: HostRuntime) -> Result<(), Fail> {
     let image = "part.img";
     formatted(&rt, image)?;
-    let whole = fs::read(&rt, image)?;
+    let mut whole = fs::read(&rt, image)?;
     let words = ["format", image, "DISC", "0", "3000"];
     // Bytes of a user's, and a part of a block of another format.
-    fs::write(&rt, image, b"notes")?;
-    assert!(rt; run(&rt, &words, b"").is(1, b"", b"udfburn: 61 NotBlank\n"));
-    assert_eq!(rt; fs::read(&rt, image)?.as_slice(), b"notes".as_slice());
+    assert!(rt; refuses(&rt, &words, image, b"notes")?);
     let part = whole.get(..34 * 2048 + 900).ok_or("a short image")?;
-    fs::write(&rt, image, part)?;
-    let told = run(&rt, &["format", image, "DISC", "0", "2999"], b"");
-    assert!(rt; told.is(1, b"", b"udfburn: 61 NotBlank\n"));
-    assert_eq!(rt; fs::read(&rt, image)?.as_slice(), part);
+    assert!(rt; refuses(&rt, &["format", image, "DISC", "0", "2999"], image, part)?);
     // A part of one of this format is gone over.
-    assert!(rt; run(&rt, &words, b"").is(0, b"formatted\n", b""));
-    assert_eq!(rt; fs::read(&rt, image)?.as_slice(), whole.as_slice());
+    assert!(rt; reports(&rt, &words, b"", (0, b"formatted\n", b"")));
+    assert!(rt; holds(&rt, image, &whole)?);
     // A volume with something after it is no beginning of a format.
-    let mut longer = whole.clone()?;
-    longer.push(0)?;
-    fs::write(&rt, image, &longer)?;
-    assert!(rt; run(&rt, &words, b"").is(1, b"", b"udfburn: 61 NotBlank\n"));
-    assert_eq!(rt; fs::read(&rt, image)?.as_slice(), longer.as_slice());
+    whole.push(0)?;
+    assert!(rt; refuses(&rt, &words, image, &whole)?);
     fs::remove_file(&rt, image)?;
     Ok(())
 }

@@ -1,9 +1,12 @@
 //! The daemon, and a client's calls beside it.
 
-use crate::asking::{CREATE, formatted, run, run_daemon};
-use drive::FileDrive;
+ghost use Rattle.engine.specs.Situation.{IsReady, seen_on};
+
+use crate::asking::{CREATE, CREATED, formatted, reports, run_daemon};
+use drive::{Drive, FileDrive};
 use engine::{Engine, ServeFault};
 use programs::{Fault, Listener, Sockets, copy_answers, send_frames, serve_one};
+use std::alloc::Global;
 use std::fs;
 use std::os::unix::net::UnixStream;
 use std::test::Fail;
@@ -45,41 +48,76 @@ fn an_image_comes_before_the_socket(rt: HostRuntime) -> Result<(), Fail> {
     Ok(())
 }
 
+/// A client that has sent a request.
+fn client(rt: &HostRuntime, socket: &str) -> Result<UnixStream, Fail> {
+    let mut stream = UnixStream::connect(rt, socket)?;
+    send_frames(rt.alloc(), &mut stream, &mut CREATE.as_slice())?;
+    Ok(stream)
+}
+
+/// Whether a client receives the answer, and nothing else.
+fn is_answered(rt: &HostRuntime, stream: &mut UnixStream) -> Result<bool, Fail> {
+    let mut answers = Vec::new(rt.alloc());
+    copy_answers(rt.alloc(), stream, &mut answers)?;
+    Ok(answers.as_slice() == CREATED.as_slice())
+}
+
+/// Serves the next connection.
+fn serve_next<L: Listener, D: Drive>(
+    alloc: Global,
+    listener: &mut L,
+    engine: &mut Engine,
+    drive: &mut D,
+) -> Result<(), Fault>
+    requires { IsReady (seen_on D.Drive engine.old drive.old) }
+    ensures { IsReady (seen_on D.Drive engine.new drive.new) }
+{
+    match listener.accept(alloc) {
+        Ok((input, output)) => serve_one(alloc, listener, input, output, engine, drive),
+        Err(_) => Err(Fault::Socket),
+    }
+}
+
+/// Whether two connections get their answer. The second one repeats the request, and gets the reply that is kept.
+fn serves_two(rt: &HostRuntime, image: &str, socket: &str) -> Result<bool, Fail> {
+    let mut listener = Sockets::new(rt);
+    listener.listen(socket)?;
+    let mut drive = FileDrive::open(rt, image, 450_000)?;
+    let mut engine = Engine::new();
+    for _ in 0..2 {
+        let mut stream = client(rt, socket)?;
+        serve_next(rt.alloc(), &mut listener, &mut engine, &mut drive)?;
+        if !is_answered(rt, &mut stream)? {
+            return Ok(false);
+        }
+    }
+    Ok(true)
+}
+
 #[test]
 fn a_connection_is_served(rt: HostRuntime) -> Result<(), Fail> {
     let (image, socket) = ("served.img", "served.socket");
     let _ = fs::remove_file(&rt, socket);
     formatted(&rt, image)?;
-    let mut listener = Sockets::new(&rt);
-    listener.listen(socket)?;
-    let mut drive = FileDrive::open(&rt, image, 450_000)?;
-    let mut engine = Engine::new();
-    // The second connection repeats the request, and gets the reply that is kept.
-    for _ in 0..2 {
-        let mut stream = UnixStream::connect(&rt, socket)?;
-        send_frames(rt.alloc(), &mut stream, &mut CREATE.as_slice())?;
-        let (input, output) = listener.accept(rt.alloc())?;
-        serve_one(
-            rt.alloc(),
-            &mut listener,
-            input,
-            output,
-            &mut engine,
-            &mut drive,
-        )?;
-        let mut answers = Vec::new(rt.alloc());
-        copy_answers(rt.alloc(), &mut stream, &mut answers)?;
-        assert_eq!(rt;
-            answers.as_slice(),
-            [6, 0, 0, 0, 0, 0, 1, 0, 0, 0].as_slice()
-        );
-    }
-    let told = run(&rt, &["get", image, "/a"], b"");
-    assert!(rt; told.is(0, b"hello", b""));
+    assert!(rt; serves_two(&rt, image, socket)?);
+    assert!(rt; reports(&rt, &["get", image, "/a"], b"", (0, b"hello", b"")));
     assert_eq!(rt; fs::read(&rt, image)?.len(), 267 * 2048);
     fs::remove_file(&rt, socket)?;
     fs::remove_file(&rt, image)?;
     Ok(())
+}
+
+/// Whether the connection of a client that goes away ends for that reason, and the next client gets the answer that is kept.
+fn serves_after_one(rt: &HostRuntime, image: &str, socket: &str) -> Result<bool, Fail> {
+    let mut listener = Sockets::new(rt);
+    listener.listen(socket)?;
+    let mut drive = FileDrive::open(rt, image, 450_000)?;
+    let mut engine = Engine::new();
+    drop(client(rt, socket)?);
+    let served = serve_next(rt.alloc(), &mut listener, &mut engine, &mut drive);
+    let mut stream = client(rt, socket)?;
+    serve_next(rt.alloc(), &mut listener, &mut engine, &mut drive)?;
+    Ok(served == Err(Fault::Stream(ServeFault::Write)) && is_answered(rt, &mut stream)?)
 }
 
 #[test]
@@ -87,41 +125,7 @@ fn a_client_that_goes_away(rt: HostRuntime) -> Result<(), Fail> {
     let (image, socket) = ("away.img", "away.socket");
     let _ = fs::remove_file(&rt, socket);
     formatted(&rt, image)?;
-    let mut listener = Sockets::new(&rt);
-    listener.listen(socket)?;
-    let mut drive = FileDrive::open(&rt, image, 450_000)?;
-    let mut engine = Engine::new();
-    let mut gone = UnixStream::connect(&rt, socket)?;
-    send_frames(rt.alloc(), &mut gone, &mut CREATE.as_slice())?;
-    drop(gone);
-    let (input, output) = listener.accept(rt.alloc())?;
-    let served = serve_one(
-        rt.alloc(),
-        &mut listener,
-        input,
-        output,
-        &mut engine,
-        &mut drive,
-    );
-    assert!(rt; served == Err(Fault::Stream(ServeFault::Write)));
-    // The next connection is served, and the request that was sent is known.
-    let mut stream = UnixStream::connect(&rt, socket)?;
-    send_frames(rt.alloc(), &mut stream, &mut CREATE.as_slice())?;
-    let (input, output) = listener.accept(rt.alloc())?;
-    serve_one(
-        rt.alloc(),
-        &mut listener,
-        input,
-        output,
-        &mut engine,
-        &mut drive,
-    )?;
-    let mut answers = Vec::new(rt.alloc());
-    copy_answers(rt.alloc(), &mut stream, &mut answers)?;
-    assert_eq!(rt;
-        answers.as_slice(),
-        [6, 0, 0, 0, 0, 0, 1, 0, 0, 0].as_slice()
-    );
+    assert!(rt; serves_after_one(&rt, image, socket)?);
     assert_eq!(rt; fs::read(&rt, image)?.len(), 267 * 2048);
     fs::remove_file(&rt, socket)?;
     fs::remove_file(&rt, image)?;
