@@ -18,6 +18,7 @@ struct disc {
     uint8_t blocks[CAPACITY * UDFBURN_BLOCK];
     uint32_t next;
     uint32_t calls;             /* of capacity */
+    uint32_t reads;
     uint32_t writes;
     uint32_t longest;           /* of a write */
     uint32_t last;              /* blocks of the last write */
@@ -43,6 +44,7 @@ static int32_t next_of(void *context, uint32_t *address) {
 static int32_t read_blocks(void *context, uint32_t address, uint32_t count, void *blocks) {
     struct disc *disc = (struct disc *)context;
     EXPECT(address <= disc->next && count <= disc->next - address);
+    disc->reads++;
     memcpy(blocks, disc->blocks + (size_t)address * UDFBURN_BLOCK, (size_t)count * UDFBURN_BLOCK);
     if (disc->fault == READ_GIVES_OTHERS && address + count > 100) ((uint8_t *)blocks)[count * UDFBURN_BLOCK - 1] ^= 1;
     if (disc->fault == READ_GIVES_MORE) ((uint8_t *)blocks)[count * UDFBURN_BLOCK] = 0;
@@ -116,6 +118,20 @@ static void as_a_file(void) {
     STATUS(UDFBURN_OK, udfburn_answer(first, get_a, sizeof get_a));
     expect_answers(first, got_a, sizeof got_a);
     udfburn_close(first);
+}
+
+/* A volume that is open is not opened again for a message, which would take the reads of an opening and more. */
+static void a_volume_stays_open(void) {
+    uint32_t before = discs[0].reads;
+    udfburn *handle = opened_on(&discs[0]);
+    uint32_t opening = discs[0].reads - before;
+    for (int i = 0; i < 2; i++) {
+        before = discs[0].reads;
+        STATUS(UDFBURN_OK, udfburn_answer(handle, get_a, sizeof get_a));
+        EXPECT(discs[0].reads - before < opening);
+        expect_answers(handle, got_a, sizeof got_a);
+    }
+    udfburn_close(handle);
 }
 
 static void a_drive_is_held(void) {
@@ -274,6 +290,7 @@ static void checks(void) {
 int main(int argc, char **argv) {
     if (argc != 2 || chdir(argv[1])) return EXIT_FAILURE;
     as_a_file();
+    a_volume_stays_open();
     a_drive_is_held();
     writes_that_fail();
     formats_that_fail();
