@@ -55,3 +55,9 @@ class Memory(Case):
                 self.assertIn(self.life("each.img", ALLOC_EVERY=str(number)), ("done\n", "memory\n"))
                 image = self.folder / "each.img"
                 self.assertTrue(self.whole.startswith(image.read_bytes() if image.exists() else b""))
+
+    def test_a_stream_that_ended(self) -> None:
+        program = self.compiled("ended.c")
+        (self.folder / "room").mkdir()
+        environment = self.environment(LD_PRELOAD=self.shim, ALLOC_MIN="16000000", ALLOC_FAIL="1")
+        self.assertRegex(self.ran(program, "room", environment=environment), r"^ended: [1-9]\d* expected, 0 failed\n$")
