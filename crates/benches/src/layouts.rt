@@ -81,7 +81,7 @@ struct Timed {
 }
 
 impl Timed {
-    /// What began at this time has ended.
+    /// Of work that began at `start` and has just ended.
     fn since(rt: &HostRuntime, start: u128, count: usize) -> Timed {
         Timed {
             count,

@@ -158,7 +158,8 @@ struct Times {
     copy: u128,
 }
 
-/// Reads and writes the table so many times, and copies its bytes as often. It says how many entries, bytes and bytes these are.
+/// Reads and writes the table so many times, and copies its bytes as often. The counts are of entries read, and of bytes written
+/// and copied.
 fn timed(rt: &HostRuntime, bytes: &[u8], vat: &Vat, rounds: u32) -> io::Result<(Times, [usize; 3])>
     requires { FitsTable (view vat.now) }
 {
