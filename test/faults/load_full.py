@@ -9,7 +9,9 @@ import subprocess
 import unittest
 from pathlib import Path
 
+from faults.case import need_shim
 from faults.load_support import Case, during, listing, spell_all
+from faults.log import read_log
 from faults.machine import lacks
 from faults.processes import PATIENCE
 from faults.programs import built
@@ -186,6 +188,24 @@ class Output(Case):
         self.tell(self.full(["apply", "d.img"], query("get", "/a") * 3), 1, b"", b"udfburn: 92 Write\n")
         self.assertEqual(answers_of(self.apply(encode(request)).output), [expected])
         self.tree_is(self.model, ["/", "/a"])
+
+    def test_apply_reads_no_further(self) -> None:
+        """After the first piece of the input whose answers nobody takes it reads no other, and commits nothing more."""
+        need_shim()
+        # A power of two, so that each piece of the input ends between two frames.
+        size = 1 << 14
+        requests = [Request("create", 7, number, "/%02d" % number, b"") for number in range(1, 33)]
+        requests = [request._replace(data=bytes(size - len(encode(request)))) for request in requests]
+        frames = b"".join(map(encode, requests))
+        self.assertEqual(len(frames), size * len(requests))
+        ran = self.apply(frames, rules="stdout:*:E28", log=self.new_log())
+        self.tell(ran, 1, b"", b"udfburn: 92 Write\n")
+        records = read_log(self.log_path())
+        said = [record.kind for record in records].index("stdout")
+        self.assertEqual({record.kind for record in records[said:]} - {"stdout", "close"}, set())
+        read = sum(record.result for record in records[:said] if record.kind == "stdin")
+        self.assertLess(read, len(frames))
+        self.assertEqual(self.sound(), read // size)
 
     def test_send(self) -> None:
         request = Request("create", 7, 1, "/a", b"x" * 100_000)

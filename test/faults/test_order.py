@@ -8,9 +8,14 @@ from faults.calls import Discipline, is_entry, told_by
 from faults.case import FORMATTED_BLOCKS, Case, need_shim
 from faults.log import Record, read_log
 from faults.running import Daemon
-from protocol import BLOCK, Model, Request, answers_of, committed, encode, paths_of, questions
+from protocol import BLOCK, Model, Request, answers_of, committed, data_answer, encode, paths_of, query, questions
 
 MEBIBYTE = 1 << 20
+
+# Each command that reads an image.
+READERS = (("ls", "d.img", "/"), ("get", "d.img", "/a"), ("log", "d.img"), ("check", "d.img"))
+# What a reader does not ask of an image.
+WRITES = {"pwrite", "fsync", "ftruncate", "flock"}
 
 # Before each commit of `COMMITS` these are.
 BEFORE = [
@@ -238,7 +243,7 @@ class Order(Case):
         """Without a lock, and with nothing but reads."""
         self.fresh()
         self.apply(encode(Request("create", 7, 1, "/a", b"hello")))
-        for words in (("ls", "d.img", "/"), ("get", "d.img", "/a"), ("log", "d.img"), ("check", "d.img")):
+        for words in READERS:
             with self.subTest(words):
                 ran = self.udfburn(*words, log=self.new_log())
                 self.assertEqual((ran.status, ran.errors), (0, b""))
@@ -246,7 +251,46 @@ class Order(Case):
                 opened = [record for record in records if record.kind == "open"]
                 self.assertEqual([record.offset & os.O_ACCMODE for record in opened], [os.O_RDONLY])
                 self.assertTrue(any(record.kind == "pread" for record in records))
-                self.assertEqual({record.kind for record in records} & {"pwrite", "fsync", "ftruncate", "flock"}, set())
+                self.assertEqual({record.kind for record in records} & WRITES, set())
+                # A write to what is open for reading never reaches the system. What is asked of the image before that write does.
+                said = [record.kind for record in records].index("stdout")
+                self.assertEqual({record.kind for record in records[said:]} - {"stdout", "close"}, set())
+
+    def test_readers_of_no_volume(self) -> None:
+        """A reader neither begins a volume nor finishes one: of an empty file and of a format that was cut each command asks the same, and is
+        refused."""
+        whole = self.fresh().read_bytes()
+        for blocks in (0, 1, 100, FORMATTED_BLOCKS - 1):
+            calls = []
+            for words in READERS:
+                with self.subTest(words, blocks=blocks):
+                    self.path("d.img").write_bytes(whole[:blocks * BLOCK])
+                    ran = self.udfburn(*words, log=self.new_log())
+                    self.tell(ran, 1, b"", b"udfburn: 66 NotFormatted\n")
+                    records = read_log(self.log_path())
+                    self.assertEqual({record.kind for record in records} & WRITES, set())
+                    calls.append([(record.kind, record.offset, record.length) for record in records])
+                    self.assertEqual(calls[-1], calls[0])
+                    self.assertEqual(self.path("d.img").read_bytes(), whole[:blocks * BLOCK])
+
+    def test_a_later_connection(self) -> None:
+        """The daemon opens the volume once: the connections after the first go on with it, and read far less than an opening does."""
+        self.fresh()
+        self.apply(encode(Request("create", 7, 1, "/a", b"hello")))
+        with Daemon(self.folder, log=self.new_log()) as daemon:
+            for _ in range(3):
+                with daemon.client() as client:
+                    self.assertEqual(client.ask(query("get", "/a")), data_answer(b"hello"))
+                    client.end()
+                    self.assertIsNone(client.answer())
+        reads = []
+        for record in read_log(self.log_path()):
+            if record.kind == "accept":
+                reads.append(0)
+            elif record.kind == "pread":
+                reads[-1] += 1
+        self.assertEqual(len(reads), 3)
+        self.assertLess(10 * max(reads[1:]), reads[0])
 
 
 class Itself(Case):
