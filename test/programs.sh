@@ -58,17 +58,17 @@ holds() {
     if "$@"; then pass; else fail "$name"; fi
 }
 
-# blocks FILE COUNT: whether the file has so many blocks of 2,048 bytes, and nothing more.
+# blocks FILE COUNT: whether the file is there and has so many blocks of 2,048 bytes, and nothing more.
 blocks() {
-    [ "$(($(wc -c < "$1")))" -eq $(($2 * 2048)) ]
+    [ -f "$1" ] && [ "$(($(wc -c < "$1")))" -eq $(($2 * 2048)) ]
 }
 
-# await COMMAND..: waits until the command succeeds, for longer than any machine takes.
+# await COMMAND..: waits until the command succeeds, for longer than any machine takes. It does not where the daemon has ended.
 await() {
     tries=3000
     until "$@"; do
         tries=$((tries - 1))
-        [ "$tries" -gt 0 ] || return 1
+        if [ "$tries" -eq 0 ] || ! kill -0 "$daemon" 2> kill.errors; then return 1; fi
         sleep 0.1
     done
 }
