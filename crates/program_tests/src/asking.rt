@@ -3,6 +3,7 @@
 use media::{FileMedia, Media};
 use programs::{Sockets, command_on, daemon_on};
 use std::fs;
+use std::io::Read;
 use std::test::Fail;
 
 /// A request to make the file `/a` with the bytes `hello`, of client 7 under number 1.
@@ -38,16 +39,15 @@ impl Told {
 }
 
 /// Runs `udfburn` on these words and this input, over the images of a medium.
-pub(crate) fn run_on<M: Media>(
+pub(crate) fn run_on<M: Media, R: Read>(
     rt: &HostRuntime,
     media: &mut M,
     words: &[&str],
-    input: &[u8],
+    input: &mut R,
 ) -> Told {
-    let mut reader = input;
     let mut output = Vec::new(rt.alloc());
     let mut errors = Vec::new(rt.alloc());
-    let status = command_on(rt, media, words, &mut reader, &mut output, &mut errors);
+    let status = command_on(rt, media, words, input, &mut output, &mut errors);
     Told {
         status,
         output,
@@ -55,9 +55,39 @@ pub(crate) fn run_on<M: Media>(
     }
 }
 
-/// Runs `udfburn` on these words and this input, over files.
-pub(crate) fn run(rt: &HostRuntime, words: &[&str], input: &[u8]) -> Told {
-    run_on(rt, &mut FileMedia::new(rt), words, input)
+/// Whether `udfburn` on these words and this input, over the images of a medium, has this status, output and error.
+pub(crate) fn reports_on<M: Media>(
+    rt: &HostRuntime,
+    media: &mut M,
+    words: &[&str],
+    input: &[u8],
+    wanted: (u8, &[u8], &[u8]),
+) -> bool {
+    let (status, output, errors) = wanted;
+    let mut reader = input;
+    run_on(rt, media, words, &mut reader).is(status, output, errors)
+}
+
+/// Words and input of `udfburn`, and its status, output and error.
+pub(crate) type Row<'a> = (&'a [&'a str], &'a [u8], u8, &'a [u8], &'a [u8]);
+
+/// The place of the first row that does not go so, one after another over the images of a medium.
+pub(crate) fn failing_on<M: Media>(
+    rt: &HostRuntime,
+    media: &mut M,
+    rows: &[Row<'_>],
+) -> Option<usize> {
+    for (i, (words, input, status, output, errors)) in rows.iter().enumerate() {
+        if !reports_on(rt, media, words, input, (*status, *output, *errors)) {
+            return Some(i);
+        }
+    }
+    None
+}
+
+/// The same over files.
+pub(crate) fn failing(rt: &HostRuntime, rows: &[Row<'_>]) -> Option<usize> {
+    failing_on(rt, &mut FileMedia::new(rt), rows)
 }
 
 /// Whether `udfburn` on these words and this input, over files, has this status, output and error.
@@ -67,8 +97,7 @@ pub(crate) fn reports(
     input: &[u8],
     wanted: (u8, &[u8], &[u8]),
 ) -> bool {
-    let (status, output, errors) = wanted;
-    run(rt, words, input).is(status, output, errors)
+    reports_on(rt, &mut FileMedia::new(rt), words, input, wanted)
 }
 
 /// Whether the file at a path has these bytes.
@@ -76,27 +105,26 @@ pub(crate) fn holds(rt: &HostRuntime, path: &str, bytes: &[u8]) -> Result<bool, 
     Ok(fs::read(rt, path)?.as_slice() == bytes)
 }
 
-/// Runs `udfburnd` on these words, over files.
-pub(crate) fn run_daemon(rt: &HostRuntime, words: &[&str]) -> Told {
-    let mut errors = Vec::new(rt.alloc());
-    let status = daemon_on(
-        rt,
-        &mut FileMedia::new(rt),
-        &mut Sockets::new(rt),
-        words,
-        &mut errors,
-    );
-    Told {
-        status,
-        output: Vec::new(rt.alloc()),
-        errors,
-    }
+/// Whether `udfburnd` on these words, over files, has this status and error.
+pub(crate) fn daemon_reports(rt: &HostRuntime, words: &[&str], wanted: (u8, &[u8])) -> bool {
+    let mut media = FileMedia::new(rt);
+    let mut listener = Sockets::new(rt);
+    let mut told = Vec::new(rt.alloc());
+    let (status, errors) = wanted;
+    daemon_on(rt, &mut media, &mut listener, words, &mut told) == status
+        && told.as_slice() == errors
+}
+
+/// How many bytes the file at a path has.
+pub(crate) fn size_of(rt: &HostRuntime, path: &str) -> Result<usize, Fail> {
+    Ok(fs::read(rt, path)?.len())
 }
 
 /// A new image of 3,000 blocks at this path, in the place of one that is there.
 pub(crate) fn formatted(rt: &HostRuntime, image: &str) -> Result<(), Fail> {
     let _ = fs::remove_file(rt, image);
-    if run(rt, &["format", image, "DISC", "0", "3000"], b"").is(0, b"formatted\n", b"") {
+    let words = ["format", image, "DISC", "0", "3000"];
+    if reports(rt, &words, b"", (0, b"formatted\n", b"")) {
         Ok(())
     } else {
         Err(Fail::new("no format"))

@@ -2,7 +2,7 @@
 
 ghost use Rattle.engine.specs.Situation.{IsReady, seen_on};
 
-use crate::asking::{CREATE, CREATED, formatted, reports, run_daemon};
+use crate::asking::{CREATE, CREATED, daemon_reports, formatted, reports};
 use drive::{Drive, FileDrive};
 use engine::{Engine, ServeFault};
 use programs::{Fault, Listener, Sockets, copy_answers, send_frames, serve_one};
@@ -19,30 +19,34 @@ fn words_of_the_daemon(rt: HostRuntime) -> Result<(), Fail> {
         &["udfburnd", "i", "s", "t"],
     ];
     for words in rows {
-        let told = run_daemon(&rt, words);
-        assert!(rt; told.is(2, b"", b"udfburnd: usage\n"));
+        assert!(rt; daemon_reports(&rt, words, (2, b"udfburnd: usage\n")));
     }
     Ok(())
+}
+
+/// Whether an image that is missing, or a socket that cannot be had, is refused.
+fn refuses(rt: &HostRuntime, image: &str) -> Result<bool, Fail> {
+    let _ = fs::remove_file(rt, image);
+    let words = ["udfburnd", image, "missing/daemon.socket"];
+    let is_missing = daemon_reports(rt, &words, (1, b"udfburnd: 64 Device\n"));
+    formatted(rt, image)?;
+    let without = ["udfburnd", image, ""];
+    Ok(
+        is_missing
+            && daemon_reports(rt, &words, (1, b"udfburnd: 94 Socket\n"))
+            && daemon_reports(rt, &without, (1, b"udfburnd: 94 Socket\n")),
+    )
 }
 
 #[test]
 fn an_image_comes_before_the_socket(rt: HostRuntime) -> Result<(), Fail> {
     let (image, socket) = ("daemon.img", "daemon.socket");
     let _ = fs::remove_file(&rt, socket);
-    let _ = fs::remove_file(&rt, image);
-    let told = run_daemon(&rt, &["udfburnd", image, "missing/daemon.socket"]);
-    assert!(rt; told.is(1, b"", b"udfburnd: 64 Device\n"));
-    formatted(&rt, image)?;
-    let told = run_daemon(&rt, &["udfburnd", image, "missing/daemon.socket"]);
-    assert!(rt; told.is(1, b"", b"udfburnd: 94 Socket\n"));
-    let told = run_daemon(&rt, &["udfburnd", image, ""]);
-    assert!(rt; told.is(1, b"", b"udfburnd: 94 Socket\n"));
+    assert!(rt; refuses(&rt, image)?);
     // With no connection to wait for it binds the socket and ends, and the socket's path stays.
     let words = ["udfburnd", image, socket, "--connections", "0"];
-    let told = run_daemon(&rt, &words);
-    assert!(rt; told.is(0, b"", b""));
-    let told = run_daemon(&rt, &words);
-    assert!(rt; told.is(1, b"", b"udfburnd: 94 Socket\n"));
+    assert!(rt; daemon_reports(&rt, &words, (0, b"")));
+    assert!(rt; daemon_reports(&rt, &words, (1, b"udfburnd: 94 Socket\n")));
     fs::remove_file(&rt, socket)?;
     fs::remove_file(&rt, image)?;
     Ok(())
@@ -78,6 +82,22 @@ fn serve_next<L: Listener, D: Drive>(
     }
 }
 
+/// Whether a client gets the answer on the next connection.
+fn serves_one<L: Listener, D: Drive>(
+    rt: &HostRuntime,
+    socket: &str,
+    listener: &mut L,
+    engine: &mut Engine,
+    drive: &mut D,
+) -> Result<bool, Fail>
+    requires { IsReady (seen_on D.Drive engine.old drive.old) }
+    ensures { IsReady (seen_on D.Drive engine.new drive.new) }
+{
+    let mut stream = client(rt, socket)?;
+    serve_next(rt.alloc(), listener, engine, drive)?;
+    is_answered(rt, &mut stream)
+}
+
 /// Whether two connections get their answer. The second one repeats the request, and gets the reply that is kept.
 fn serves_two(rt: &HostRuntime, image: &str, socket: &str) -> Result<bool, Fail> {
     let mut listener = Sockets::new(rt);
@@ -85,9 +105,7 @@ fn serves_two(rt: &HostRuntime, image: &str, socket: &str) -> Result<bool, Fail>
     let mut drive = FileDrive::open(rt, image, 450_000)?;
     let mut engine = Engine::new();
     for _ in 0..2 {
-        let mut stream = client(rt, socket)?;
-        serve_next(rt.alloc(), &mut listener, &mut engine, &mut drive)?;
-        if !is_answered(rt, &mut stream)? {
+        if !serves_one(rt, socket, &mut listener, &mut engine, &mut drive)? {
             return Ok(false);
         }
     }
@@ -115,9 +133,8 @@ fn serves_after_one(rt: &HostRuntime, image: &str, socket: &str) -> Result<bool,
     let mut engine = Engine::new();
     drop(client(rt, socket)?);
     let served = serve_next(rt.alloc(), &mut listener, &mut engine, &mut drive);
-    let mut stream = client(rt, socket)?;
-    serve_next(rt.alloc(), &mut listener, &mut engine, &mut drive)?;
-    Ok(served == Err(Fault::Stream(ServeFault::Write)) && is_answered(rt, &mut stream)?)
+    let is_answered = serves_one(rt, socket, &mut listener, &mut engine, &mut drive)?;
+    Ok(is_answered && served == Err(Fault::Stream(ServeFault::Write)))
 }
 
 #[test]

@@ -1,13 +1,13 @@
 //! The commits of an image, and what is found of damaged ones.
 
-use crate::asking::{CREATE, formatted, run};
+use crate::asking::{CREATE, CREATED, formatted, reports};
 use std::fs::{self, File, OpenOptions};
 use std::io::{Seek, SeekFrom, Write};
 use std::test::Fail;
 
-/// The frame of a request, sent to an image.
-fn send(rt: &HostRuntime, image: &str, frame: &[u8]) -> Result<(), Fail> {
-    if run(rt, &["apply", image], frame).status == 0 {
+/// Makes the file `/a` on an image.
+fn create(rt: &HostRuntime, image: &str) -> Result<(), Fail> {
+    if reports(rt, &["apply", image], &CREATE, (0, &CREATED, b"")) {
         Ok(())
     } else {
         Err(Fail::new("no answer"))
@@ -26,14 +26,19 @@ fn damage(rt: &HostRuntime, image: &str, at: u64) -> Result<(), Fail> {
 fn a_damaged_link_is_told(rt: HostRuntime) -> Result<(), Fail> {
     let image = "chain.img";
     formatted(&rt, image)?;
-    send(&rt, image, &CREATE)?;
+    create(&rt, image)?;
     damage(&rt, image, 261 * 2048 + 100)?;
     for command in ["log", "check"] {
-        let told = run(&rt, &[command, image], b"");
-        assert!(rt; told.is(1, b"", b"udfburn: 67 Damaged block 261 cause 78\n"));
+        assert!(rt;
+            reports(
+                &rt,
+                &[command, image],
+                b"",
+                (1, b"", b"udfburn: 67 Damaged block 261 cause 78\n")
+            )
+        );
     }
-    let listing = run(&rt, &["ls", image, "/"], b"");
-    assert!(rt; listing.is(0, b"f a\n", b""));
+    assert!(rt; reports(&rt, &["ls", image, "/"], b"", (0, b"f a\n", b"")));
     fs::remove_file(&rt, image)?;
     Ok(())
 }
@@ -42,13 +47,25 @@ fn a_damaged_link_is_told(rt: HostRuntime) -> Result<(), Fail> {
 fn an_earlier_state_that_does_not_stand_is_told(rt: HostRuntime) -> Result<(), Fail> {
     let image = "earlier.img";
     formatted(&rt, image)?;
-    send(&rt, image, &CREATE)?;
+    create(&rt, image)?;
     // The entry of the root as it was formatted.
     damage(&rt, image, 259 * 2048 + 100)?;
-    let log = run(&rt, &["log", image], b"");
-    assert!(rt; log.is(0, b"1 266 1 1\n0 261 0 1\n", b""));
-    let check = run(&rt, &["check", image], b"");
-    assert!(rt; check.is(1, b"", b"udfburn: 67 Damaged block 259 cause 21\n"));
+    assert!(rt;
+        reports(
+            &rt,
+            &["log", image],
+            b"",
+            (0, b"1 266 1 1\n0 261 0 1\n", b"")
+        )
+    );
+    assert!(rt;
+        reports(
+            &rt,
+            &["check", image],
+            b"",
+            (1, b"", b"udfburn: 67 Damaged block 259 cause 21\n")
+        )
+    );
     fs::remove_file(&rt, image)?;
     Ok(())
 }
@@ -57,10 +74,22 @@ fn an_earlier_state_that_does_not_stand_is_told(rt: HostRuntime) -> Result<(), F
 fn an_image_without_a_volume_has_no_commits(rt: HostRuntime) -> Result<(), Fail> {
     File::create(&rt, "blank.img")?;
     for command in ["log", "check"] {
-        let told = run(&rt, &[command, "blank.img"], b"");
-        assert!(rt; told.is(1, b"", b"udfburn: 66 NotFormatted\n"));
-        let told = run(&rt, &[command, "no.img"], b"");
-        assert!(rt; told.is(1, b"", b"udfburn: 64 Device\n"));
+        assert!(rt;
+            reports(
+                &rt,
+                &[command, "blank.img"],
+                b"",
+                (1, b"", b"udfburn: 66 NotFormatted\n")
+            )
+        );
+        assert!(rt;
+            reports(
+                &rt,
+                &[command, "no.img"],
+                b"",
+                (1, b"", b"udfburn: 64 Device\n")
+            )
+        );
     }
     fs::remove_file(&rt, "blank.img")?;
     Ok(())

@@ -1,6 +1,6 @@
 //! Streams of `udfburn` that fail, and that come byte by byte.
 
-use crate::asking::{CREATE, CREATED, Told, formatted, reports, run};
+use crate::asking::{CREATE, CREATED, formatted, reports, run_on};
 use media::{FileMedia, MemMedia};
 use programs::{command_on, copy_answers, send_frames};
 use std::io::{Error, ErrorKind, Read};
@@ -45,31 +45,32 @@ impl Read for Pieces<'_> {
 
 #[test]
 fn an_input_that_fails(rt: HostRuntime) -> Result<(), Fail> {
-    let mut reader = Single(&CREATE);
-    let mut output = Vec::new(rt.alloc());
-    let mut errors = Vec::new(rt.alloc());
-    let status = command_on(
-        &rt,
-        &mut MemMedia::new(rt.alloc()),
-        &["apply", "mem:3000"],
-        &mut reader,
-        &mut output,
-        &mut errors,
-    );
-    let told = Told {
-        status,
-        output,
-        errors,
-    };
+    let words = ["apply", "mem:3000"];
+    let mut media = MemMedia::new(rt.alloc());
+    let told = run_on(&rt, &mut media, &words, &mut Single(&CREATE));
     // What came was answered before more was waited for.
-    assert!(rt; told.is(1, &[6, 0, 0, 0, 0, 0, 1, 0, 0, 0], b"udfburn: 91 Read\n"));
+    assert!(rt; told.is(1, &CREATED, b"udfburn: 91 Read\n"));
     Ok(())
+}
+
+/// Whether a command fails whose output has room for so many bytes, and has written them.
+fn fails_after(rt: &HostRuntime, words: &[&str], input: &[u8], left: usize) -> bool {
+    let mut reader = input;
+    let mut errors = Vec::new(rt.alloc());
+    let mut writer = Room {
+        bytes: Vec::new(rt.alloc()),
+        left,
+    };
+    let mut media = FileMedia::new(rt);
+    let status = command_on(rt, &mut media, words, &mut reader, &mut writer, &mut errors);
+    status == 1
+        && writer.bytes.len() == left
+        && errors.as_slice() == b"udfburn: 92 Write\n".as_slice()
 }
 
 #[test]
 fn an_output_that_fails(rt: HostRuntime) -> Result<(), Fail> {
     let image = "output.img";
-    let line = b"udfburn: 92 Write\n";
     let rows: [(&[&str], &[u8], usize); 4] = [
         (&["apply", image], &CREATE, 9),
         (&["apply", image], &CREATE, 0),
@@ -78,24 +79,7 @@ fn an_output_that_fails(rt: HostRuntime) -> Result<(), Fail> {
     ];
     formatted(&rt, image)?;
     for (words, input, left) in rows {
-        let mut reader = input;
-        let mut errors = Vec::new(rt.alloc());
-        let mut writer = Room {
-            bytes: Vec::new(rt.alloc()),
-            left,
-        };
-        let mut media = FileMedia::new(&rt);
-        let status = command_on(
-            &rt,
-            &mut media,
-            words,
-            &mut reader,
-            &mut writer,
-            &mut errors,
-        );
-        assert_eq!(rt; status, 1);
-        assert_eq!(rt; writer.bytes.len(), left);
-        assert_eq!(rt; errors.as_slice(), line.as_slice());
+        assert!(rt; fails_after(&rt, words, input, left));
         // The request was committed once, though its answer was not reported.
         assert_eq!(rt; fs::read(&rt, image)?.len(), 267 * 2048);
     }
@@ -107,8 +91,7 @@ fn an_output_that_fails(rt: HostRuntime) -> Result<(), Fail> {
 fn an_image_that_is_cut(rt: HostRuntime) -> Result<(), Fail> {
     let image = "cut.img";
     formatted(&rt, image)?;
-    let told = run(&rt, &["apply", image], &CREATE);
-    assert!(rt; told.is(0, &[6, 0, 0, 0, 0, 0, 1, 0, 0, 0], b""));
+    assert!(rt; reports(&rt, &["apply", image], &CREATE, (0, &CREATED, b"")));
     let whole = fs::read(&rt, image)?;
     // The last commit loses its last block, some of its blocks, and a part of a block.
     for size in [266 * 2048, 263 * 2048, 263 * 2048 + 77] {
@@ -139,6 +122,15 @@ fn gets_it_once(rt: &HostRuntime, image: &str, size: usize) -> Result<bool, Fail
     Ok(reports(rt, &["get", image, "/a"], b"", (0, b"hello", b"")))
 }
 
+/// Whether bytes that are sent in pieces come as they are, and so many frames end in them.
+fn has_frames(rt: &HostRuntime, bytes: &[u8], size: usize, count: u64) -> Result<bool, Fail> {
+    let (mut near, mut far) = UnixStream::pair(rt)?;
+    let sent = send_frames(rt.alloc(), &mut near, &mut Pieces { bytes, size })?;
+    let mut came = Vec::new(rt.alloc());
+    let answered = copy_answers(rt.alloc(), &mut far, &mut came)?;
+    Ok(sent == count && answered == count && came.as_slice() == bytes)
+}
+
 #[test]
 fn frames_that_end_are_counted(rt: HostRuntime) -> Result<(), Fail> {
     // Bytes of a stream, and how many frames end in them.
@@ -154,15 +146,8 @@ fn frames_that_end_are_counted(rt: HostRuntime) -> Result<(), Fail> {
     ];
     for (bytes, count) in rows {
         // All at once, and byte by byte.
-        for size in [bytes.len(), 1] {
-            let (mut near, mut far) = UnixStream::pair(&rt)?;
-            let sent = send_frames(rt.alloc(), &mut near, &mut Pieces { bytes, size })?;
-            assert_eq!(rt; sent, count);
-            let mut came = Vec::new(rt.alloc());
-            let answered = copy_answers(rt.alloc(), &mut far, &mut came)?;
-            assert_eq!(rt; answered, count);
-            assert_eq!(rt; came.as_slice(), bytes);
-        }
+        assert!(rt; has_frames(&rt, bytes, bytes.len(), count)?);
+        assert!(rt; has_frames(&rt, bytes, 1, count)?);
     }
     Ok(())
 }
