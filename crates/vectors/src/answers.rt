@@ -137,18 +137,22 @@ fn data(alloc: Global, words: &[&str]) -> Result<FileData, Trouble> {
 fn names(alloc: Global, words: &[&str]) -> Result<Listing, Trouble> {
     let mut listing = Listing::new(alloc);
     for pair in words.chunks(2) {
-        let [kind, word] = pair else {
-            return Err(Trouble::Line("a kind without a name"));
-        };
+        let listed = listed(alloc, pair)?;
         if listing.names().len() >= 512 {
             return Err(Trouble::Line("too many names"));
         }
-        listing.push(Listed {
-            kind: kind_of(kind)?,
-            name: name_of(alloc, word)?,
-        })?;
+        listing.push(listed)?;
     }
     Ok(listing)
+}
+
+fn listed(alloc: Global, pair: &[&str]) -> Result<Listed, Trouble> {
+    let [kind, word] = pair else {
+        return Err(Trouble::Line("a kind without a name"));
+    };
+    let kind = kind_of(kind)?;
+    let name = name_of(alloc, word)?;
+    Ok(Listed { kind, name })
 }
 
 fn name_of(alloc: Global, word: &str) -> Result<Name, Trouble> {

@@ -17,16 +17,29 @@ pub fn directory(alloc: Global, bytes: &[u8], words: &[&str]) -> Result<String, 
     let [first, size] = words else {
         return Err(NO_QUESTION);
     };
-    let (first, size) = (number(first)?, number(size)?);
+    directory_at(alloc, bytes, number(first)?, number(size)?)
+}
+
+fn directory_at(alloc: Global, bytes: &[u8], first: u32, size: u32) -> Result<String, Trouble> {
     let blocks = blocks_of(alloc, bytes)?;
-    let dir = match read(alloc, &blocks, first, size)? {
-        Ok(dir) => dir,
-        Err(number) => return fault(alloc, number),
-    };
-    if size_of(&dir) != Some(size) || !lays(alloc, &dir, first, &blocks)? {
+    match read(alloc, &blocks, first, size)? {
+        Ok(dir) => told_if_laid(alloc, &dir, first, size, &blocks),
+        Err(number) => fault(alloc, number),
+    }
+}
+
+/// What a directory says that must be laid as these blocks.
+fn told_if_laid(
+    alloc: Global,
+    dir: &Dir,
+    first: u32,
+    size: u32,
+    blocks: &[Block],
+) -> Result<String, Trouble> {
+    if size_of(dir) != Some(size) || !lays(alloc, dir, first, blocks)? {
         return words_of(alloc, "laid otherwise");
     }
-    told(alloc, &dir)
+    told(alloc, dir)
 }
 
 fn told(alloc: Global, dir: &Dir) -> Result<String, Trouble> {

@@ -44,7 +44,12 @@ fn tell_entry(entry: &FileEntry<'_>, out: &mut String) -> Result<(), Trouble> {
         "{kind} links {} unique {} moment {moment} size {} ",
         entry.links, entry.unique, entry.size
     )?;
-    match entry.place {
+    tell_place(&entry.place, out)
+}
+
+/// Where the data of a file entry lies.
+fn tell_place(place: &Place<'_>, out: &mut String) -> Result<(), Trouble> {
+    match *place {
         Place::None => out.push_str("nowhere")?,
         Place::Extent(first) => write!(out, "extent {first}")?,
         Place::Inside(bytes) => {

@@ -111,14 +111,19 @@ fn tell_frames(frames: &mut Frames, out: &mut String) -> Result<(), Trouble> {
         let Some(message) = frames.first() else {
             break;
         };
-        if !out.is_empty() {
-            out.push_str(" ; ")?;
-        }
-        tell(&message, out)?;
+        tell_next(&message, out)?;
         drop(message);
         frames.skip();
     }
     Ok(())
+}
+
+/// A message after those that are told.
+fn tell_next(message: &Message<'_>, out: &mut String) -> Result<(), Trouble> {
+    if !out.is_empty() {
+        out.push_str(" ; ")?;
+    }
+    tell(message, out)
 }
 
 /// The names of a path by its text.

@@ -18,7 +18,10 @@ pub fn tag(alloc: Global, bytes: &[u8], words: &[&str]) -> Result<String, Troubl
     let [id, location] = words else {
         return Err(NO_QUESTION);
     };
-    let (id, location) = (number(id)?, number(location)?);
+    tag_with(alloc, bytes, number(id)?, number(location)?)
+}
+
+fn tag_with(alloc: Global, bytes: &[u8], id: u16, location: u32) -> Result<String, Trouble> {
     let tag = match open_tag(bytes, id, location) {
         Ok(tag) => tag,
         Err(found) => return fault(alloc, found.number()),

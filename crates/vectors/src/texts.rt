@@ -100,10 +100,16 @@ fn in_dstring(alloc: Global, words: &[&str]) -> Result<String, Trouble> {
     let [room, words @ ..] = words else {
         return Err(Trouble::Line("no room"));
     };
+    let room = number(room)?;
     let text = text_of(alloc, words)?;
+    in_field(alloc, &text, room)
+}
+
+/// A text in a dstring of so many bytes, from 1 to 256.
+fn in_field(alloc: Global, text: &str, room: usize) -> Result<String, Trouble> {
     let mut field = [7u8; 256];
-    let size = number::<usize>(room)?.min(256).max(1);
-    let written = dstring_write(&text, &mut field[..size]);
+    let size = room.min(256).max(1);
+    let written = dstring_write(text, &mut field[..size]);
     match written {
         Ok(()) => shown(alloc, &field[..size]),
         Err(found) if field.iter().all(|byte| *byte == 7) => fault(alloc, found.number()),
@@ -162,11 +168,15 @@ pub fn set_identifier(alloc: Global, bytes: &[u8]) -> Result<String, Trouble> {
     if bytes.is_empty() || bytes.len() > 256 {
         return Err(Trouble::Line("no dstring is so long"));
     }
-    let text = match dstring_read(alloc, bytes) {
-        Ok(text) => text,
-        Err(found) => return fault(alloc, found.number()),
-    };
-    let Some((digits, text)) = text.as_str().split_at_checked(16) else {
+    match dstring_read(alloc, bytes) {
+        Ok(text) => label_after_digits(alloc, &text, bytes),
+        Err(found) => fault(alloc, found.number()),
+    }
+}
+
+/// The label in the text of a volume set identifier, which must be spelled in these bytes.
+fn label_after_digits(alloc: Global, text: &str, bytes: &[u8]) -> Result<String, Trouble> {
+    let Some((digits, text)) = text.split_at_checked(16) else {
         return words_of(alloc, "none");
     };
     if digits != "0123456789abcdef" {

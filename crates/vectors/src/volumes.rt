@@ -124,8 +124,13 @@ pub fn states(alloc: Global, medium: &Medium, words: &[&str]) -> Result<String, 
     if alone(alloc, &mut drive, ats)? != shared {
         return words_of(alloc, "another state alone");
     }
+    let count = words.len().min(3);
+    all_told(alloc, &shared[..count])
+}
+
+fn all_told(alloc: Global, states: &[Told]) -> Result<String, Trouble> {
     let mut text = String::new(alloc);
-    for told in shared.iter().take(words.len()) {
+    for told in states {
         if !text.is_empty() {
             text.push_str(" ; ")?;
         }
