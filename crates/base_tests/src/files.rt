@@ -36,11 +36,27 @@ fn play_opened(
     play(rt, &mut drive, steps)
 }
 
+/// Makes an image of so many bytes.
+fn make(rt: &HostRuntime, path: &str, size: u64) -> Result<(), Fail> {
+    create_image(rt, path)?.set_len(size)?;
+    Ok(())
+}
+
+/// Whether an image can be opened.
+fn is_opened(rt: &HostRuntime, path: &str, capacity: u32) -> bool {
+    FileDrive::open(rt, path, capacity).is_ok()
+}
+
+/// Whether an image can be opened to be read.
+fn is_read(rt: &HostRuntime, path: &str, capacity: u32) -> bool {
+    FileDrive::open_to_read(rt, path, capacity).is_ok()
+}
+
 /// Whether a path is refused that is opened, opened to be read, and made an image.
 fn refused(rt: &HostRuntime, path: &str, capacity: u32) -> (bool, bool, bool) {
     (
-        FileDrive::open(rt, path, capacity).is_err(),
-        FileDrive::open_to_read(rt, path, capacity).is_err(),
+        !is_opened(rt, path, capacity),
+        !is_read(rt, path, capacity),
         FileDrive::create(rt, path, capacity).is_err(),
     )
 }
@@ -98,7 +114,7 @@ fn a_run_lies_in_one_piece(rt: HostRuntime) -> Result<(), Fail> {
 /// A new image of one block, by the number of a descriptor.
 fn by_number(rt: &HostRuntime, path: &str) -> Result<FileDrive, Fail> {
     let _ = fs::remove_file(rt, path);
-    create_image(rt, path)?.set_len(2048)?;
+    make(rt, path, 2048)?;
     let file = open_image(rt, path)?;
     Ok(FileDrive::over_number(file.into_raw_fd(), 10)?)
 }
@@ -110,15 +126,19 @@ const NUMBERED: [Step<'static>; 4] = [
     Step::File("number.img", 4096, &[(2048, 7)]),
 ];
 
+/// Whether another writer is refused, by the path or by a number, while a new image is held by the number of a descriptor.
+fn is_held(rt: &HostRuntime, path: &str) -> Result<bool, Fail> {
+    let mut drive = by_number(rt, path)?;
+    let is_held = !is_opened(rt, path, 10) && number_is_refused(open_image(rt, path)?, 10);
+    play(rt, &mut drive, &NUMBERED)?;
+    Ok(is_held)
+}
+
 /// An image by the number of a descriptor is held like another.
 #[test]
 fn a_descriptor_is_an_image_by_its_number(rt: HostRuntime) -> Result<(), Fail> {
     let path = "number.img";
-    let mut drive = by_number(&rt, path)?;
-    assert!(rt; FileDrive::open(&rt, path, 10).is_err(), "it is held");
-    assert!(rt; number_is_refused(open_image(&rt, path)?, 10));
-    play(&rt, &mut drive, &NUMBERED)?;
-    drop(drive);
+    assert!(rt; is_held(&rt, path)?);
     assert!(rt; refuses_numbers(&rt, path)?);
     play_opened(&rt, path, 10, &REFUSED_NUMBERS)
 }
@@ -172,7 +192,7 @@ fn a_file_that_shrank_is_a_fault(rt: HostRuntime) -> Result<(), Fail> {
 
 /// A new image of one block that is open for reading, as if it could be written.
 fn read_only(rt: &HostRuntime, path: &str) -> Result<FileDrive, Fail> {
-    create_image(rt, path)?.set_len(2048)?;
+    make(rt, path, 2048)?;
     Ok(FileDrive::over(File::open(rt, path)?, 10)?)
 }
 
@@ -213,12 +233,8 @@ fn no_block_of_a_file_is_written_twice(rt: HostRuntime) -> Result<(), Fail> {
 fn a_missing_file_is_not_opened(rt: HostRuntime) {
     let path = "missing.img";
     let _ = fs::remove_file(&rt, path);
-    let (open, read, file) = (
-        FileDrive::open(&rt, path, 10).is_err(),
-        FileDrive::open_to_read(&rt, path, 10).is_err(),
-        open_image(&rt, path).is_err(),
-    );
-    assert_eq!(rt; (open, read, file), (true, true, true));
+    assert!(rt; !is_opened(&rt, path, 10) && !is_read(&rt, path, 10));
+    assert!(rt; open_image(&rt, path).is_err());
 }
 
 /// One that is there is not made anew, and has no name any more once it is removed.
@@ -231,9 +247,9 @@ const NAMELESS: [Step<'static>; 3] = [
 #[test]
 fn a_file_is_opened_within_its_capacity(rt: HostRuntime) -> Result<(), Fail> {
     let path = "within.img";
-    create_image(&rt, path)?.set_len(3 * 2048)?;
+    make(&rt, path, 3 * 2048)?;
     assert_eq!(rt; refused(&rt, path, 2), (true, true, true), "it is longer");
-    assert!(rt; FileDrive::open(&rt, path, 3).is_ok());
+    assert!(rt; is_opened(&rt, path, 3));
     play_created(&rt, path, 3, &NAMELESS)
 }
 
@@ -281,16 +297,26 @@ const NOBODY_HOLDS: [Step<'static>; 2] = [
     Step::Remove("one_writer.img"),
 ];
 
+/// Reads what the first writer wrote, which then writes a block more.
+fn read_beside(rt: &HostRuntime, path: &str, writer: &mut FileDrive) -> Result<(), Fail> {
+    let mut reader = FileDrive::open_to_read(rt, path, 10)?;
+    play(rt, writer, &SECOND_BLOCK)?;
+    play(rt, &mut reader, &READER)
+}
+
+/// Whether another writer is refused, and a reader is not, while the first writer holds the file.
+fn is_refused_beside(rt: &HostRuntime, path: &str) -> Result<bool, Fail> {
+    let mut writer = FileDrive::create(rt, path, 10)?;
+    play(rt, &mut writer, &FIRST_WRITER)?;
+    let is_refused = refused(rt, path, 10) == (true, false, true);
+    read_beside(rt, path, &mut writer)?;
+    Ok(is_refused)
+}
+
 #[test]
 fn a_file_has_one_writer(rt: HostRuntime) -> Result<(), Fail> {
     let path = "one_writer.img";
     let _ = fs::remove_file(&rt, path);
-    let mut drive = FileDrive::create(&rt, path, 10)?;
-    play(&rt, &mut drive, &FIRST_WRITER)?;
-    assert_eq!(rt; refused(&rt, path, 10), (true, false, true));
-    let mut reader = FileDrive::open_to_read(&rt, path, 10)?;
-    play(&rt, &mut drive, &SECOND_BLOCK)?;
-    play(&rt, &mut reader, &READER)?;
-    drop(drive);
+    assert!(rt; is_refused_beside(&rt, path)?);
     play_opened(&rt, path, 10, &NOBODY_HOLDS)
 }

@@ -1,7 +1,7 @@
 //! Media in memory and over files: images by their paths, which are taken out and put back.
 
 use crate::steps::{block, holds};
-use drive::{Drive, DriveFault, Fault};
+use drive::{Block, Drive, DriveFault, Fault};
 use media::{FileMedia, Media, MemMedia};
 use std::fs;
 use std::test::Fail;
@@ -149,17 +149,22 @@ fn files_are_images(rt: HostRuntime) -> Result<(), Fail> {
     Ok(())
 }
 
+/// How many bytes an image has after its last whole block, which are read.
+fn part_of<M: Media>(media: &mut M, path: &str, into: &mut Block) -> Result<usize, DriveFault> {
+    let drive = media.open(path, 10)?;
+    let count = media.part(path, &drive, into);
+    media.put_back(path, drive);
+    count
+}
+
 /// Bytes after the last whole block are no block, and are shown.
 #[test]
 fn a_part_of_a_block_is_shown(rt: HostRuntime) -> Result<(), Fail> {
     let path = "media_part.img";
     fs::write(&rt, path, [5; 2051])?;
     let mut media = FileMedia::new(&rt);
-    let drive = media.open(path, 10)?;
     let mut part = block(0);
-    let count = media.part(path, &drive, &mut part);
-    media.put_back(path, drive);
-    assert_eq!(rt; count, Ok(3));
+    assert_eq!(rt; part_of(&mut media, path, &mut part), Ok(3));
     assert_eq!(rt; (part[0], part[2], part[3]), (5, 5, 0));
     assert_eq!(rt;
         failing(&mut media, &[Step::Count(path, 10, Some(1))]),

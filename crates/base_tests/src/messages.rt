@@ -2,7 +2,7 @@
 //! any cut, and the answers.
 
 use request::{Code, Frames, Message, PathFault, Query, read_payload};
-use std::alloc::Global;
+use std::alloc::{AllocError, Global};
 use std::process::Abort;
 use std::test::Fail;
 
@@ -24,7 +24,12 @@ fn cause_of(message: &Message<'_>) -> Option<u16> {
     }
 }
 
-/// The same of a kind with no field after it, or with the first byte of one.
+/// The same of the message in a payload.
+fn cause_in(alloc: Global, payload: &[u8]) -> Option<u16> {
+    cause_of(&read_payload(alloc, payload))
+}
+
+/// The number that is wanted of a kind with no field after it, or with the first byte of one.
 fn cause_wanted(payload: &[u8]) -> u16 {
     match payload {
         [16..=18, 0] => 0,
@@ -34,9 +39,8 @@ fn cause_wanted(payload: &[u8]) -> u16 {
 }
 
 fn check_payload(rt: &impl Abort, alloc: Global, payload: &[u8]) {
-    let message = read_payload(alloc, payload);
     assert_eq!(rt;
-        cause_of(&message),
+        cause_in(alloc, payload),
         Some(cause_wanted(payload)),
         "{payload:?}"
     );
@@ -52,22 +56,32 @@ fn payloads_of_one_and_two_bytes(rt: HostRuntime) {
     }
 }
 
+/// Whether no message is whole.
+pub(crate) fn is_silent(frames: &Frames) -> bool {
+    frames.first().is_none()
+}
+
 /// Whether the next message asks for the names of the root.
 fn first_is_list(frames: &Frames) -> bool {
     let first = frames.first();
     matches!(&first, Some(Message::Query(Query::List(path))) if path.names().is_empty())
 }
 
-#[test]
-fn a_message_is_held_until_it_is_let_go(rt: HostRuntime) -> Result<(), Fail> {
-    let mut frames = Frames::new(rt.alloc());
+/// The bytes of a query in two pieces. Where no message is whole there is nothing to let go.
+fn feed_in_two(frames: &mut Frames) -> Result<(), AllocError> {
     frames.skip();
     frames.feed(&[2, 0, 0])?;
     frames.skip();
-    frames.feed(&[0, 0x11, 0])?;
+    frames.feed(&[0, 0x11, 0])
+}
+
+#[test]
+fn a_message_is_held_until_it_is_let_go(rt: HostRuntime) -> Result<(), Fail> {
+    let mut frames = Frames::new(rt.alloc());
+    feed_in_two(&mut frames)?;
     assert!(rt; first_is_list(&frames) && first_is_list(&frames));
     frames.skip();
-    assert!(rt; frames.first().is_none());
+    assert!(rt; is_silent(&frames));
     Ok(())
 }
 

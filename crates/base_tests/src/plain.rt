@@ -181,15 +181,19 @@ const MOVED: [(&str, &str, u64, u64); 3] = [
     ("e/d", "x", 16, 3),
 ];
 
+fn check_moved(rt: &impl Abort, alloc: Global, state: &State) {
+    for (at, listed, identity, moment) in MOVED {
+        let node = node(rt, alloc, state, at);
+        assert!(rt; is_directory_of(node, &[listed]), "at {at}");
+        assert_eq!(rt; numbers_of(node), Some((identity, moment)), "at {at}");
+    }
+}
+
 #[test]
 fn a_directory_moves_with_all_below_it(rt: HostRuntime) {
     let alloc = rt.alloc();
     let state = volume_after(&rt, alloc, &MOVE);
-    for (at, listed, identity, moment) in MOVED {
-        let node = node(&rt, alloc, &state, at);
-        assert!(rt; is_directory_of(node, &[listed]), "at {at}");
-        assert_eq!(rt; numbers_of(node), Some((identity, moment)), "at {at}");
-    }
+    check_moved(&rt, alloc, &state);
     for at in ["d", "d/x"] {
         assert!(rt; node(&rt, alloc, &state, at).is_none(), "at {at}");
     }
