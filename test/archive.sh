@@ -43,6 +43,10 @@ cd "$home" || exit 1
 # A Linux kernel that reads UDF: this machine's, else Debian's in a machine of QEMU, as in test/readers.sh.
 room=$(mktemp -d) || exit 1
 trap 'rm -rf "$output" "$room"' EXIT
+# The tests start the client some thousand times. From a copy that is compiled once this takes half the processor time.
+PACKAGE=$room/python
+export PACKAGE
+mkdir "$PACKAGE" && cp -R "$home/../clients/python/udfburn" "$PACKAGE" && "$python" -m compileall -q "$PACKAGE" || exit 1
 kernel() {
     ./packages.sh --lists > "$room/apt.log" 2>&1
     package=$(apt-cache depends linux-image-cloud-amd64 | sed -n 's/.*Depends: \(linux-image-[0-9].*\)/\1/p' | head -n 1)

@@ -30,10 +30,16 @@ if [ -z "${TMPDIR:-}" ] && [ -w /dev/shm ] && [ "${free:-0}" -gt 1000000 ]; then
     export TMPDIR
 fi
 
-output=$(mktemp) || exit 1
-trap 'rm -f "$output"' EXIT
+room=$(mktemp -d) || exit 1
+trap 'rm -rf "$room"' EXIT
 trap 'exit 1' HUP INT PIPE TERM
-cd "$here/clients/python" || exit 1
+output=$room/output
+# The tests start the client some hundred times. From a copy that is compiled once this takes half the processor time, and the
+# folder of the client stays as it is.
+mkdir "$room/clients" && cp -R "$here/clients/python" "$room/clients/python" || exit 1
+ln -s "$here/crates" "$here/docs" "$room" || exit 1
+cd "$room/clients/python" || exit 1
+"${PYTHON:-python3}" -m compileall -q . || exit 1
 # A user's own ledger and compiled files are left alone.
 status=0
 UDFBURN_LEDGER=/nonexistent/ledger UDFBURN_SOCKET='' PYTHONDONTWRITEBYTECODE=1 PYTHONUTF8=1 \

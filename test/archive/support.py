@@ -20,7 +20,8 @@ from typing import Any, Dict, Iterator, List, Optional, Tuple
 UDFBURN = os.environ.get("UDFBURN", "")
 LARGE = bool(os.environ.get("LARGE"))
 HERE = os.path.dirname(os.path.abspath(__file__))
-PACKAGE = os.path.abspath(os.path.join(HERE, "..", "..", "clients", "python"))
+# The folder of the client; test/archive.sh gives a copy of it that is compiled.
+PACKAGE = os.environ.get("PACKAGE") or os.path.abspath(os.path.join(HERE, "..", "..", "clients", "python"))
 PATIENCE = 600.0
 """Seconds after which what did not come counts as missing."""
 

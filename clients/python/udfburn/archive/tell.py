@@ -40,7 +40,7 @@ class Tell(Progress):
 
     def _count(self, what: str) -> None:
         now = time.monotonic()
-        if now - self.shown >= 0.1:
+        if self.done_files == 1 or now - self.shown >= 0.1:
             self.shown = now
             seconds = max(now - self.began, 1e-6)
             line = f"{what}: {plural(self.done_files, 'file', 'files')}, {size(self.done_bytes)}, {size(self.done_bytes / seconds)}/s"
