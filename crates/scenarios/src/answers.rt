@@ -51,26 +51,49 @@ fn tell_payload(payload: &[u8], out: &mut String) -> Result<(), Trouble> {
         _ => (u16::MAX, payload),
     };
     match (code, body.len()) {
-        (0..=10, 4) => write!(out, "code {code} commit {}", little(body))?,
-        (32, 8) => write!(out, "stale {}", little(body))?,
-        (33, 8) => write!(out, "gap {}", little(body))?,
-        (38, 2) => write!(out, "malformed {}", little(body))?,
-        (34, 0) => out.push_str("clients full")?,
-        (35, 0) => out.push_str("full")?,
-        (36, 0) => out.push_str("failed")?,
-        (37, 0) => out.push_str("no memory")?,
-        (39, 0) => out.push_str("damaged")?,
-        (96, 0) => out.push_str("not found")?,
-        (97, 0) => out.push_str("is directory")?,
-        (98, 0) => out.push_str("not directory")?,
-        (64, 4..) => return tell_data(body, out),
-        (65, 2..) => return tell_names(body, out),
-        (66, 17) => return tell_node(body, out),
-        _ => {
-            out.push_str("no answer ")?;
-            show_bytes(payload, out)?;
-        }
+        (_, 0) => tell_code(code, payload, out),
+        (0..=10, 4) => tell_reply(code, little(body), out),
+        (32, 8) => tell_number("stale", little(body), out),
+        (33, 8) => tell_number("gap", little(body), out),
+        (38, 2) => tell_number("malformed", little(body), out),
+        (64, 4..) => tell_data(body, out),
+        (65, 2..) => tell_names(body, out),
+        (66, 17) => tell_node(body, out),
+        _ => tell_other(payload, out),
     }
+}
+
+/// An answer of a code alone.
+fn tell_code(code: u16, payload: &[u8], out: &mut String) -> Result<(), Trouble> {
+    let word = match code {
+        34 => "clients full",
+        35 => "full",
+        36 => "failed",
+        37 => "no memory",
+        39 => "damaged",
+        96 => "not found",
+        97 => "is directory",
+        98 => "not directory",
+        _ => return tell_other(payload, out),
+    };
+    out.push_str(word)?;
+    Ok(())
+}
+
+fn tell_reply(code: u16, commit: u64, out: &mut String) -> Result<(), Trouble> {
+    write!(out, "code {code} commit {commit}")?;
+    Ok(())
+}
+
+fn tell_number(word: &str, number: u64, out: &mut String) -> Result<(), Trouble> {
+    write!(out, "{word} {number}")?;
+    Ok(())
+}
+
+/// The bytes of what is no answer.
+fn tell_other(payload: &[u8], out: &mut String) -> Result<(), Trouble> {
+    out.push_str("no answer ")?;
+    show_bytes(payload, out)?;
     Ok(())
 }
 
@@ -90,17 +113,9 @@ fn tell_names(body: &[u8], out: &mut String) -> Result<(), Trouble> {
     write!(out, "names {}", little(count))?;
     let mut rest = names;
     for _ in 0..little(count) {
-        let Some((head, later)) = rest.split_first_chunk::<3>() else {
+        let Some(after) = tell_name(rest, out)? else {
             break;
         };
-        let [kind, low, high] = *head;
-        let length = usize::from(u16::from_le_bytes([low, high]));
-        let (name, after) = later.split_at(later.len().min(length));
-        let letter = if kind == 0 { 'f' } else { 'd' };
-        write!(out, " {letter} ")?;
-        for byte in name {
-            out.push(char::from(*byte))?;
-        }
         rest = after;
     }
     if !rest.is_empty() {
@@ -108,6 +123,21 @@ fn tell_names(body: &[u8], out: &mut String) -> Result<(), Trouble> {
         show_bytes(rest, out)?;
     }
     Ok(())
+}
+
+/// The first name, and what is after it.
+fn tell_name<'b>(names: &'b [u8], out: &mut String) -> Result<Option<&'b [u8]>, Trouble> {
+    let Some((head, later)) = names.split_first_chunk::<3>() else {
+        return Ok(None);
+    };
+    let [kind, low, high] = *head;
+    let length = usize::from(u16::from_le_bytes([low, high]));
+    let (name, after) = later.split_at(later.len().min(length));
+    out.push_str(if kind == 0 { " f " } else { " d " })?;
+    for byte in name {
+        out.push(char::from(*byte))?;
+    }
+    Ok(Some(after))
 }
 
 /// The kind of a node, its bytes or names, and its moment.

@@ -129,16 +129,22 @@ fn names_text(
 ) -> Result<(), Trouble> {
     write!(text, "names {}", below.len())?;
     for name in below {
-        let mut path = Vec::new(alloc);
-        for above in &entry.path {
-            path.push(above.clone()?)?;
-        }
-        path.push(name.clone()?)?;
+        let path = path_below(alloc, &entry.path, name)?;
         let is_directory = state.node(&path).is_some_and(Node::is_directory);
         let letter = if is_directory { 'd' } else { 'f' };
         write!(text, " {letter} {name}")?;
     }
     Ok(())
+}
+
+/// The path of a name in a directory.
+fn path_below(alloc: Global, directory: &[String], name: &String) -> Result<Vec<String>, Trouble> {
+    let mut path = Vec::new(alloc);
+    for above in directory {
+        path.push(above.clone()?)?;
+    }
+    path.push(name.clone()?)?;
+    Ok(path)
 }
 
 /// The sessions of a state: the next unique ID, the count of commits, and for each client itself, its latest number, and of

@@ -12,18 +12,37 @@ use words::{number, read_word};
 /// a VAT ICB at the block number 5, or `imitations:3` for those at 5, 7 and 9.
 pub fn read_bytes(words: &[&str], into: &mut Vec<u8>) -> Result<(), Trouble> {
     for word in words {
-        if let Some(fields) = word.strip_prefix("entry:") {
-            into.extend_from_slice(&read_entry(fields)?)?;
-        } else if let Some(blocks) = word.strip_prefix("imitations:") {
-            for index in 0..number::<u32>(blocks)?.min(512) {
-                into.extend_from_slice(&entry(Kind::Vat, [0, 0, 204, 0, 2 * index + 5])?)?;
-            }
-        } else if let Some(block) = word.strip_prefix("imitation:") {
-            into.extend_from_slice(&entry(Kind::Vat, [0, 0, 204, 0, number(block)?])?)?;
-        } else {
-            read_word(word, into)?;
-        }
+        read_one(word, into)?;
     }
+    Ok(())
+}
+
+fn read_one(word: &str, into: &mut Vec<u8>) -> Result<(), Trouble> {
+    if let Some(fields) = word.strip_prefix("entry:") {
+        into.extend_from_slice(&read_entry(fields)?)?;
+        return Ok(());
+    }
+    if let Some(blocks) = word.strip_prefix("imitations:") {
+        return put_imitations(number(blocks)?, into);
+    }
+    if let Some(block) = word.strip_prefix("imitation:") {
+        return put_imitation(number(block)?, into);
+    }
+    Ok(read_word(word, into)?)
+}
+
+/// Appends so many VAT ICBs, at most 512, at the block numbers 5, 7 and so on.
+fn put_imitations(blocks: u32, into: &mut Vec<u8>) -> Result<(), Trouble> {
+    for index in 0..blocks.min(512) {
+        put_imitation(2 * index + 5, into)?;
+    }
+    Ok(())
+}
+
+/// Appends a VAT ICB at a block number.
+fn put_imitation(block: u32, into: &mut Vec<u8>) -> Result<(), Trouble> {
+    let imitation = entry(Kind::Vat, [0, 0, 204, 0, block])?;
+    into.extend_from_slice(&imitation)?;
     Ok(())
 }
 

@@ -36,24 +36,16 @@ impl Change {
         let [client, order, path, rest @ ..] = words else {
             return Err(Trouble::Line("no request"));
         };
-        let (client, moment) = match client.split_once("@") {
-            Some((client, moment)) => (number(client)?, number(moment)?),
-            None => (number(client)?, 0),
-        };
-        let mut to = Vec::new(alloc);
-        let mut bytes = Vec::new(alloc);
-        match (action, rest) {
-            (Action::Create | Action::Replace, _) => read_bytes(rest, &mut bytes)?,
-            (Action::Rename, [path]) => to = read_path(alloc, path)?,
-            (Action::Make | Action::Remove, []) => {}
-            _ => return Err(Trouble::Line("no request")),
-        }
+        let (client, moment) = read_client(client)?;
+        let number = number(order)?;
+        let path = read_path(alloc, path)?;
+        let (to, bytes) = read_rest(alloc, action, rest)?;
         Ok(Change {
             action,
             client,
-            number: number(order)?,
+            number,
             moment,
-            path: read_path(alloc, path)?,
+            path,
             to,
             bytes,
         })
@@ -104,6 +96,30 @@ impl Change {
             operation,
         }
     }
+}
+
+/// The client and the moment.
+fn read_client(word: &str) -> Result<(u64, u64), Trouble> {
+    match word.split_once("@") {
+        Some((client, moment)) => Ok((number(client)?, number(moment)?)),
+        None => Ok((number(word)?, 0)),
+    }
+}
+
+/// The new path of a rename, or the bytes of a create and a replace.
+fn read_rest(
+    alloc: Global,
+    action: Action,
+    words: &[&str],
+) -> Result<(Vec<String>, Vec<u8>), Trouble> {
+    let mut bytes = Vec::new(alloc);
+    match (action, words) {
+        (Action::Create | Action::Replace, _) => read_bytes(words, &mut bytes)?,
+        (Action::Rename, [path]) => return Ok((read_path(alloc, path)?, bytes)),
+        (Action::Make | Action::Remove, []) => {}
+        _ => return Err(Trouble::Line("no request")),
+    }
+    Ok((Vec::new(alloc), bytes))
 }
 
 /// The names of a path after the root's `/`. `n*16` is sixteen names `n`.

@@ -32,7 +32,28 @@ struct Counts {
     failed: u64,
 }
 
-/// Plays the scenarios of a script, each from nothing.
+/// Plays the scenario that begins with a line, from nothing, and prints how it went. It says whether all went as its lines want.
+fn play_scenario<R: Print + AllocGlobal>(
+    rt: &R,
+    name: &str,
+    script: &Script,
+    index: usize,
+    scenario: &str,
+) -> io::Result<bool> {
+    let mut stage = Stage::new(rt.alloc(), script);
+    match stage.play(index) {
+        Ok(()) => {
+            println!(rt; "ok {scenario}")?;
+            Ok(true)
+        }
+        Err(failure) => {
+            println!(rt; "FAILED {scenario}: {name} line {failure}")?;
+            Ok(false)
+        }
+    }
+}
+
+/// Plays the scenarios of a script.
 fn play_script<R: Print + AllocGlobal>(
     rt: &R,
     name: &str,
@@ -45,16 +66,10 @@ fn play_script<R: Print + AllocGlobal>(
         let Some(scenario) = script.scenario_at(index) else {
             continue;
         };
-        let mut stage = Stage::new(rt.alloc(), &script);
-        match stage.play(index) {
-            Ok(()) => {
-                println!(rt; "ok {scenario}")?;
-                counts.passed = counts.passed.saturating_add(1);
-            }
-            Err(failure) => {
-                println!(rt; "FAILED {scenario}: {name} line {failure}")?;
-                counts.failed = counts.failed.saturating_add(1);
-            }
+        if play_scenario(rt, name, &script, index, scenario)? {
+            counts.passed = counts.passed.saturating_add(1);
+        } else {
+            counts.failed = counts.failed.saturating_add(1);
         }
     }
     Ok(counts)

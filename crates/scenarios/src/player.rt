@@ -76,12 +76,7 @@ impl Player {
         match step {
             MediumStep::Blank(capacity) => self.machine = Machine::blank(self.alloc, capacity),
             MediumStep::Format { label, moment } => self.machine.format(label, moment)?,
-            MediumStep::Keep(name) => {
-                let machine = self.machine.front(usize::MAX)?;
-                self.kept.retain(|kept| kept.name.as_str() != name);
-                let name = String::from_str(self.alloc, name)?;
-                self.kept.push(Kept { name, machine })?;
-            }
+            MediumStep::Keep(name) => self.keep(name)?,
             MediumStep::Load { name, blocks } => {
                 self.machine = self.kept_as(name)?.front(blocks)?;
             }
@@ -95,11 +90,24 @@ impl Player {
             MediumStep::Restart => self.machine.restart(),
             MediumStep::Open => self.machine.open()?,
             MediumStep::AsOf(commit) => return self.hold(commit),
-            MediumStep::Same(name) => {
-                if self.kept_as(name)?.journal() != self.machine.journal() {
-                    return Ok(String::from_str(self.alloc, "another medium")?);
-                }
-            }
+            MediumStep::Same(name) => return self.compare(name),
+        }
+        self.done()
+    }
+
+    /// Keeps the medium under a name.
+    fn keep(&mut self, name: &str) -> Result<(), Trouble> {
+        let machine = self.machine.front(usize::MAX)?;
+        self.kept.retain(|kept| kept.name.as_str() != name);
+        let name = String::from_str(self.alloc, name)?;
+        self.kept.push(Kept { name, machine })?;
+        Ok(())
+    }
+
+    /// Whether the medium is the one that is kept under a name.
+    fn compare(&self, name: &str) -> Result<String, Trouble> {
+        if self.kept_as(name)?.journal() != self.machine.journal() {
+            return Ok(String::from_str(self.alloc, "another medium")?);
         }
         self.done()
     }
@@ -150,36 +158,40 @@ impl Player {
     }
 
     fn look(&mut self, look: Look) -> Result<String, Trouble> {
-        let mut text = String::new(self.alloc);
         match look {
-            Look::Blocks => write!(text, "{}", self.machine.blocks())?,
-            Look::Block(block) => self.show(block, 0, 2048, &mut text)?,
-            Look::Bytes { block, from, count } => self.show(block, from, count, &mut text)?,
-            Look::Crc { from, until } => write!(text, "{:04X}", self.crc_of(from, until)?)?,
-            Look::MostHeld => write!(text, "{}", self.machine.most_held()?)?,
-            Look::Log => {
-                for commit in &self.machine.history()? {
-                    let parted = if text.is_empty() { "" } else { ", " };
-                    write!(
-                        text,
-                        "{parted}{} {} {} {}",
-                        commit.commit, commit.vat_icb_address, commit.files, commit.directories
-                    )?;
-                }
+            Look::Blocks => self.number(self.machine.blocks()),
+            Look::Block(block) => self.show(block, 0, 2048),
+            Look::Bytes { block, from, count } => self.show(block, from, count),
+            Look::Crc { from, until } => self.crc_of(from, until),
+            Look::MostHeld => self.number(self.machine.most_held()?),
+            Look::Log => self.log(),
+            Look::Check => {
+                let commits = self.machine.check()?;
+                Ok(format!(in self.alloc; "sound {commits}")?)
             }
-            Look::Check => write!(text, "sound {}", self.machine.check()?)?,
+        }
+    }
+
+    fn number(&self, number: usize) -> Result<String, Trouble> {
+        Ok(format!(in self.alloc; "{number}")?)
+    }
+
+    /// All commits, the newest first.
+    fn log(&mut self) -> Result<String, Trouble> {
+        let mut text = String::new(self.alloc);
+        for commit in &self.machine.history()? {
+            let parted = if text.is_empty() { "" } else { ", " };
+            write!(
+                text,
+                "{parted}{} {} {} {}",
+                commit.commit, commit.vat_icb_address, commit.files, commit.directories
+            )?;
         }
         Ok(text)
     }
 
-    /// Shows some of the bytes of a block.
-    fn show(
-        &self,
-        block: usize,
-        from: usize,
-        count: usize,
-        text: &mut String,
-    ) -> Result<(), Trouble> {
+    /// Some of the bytes of a block.
+    fn show(&self, block: usize, from: usize, count: usize) -> Result<String, Trouble> {
         let (_, bytes) = self
             .machine
             .journal()
@@ -187,12 +199,13 @@ impl Player {
             .ok_or(Trouble::Line("no such block"))?;
         let (_, after) = bytes.split_at(from.min(2048));
         let (shown, _) = after.split_at(count.min(after.len()));
-        show_bytes(shown, text)?;
-        Ok(())
+        let mut text = String::new(self.alloc);
+        show_bytes(shown, &mut text)?;
+        Ok(text)
     }
 
-    /// The check of some blocks.
-    fn crc_of(&self, from: usize, until: usize) -> Result<u16, Trouble> {
+    /// The CRC of some blocks.
+    fn crc_of(&self, from: usize, until: usize) -> Result<String, Trouble> {
         let mut bytes = Vec::new(self.alloc);
         for block in from..until {
             let event = self
@@ -202,7 +215,7 @@ impl Player {
                 .ok_or(Trouble::Line("no such block"))?;
             bytes.extend_from_slice(&event.1)?;
         }
-        Ok(crc(&bytes))
+        Ok(format!(in self.alloc; "{:04X}", crc(&bytes))?)
     }
 
     fn play_beside(&mut self, step: BesideStep) -> Result<String, Trouble> {

@@ -5,7 +5,7 @@ use crate::player::Player;
 use crate::script::Script;
 use crate::steps::read_step;
 use crate::trouble::Trouble;
-use std::alloc::Global;
+use std::alloc::{AllocError, Global};
 use std::fmt;
 use std::fmt::Write;
 use words::{number, show_bytes};
@@ -36,6 +36,20 @@ impl fmt::Display for Failure {
 struct Bound {
     name: String,
     value: String,
+}
+
+impl Bound {
+    fn new(alloc: Global, name: &str, value: &str) -> Result<Bound, AllocError> {
+        let name = String::from_str(alloc, name)?;
+        let value = String::from_str(alloc, value)?;
+        Ok(Bound { name, value })
+    }
+
+    /// Adds a word to the value.
+    fn append(&mut self, word: &str) -> Result<(), AllocError> {
+        self.value.push(' ')?;
+        self.value.push_str(word)
+    }
 }
 
 /// Lines that are played, once for each value of a name, or once where there is none.
@@ -189,47 +203,21 @@ impl<'s> Stage<'s> {
 
     /// Plays the lines after this one once for each value of a name, where `2..5` is 2, 3 and 4.
     fn enter_each(&mut self, at: usize, name: &str, words: &[&str]) -> Result<(), Trouble> {
-        let alloc = self.alloc;
         let end = self.script.end_of_block(at)?;
-        let mut values = Vec::new(alloc);
-        for word in words {
-            match word.split_once("..") {
-                Some((from, until)) => {
-                    for value in number::<u64>(from)?..number::<u64>(until)? {
-                        values.push(format!(in alloc; "{value}")?)?;
-                    }
-                }
-                None => values.push(String::from_str(alloc, word)?)?,
-            }
-        }
-        values.reverse();
+        let mut values = values_of(self.alloc, words)?;
         let Some(value) = values.pop() else {
             return Ok(());
         };
-        let mut bound = Vec::new(alloc);
-        let name = String::from_str(alloc, name)?;
-        bound.push(Bound { name, value })?;
+        let mut bound = Vec::new(self.alloc);
+        bound.push(Bound::new(self.alloc, name, &value)?)?;
         self.enter(at.saturating_add(1), end, bound, values)
     }
 
     /// Plays the lines of a definition, with its names for these words, the last name for all that are left.
     fn enter_definition(&mut self, at: usize, names: &str, words: &[&str]) -> Result<(), Trouble> {
-        let alloc = self.alloc;
         let end = self.script.end_of_block(at)?;
-        let mut bound: Vec<Bound> = Vec::new(alloc);
-        for (index, name) in names.split_whitespace().enumerate() {
-            let word = words.get(index).ok_or(Trouble::Line("too few words"))?;
-            bound.push(Bound {
-                name: String::from_str(alloc, name)?,
-                value: String::from_str(alloc, word)?,
-            })?;
-        }
-        for word in words.iter().skip(bound.len()) {
-            let last = bound.last_mut().ok_or(Trouble::Line("too many words"))?;
-            last.value.push(' ')?;
-            last.value.push_str(word)?;
-        }
-        self.enter(at.saturating_add(1), end, bound, Vec::new(alloc))
+        let bound = bind(self.alloc, names, words)?;
+        self.enter(at.saturating_add(1), end, bound, Vec::new(self.alloc))
     }
 
     /// Plays a step, and holds what it reports beside what is wanted.
@@ -283,14 +271,20 @@ impl<'s> Stage<'s> {
                 .split_once("}")
                 .ok_or(Trouble::Line("no end of a brace"))?;
             expanded.push_str(before)?;
-            match self.value_of(inner) {
-                Some(value) => expanded.push_str(value)?,
-                None => write!(expanded, "{}", self.reckon(inner)?)?,
-            }
+            self.put_value(inner, &mut expanded)?;
             rest = after;
         }
         expanded.push_str(rest)?;
         Ok(expanded)
+    }
+
+    /// Appends the value of what is in braces.
+    fn put_value(&self, text: &str, into: &mut String) -> Result<(), Trouble> {
+        match self.value_of(text) {
+            Some(value) => into.push_str(value)?,
+            None => write!(into, "{}", self.reckon(text)?)?,
+        }
+        Ok(())
     }
 
     /// Numbers and names with ` + `, ` - ` and ` * ` between them, from left to right.
@@ -312,6 +306,42 @@ impl<'s> Stage<'s> {
         }
         Ok(total)
     }
+}
+
+/// The values that the words say, the last one first. `2..5` is 2, 3 and 4.
+fn values_of(alloc: Global, words: &[&str]) -> Result<Vec<String>, Trouble> {
+    let mut values = Vec::new(alloc);
+    for word in words {
+        match word.split_once("..") {
+            Some((from, until)) => push_numbers(number(from)?, number(until)?, &mut values)?,
+            None => values.push(String::from_str(alloc, word)?)?,
+        }
+    }
+    values.reverse();
+    Ok(values)
+}
+
+/// Appends the numbers from one to before another.
+fn push_numbers(from: u64, until: u64, into: &mut Vec<String>) -> Result<(), Trouble> {
+    let alloc = *into.allocator();
+    for value in from..until {
+        into.push(format!(in alloc; "{value}")?)?;
+    }
+    Ok(())
+}
+
+/// The names with a word for each, and with all that are left for the last one.
+fn bind(alloc: Global, names: &str, words: &[&str]) -> Result<Vec<Bound>, Trouble> {
+    let mut bound: Vec<Bound> = Vec::new(alloc);
+    for (index, name) in names.split_whitespace().enumerate() {
+        let word = words.get(index).ok_or(Trouble::Line("too few words"))?;
+        bound.push(Bound::new(alloc, name, word)?)?;
+    }
+    for word in words.iter().skip(bound.len()) {
+        let last = bound.last_mut().ok_or(Trouble::Line("too many words"))?;
+        last.append(word)?;
+    }
+    Ok(bound)
 }
 
 /// What a line wants its step to report.

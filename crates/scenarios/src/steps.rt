@@ -87,6 +87,9 @@ pub enum BesideStep {
     Listed,
 }
 
+/// What is said of a step that is none.
+const NO_STEP: Trouble = Trouble::Line("no such step");
+
 /// The step that the words say.
 pub fn read_step<'w>(alloc: Global, words: &[&'w str]) -> Result<Step<'w>, Trouble> {
     let Some((name, rest)) = words.split_first() else {
@@ -101,30 +104,44 @@ pub fn read_step<'w>(alloc: Global, words: &[&'w str]) -> Result<Step<'w>, Troub
     if let Some(look) = read_look(name, rest)? {
         return Ok(Step::Look(look));
     }
-    match (*name, rest) {
-        ("then", [name, rest @ ..]) => match read_message(alloc, name, rest)? {
-            Some(payload) => Ok(Step::Then(payload)),
-            None => Err(Trouble::Line("no message")),
-        },
+    read_other(alloc, name, rest)
+}
+
+fn read_other<'w>(alloc: Global, name: &str, words: &[&'w str]) -> Result<Step<'w>, Trouble> {
+    match (name, words) {
+        ("then", words) => Ok(Step::Then(read_payload(alloc, words)?)),
         ("later", ["restart"]) => Ok(Step::Later(None)),
-        ("later", [name, rest @ ..]) => match read_message(alloc, name, rest)? {
-            Some(payload) => Ok(Step::Later(Some(payload))),
-            None => Err(Trouble::Line("no message")),
-        },
+        ("later", words) => Ok(Step::Later(Some(read_payload(alloc, words)?))),
         ("run", []) => Ok(Step::Run),
-        ("serve", [first, size, end, room, words @ ..]) => {
-            let mut bytes = Vec::new(alloc);
-            read_bytes(words, &mut bytes)?;
-            Ok(Step::Serve(Stream {
-                bytes,
-                first: number(first)?,
-                size: number(size)?,
-                end: number(end)?,
-                room: number(room)?,
-            }))
-        }
-        (name, rest) => Ok(Step::Medium(read_medium(alloc, name, rest)?)),
+        ("serve", words) => Ok(Step::Serve(read_stream(alloc, words)?)),
+        (name, words) => Ok(Step::Medium(read_medium(alloc, name, words)?)),
     }
+}
+
+/// The payload of a request or a query that must be there.
+fn read_payload(alloc: Global, words: &[&str]) -> Result<Vec<u8>, Trouble> {
+    let payload = match words.split_first() {
+        Some((name, rest)) => read_message(alloc, name, rest)?,
+        None => None,
+    };
+    payload.ok_or(Trouble::Line("no message"))
+}
+
+fn read_stream(alloc: Global, words: &[&str]) -> Result<Stream, Trouble> {
+    let [first, size, end, room, words @ ..] = words else {
+        return Err(NO_STEP);
+    };
+    let (first, size) = (number(first)?, number(size)?);
+    let (end, room) = (number(end)?, number(room)?);
+    let mut bytes = Vec::new(alloc);
+    read_bytes(words, &mut bytes)?;
+    Ok(Stream {
+        bytes,
+        first,
+        size,
+        end,
+        room,
+    })
 }
 
 /// The payload of a request or a query.
@@ -166,36 +183,55 @@ fn read_medium<'w>(
     words: &[&'w str],
 ) -> Result<MediumStep<'w>, Trouble> {
     match (name, words) {
-        ("blank", [capacity]) => Ok(MediumStep::Blank(number(capacity)?)),
-        ("format", [label, moment]) => Ok(MediumStep::Format {
-            label: label.trim_matches('"'),
-            moment: number(moment)?,
-        }),
         ("keep", [name]) => Ok(MediumStep::Keep(name)),
-        ("load", [name]) => Ok(MediumStep::Load {
-            name,
-            blocks: usize::MAX,
-        }),
-        ("load", [name, blocks]) => Ok(MediumStep::Load {
-            name,
-            blocks: number(blocks)?,
-        }),
+        ("same", [name]) => Ok(MediumStep::Same(name)),
+        ("restart", []) => Ok(MediumStep::Restart),
+        ("open", []) => Ok(MediumStep::Open),
+        ("burn", words) => Ok(MediumStep::Burn(read_block(alloc, words)?)),
+        ("format", [label, moment]) => read_format(label, moment),
+        ("load", [name, blocks @ ..]) => read_load(name, blocks),
+        ("fault", [kind, count]) => Ok(MediumStep::Fault(read_fault(kind, count)?)),
+        (name, words) => read_numbered(name, words),
+    }
+}
+
+fn read_format<'w>(label: &'w str, moment: &str) -> Result<MediumStep<'w>, Trouble> {
+    Ok(MediumStep::Format {
+        label: label.trim_matches('"'),
+        moment: number(moment)?,
+    })
+}
+
+fn read_load<'w>(name: &'w str, blocks: &[&str]) -> Result<MediumStep<'w>, Trouble> {
+    let blocks = match blocks {
+        [] => usize::MAX,
+        [blocks] => number(blocks)?,
+        _ => return Err(NO_STEP),
+    };
+    Ok(MediumStep::Load { name, blocks })
+}
+
+fn read_fault(kind: &str, count: &str) -> Result<Fault, Trouble> {
+    let count = number(count)?;
+    match kind {
+        "after" => Ok(Fault::AfterBlocks(count)),
+        "next" => Ok(Fault::Next(count)),
+        "read" => Ok(Fault::Read(count)),
+        _ => Err(NO_STEP),
+    }
+}
+
+/// A step with numbers alone.
+fn read_numbered<'w>(name: &str, words: &[&'w str]) -> Result<MediumStep<'w>, Trouble> {
+    match (name, words) {
+        ("blank", [capacity]) => Ok(MediumStep::Blank(number(capacity)?)),
         ("resize", [capacity]) => Ok(MediumStep::Resize(number(capacity)?)),
+        ("as-of", [commit]) => Ok(MediumStep::AsOf(number(commit)?)),
         ("flip", [block, byte]) => Ok(MediumStep::Flip {
             block: number(block)?,
             byte: number(byte)?,
         }),
-        ("burn", words) => Ok(MediumStep::Burn(read_block(alloc, words)?)),
-        ("fault", ["after", blocks]) => {
-            Ok(MediumStep::Fault(Fault::AfterBlocks(number(blocks)?)))
-        }
-        ("fault", ["next", call]) => Ok(MediumStep::Fault(Fault::Next(number(call)?))),
-        ("fault", ["read", call]) => Ok(MediumStep::Fault(Fault::Read(number(call)?))),
-        ("restart", []) => Ok(MediumStep::Restart),
-        ("open", []) => Ok(MediumStep::Open),
-        ("as-of", [commit]) => Ok(MediumStep::AsOf(number(commit)?)),
-        ("same", [name]) => Ok(MediumStep::Same(name)),
-        _ => Err(Trouble::Line("no such step")),
+        _ => Err(NO_STEP),
     }
 }
 
@@ -210,30 +246,46 @@ fn read_block(alloc: Global, words: &[&str]) -> Result<Block, Trouble> {
 }
 
 fn read_look(name: &str, words: &[&str]) -> Result<Option<Look>, Trouble> {
-    Ok(Some(match (name, words) {
-        ("blocks", []) => Look::Blocks,
-        ("block", [block]) => Look::Block(number(block)?),
-        ("bytes", [block, from, size]) => Look::Bytes {
-            block: number(block)?,
-            from: number(from)?,
-            count: number(size)?,
-        },
-        ("crc", [block]) => {
-            let from = number::<usize>(block)?;
-            Look::Crc {
-                from,
-                until: from.saturating_add(1),
-            }
-        }
-        ("crc", [from, until]) => Look::Crc {
-            from: number(from)?,
-            until: number(until)?,
-        },
-        ("most-held", []) => Look::MostHeld,
-        ("log", []) => Look::Log,
-        ("check", []) => Look::Check,
-        _ => return Ok(None),
-    }))
+    match name {
+        "blocks" | "most-held" | "log" | "check" => Ok(look_of(name, words.len(), [0; 3])),
+        "block" | "bytes" | "crc" => Ok(look_of(name, words.len(), read_numbers(words)?)),
+        _ => Ok(None),
+    }
+}
+
+/// The numbers that the first three words say.
+fn read_numbers(words: &[&str]) -> Result<[usize; 3], Trouble> {
+    let mut numbers = [0; 3];
+    for (place, word) in numbers.iter_mut().zip(words) {
+        *place = number(word)?;
+    }
+    Ok(numbers)
+}
+
+/// The look of this name and so many numbers.
+fn look_of(name: &str, count: usize, numbers: [usize; 3]) -> Option<Look> {
+    let [first, second, third] = numbers;
+    match (name, count) {
+        ("blocks", 0) => Some(Look::Blocks),
+        ("block", 1) => Some(Look::Block(first)),
+        ("bytes", 3) => Some(Look::Bytes {
+            block: first,
+            from: second,
+            count: third,
+        }),
+        ("crc", 1) => Some(Look::Crc {
+            from: first,
+            until: first.saturating_add(1),
+        }),
+        ("crc", 2) => Some(Look::Crc {
+            from: first,
+            until: second,
+        }),
+        ("most-held", 0) => Some(Look::MostHeld),
+        ("log", 0) => Some(Look::Log),
+        ("check", 0) => Some(Look::Check),
+        _ => None,
+    }
 }
 
 fn read_beside(name: &str, words: &[&str]) -> Result<Option<BesideStep>, Trouble> {
