@@ -43,7 +43,8 @@ cd "$home" || exit 1
 # A Linux kernel that reads UDF: this machine's, else Debian's in a machine of QEMU, as in test/readers.sh.
 room=$(mktemp -d) || exit 1
 trap 'rm -rf "$output" "$room"' EXIT
-# The tests start the client some thousand times. From a copy that is compiled once this takes half the processor time.
+# Where no compiled files are kept, each command compiles the client anew. From a copy that is compiled once it takes half the
+# processor time.
 PACKAGE=$room/python
 export PACKAGE
 mkdir "$PACKAGE" && cp -R "$home/../clients/python/udfburn" "$PACKAGE" && "$python" -m compileall -q "$PACKAGE" || exit 1

@@ -34,8 +34,8 @@ room=$(mktemp -d) || exit 1
 trap 'rm -rf "$room"' EXIT
 trap 'exit 1' HUP INT PIPE TERM
 output=$room/output
-# The tests start the client some hundred times. From a copy that is compiled once this takes half the processor time, and the
-# folder of the client stays as it is.
+# Where no compiled files are kept, each command compiles the client anew. From a copy that is compiled once it takes half the
+# processor time, and the folder of the client stays as it is.
 mkdir "$room/clients" && cp -R "$here/clients/python" "$room/clients/python" || exit 1
 ln -s "$here/crates" "$here/docs" "$room" || exit 1
 cd "$room/clients/python" || exit 1

@@ -63,7 +63,7 @@ blocks() {
     [ -f "$1" ] && [ "$(($(wc -c < "$1")))" -eq $(($2 * 2048)) ]
 }
 
-# await COMMAND..: waits until the command succeeds, for longer than any machine takes. It does not where the daemon has ended.
+# await COMMAND..: waits until the command succeeds, for longer than any machine takes. It gives up if the daemon has ended.
 await() {
     tries=3000
     until "$@"; do

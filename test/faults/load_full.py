@@ -190,7 +190,7 @@ class Output(Case):
         self.tree_is(self.model, ["/", "/a"])
 
     def test_apply_reads_no_further(self) -> None:
-        """After the first piece of the input whose answers nobody takes it reads no other, and commits nothing more."""
+        """Once the answers to a piece of the input cannot be written, it reads no further piece and commits nothing more."""
         need_shim()
         # A power of two, so that each piece of the input ends between two frames.
         size = 1 << 14
