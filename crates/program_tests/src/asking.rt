@@ -71,7 +71,7 @@ pub(crate) fn reports_on<M: Media>(
 /// Words and input of `udfburn`, and its status, output and error.
 pub(crate) type Row<'a> = (&'a [&'a str], &'a [u8], u8, &'a [u8], &'a [u8]);
 
-/// The place of the first row that does not go so, one after another over the images of a medium.
+/// The index of the first row that reports something else, where the rows run one after another over the same media.
 pub(crate) fn failing_on<M: Media>(
     rt: &HostRuntime,
     media: &mut M,

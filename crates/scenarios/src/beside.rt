@@ -138,12 +138,12 @@ fn names_text(
 }
 
 /// The path of a name in a directory.
-fn path_below(alloc: Global, directory: &[String], name: &String) -> Result<Vec<String>, Trouble> {
+fn path_below(alloc: Global, directory: &[String], name: &str) -> Result<Vec<String>, Trouble> {
     let mut path = Vec::new(alloc);
     for above in directory {
         path.push(above.clone()?)?;
     }
-    path.push(name.clone()?)?;
+    path.push(String::from_str(alloc, name)?)?;
     Ok(path)
 }
 
