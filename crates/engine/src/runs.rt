@@ -1,4 +1,4 @@
-//! A whole run, as a list.
+//! A whole run, as a list of deliveries.
 
 ghost use Rattle.std.specs.Prelude.{◌≡◌, ◌≤◌, ℕ, None, IsTrue, IfOk, OnErr, sum_by};
 ghost use Rattle.drive.specs.Journal.{held, Once};
@@ -16,17 +16,17 @@ use drive::Drive;
 use request::{Answer, read_payload};
 use std::alloc::{AllocError, Global};
 
-/// What comes to an engine.
+/// What an engine receives.
 #[derive(Debug, Drop)]
 pub enum Delivery {
     /// The payload of a frame.
     Frame(Vec<u8>),
-    /// All is forgotten that is not on the medium.
+    /// A restart: all that is not on the medium is forgotten.
     Restart,
 }
 
-/// Answers deliveries in order: one answer a frame, none a restart. Where there is no memory for the answers, the medium
-/// is not touched.
+/// Answers deliveries in order: one answer for each frame, none for a restart. If there is no memory for the answers,
+/// the medium is not touched.
 pub fn run<D: Drive>(
     alloc: Global,
     drive: &mut D,
