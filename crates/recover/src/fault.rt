@@ -17,19 +17,20 @@ pub enum StoreFault {
     /// The drive has fewer than `limits::LEAST_CAPACITY` blocks.
     #[error("63 Small")]
     Small,
-    /// The drive failed. What was asked of it may have been done.
+    /// The drive failed. It may still have done what it was asked.
     #[error("64 Device")]
     Device,
+    /// There was no memory.
     #[error("65 Memory")]
     Memory,
-    /// There is no table on the medium.
+    /// The medium has no VAT ICB.
     #[error("66 NotFormatted")]
     NotFormatted,
-    /// A structure is not as it must be. `block` is the address of its first block, and `cause` the number of what
-    /// is wrong with it.
+    /// A structure is invalid. `block` is the address of its first block, and `cause` the number of what is wrong with
+    /// it.
     #[error("67 Damaged block {block} cause {cause}")]
     Damaged { block: u32, cause: u8 },
-    /// There may be no room for what the request writes.
+    /// There may be no room for what the request would write.
     #[error("68 Full")]
     Full,
     /// A write failed earlier, so that the store does not know what is on the medium.
@@ -38,10 +39,13 @@ pub enum StoreFault {
     /// The volume has fewer commits.
     #[error("70 NoCommit")]
     NoCommit,
+    /// The path leads to nothing.
     #[error("96 NotFound")]
     NotFound,
+    /// A file was asked for, and the path leads to a directory.
     #[error("97 IsDirectory")]
     IsDirectory,
+    /// A directory was asked for, and the path leads to a file.
     #[error("98 NotDirectory")]
     NotDirectory,
 }
@@ -70,7 +74,7 @@ impl<T: Drop> From<AllocFailed<T>> for StoreFault {
     }
 }
 
-/// The refusal of a structure by the address of its first block and the number of what is wrong with it.
+/// The fault of an invalid structure: the address of its first block, and the number of what is wrong with it.
 pub fn damaged(block: u32, cause: u8) -> StoreFault
     ensures { result ≡ Damaged block cause }
 {
