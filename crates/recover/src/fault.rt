@@ -8,10 +8,10 @@ use thiserror::Error;
 /// Why a call on a volume was refused. It is shown as its number and its name.
 #[derive(Clone, Copy, Debug, PartialEq, Eq, Error)]
 pub enum StoreFault {
-    /// Something is written that a format with these words would not have written.
+    /// The medium, or the end of the image, has something that a format with these words would not have written.
     #[error("61 NotBlank")]
     NotBlank,
-    /// The text is no label of at most 31 bytes.
+    /// The text is no label: it is empty, has a NUL or a character without a spelling, or takes more than 31 bytes.
     #[error("62 Label")]
     Label,
     /// The drive has fewer than `limits::LEAST_CAPACITY` blocks.
