@@ -67,9 +67,9 @@ pub fn encode_fsd(set: &FileSet) -> Block
 
 /// The file set whose descriptor the block is (ECMA-167 4/14.1).
 pub fn decode_fsd(block: &Block) -> Result<FileSet, IcbFault>
-    // What is read is what the block spells.
+    // What is read is what the block encodes.
     ensures found { IfOk result (λ set. IsFileSet set block.now) }
-    // What a block spells is read.
+    // What a block encodes is read.
     ensures only { (set : FileSet) → IsFileSet set block.now → result ≡ Ok set }
     // A fault is the first.
     ensures fault { IfErr result (IsFirst (set_rules block.now)) }
@@ -102,7 +102,7 @@ fn has_set_tag(block: &Block) -> bool
     open_tag(descriptor, FILE_SET, ADDRESS).is_ok()
 }
 
-/// The file set whose fields are after the tag: its label and moment are read, and then all fields compared with
+/// The file set whose fields are after the tag. Its label and moment are read, and then all fields are compared with
 /// those of that file set.
 fn set_at(block: &Block) -> Option<FileSet>
     ensures some { IfSome result (λ set. HasFileSetFields set (take 496 (drop 16 block.now))) }
