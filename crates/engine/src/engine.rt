@@ -41,12 +41,12 @@ impl Engine {
     pub fn answer<D: Drive>(&mut self, alloc: Global, drive: &mut D, message: Message<'_>) -> Answer
         requires { IsReady (seen_on D.Drive self.old drive.old) }
         ensures answered { Answered message.entry (seen_on D.Drive self.old drive.old) result (seen_on D.Drive self.new drive.new) }
-        // On an honest drive, where a state is recovered that an open store knows.
+        // What becomes of the message on an honest drive, if a state is recovered and an open store knows it.
         ensures calls { (volume : ℕ) (S : State) → IsTrue (D.honest drive.new) → HoldsState volume S (seen_on D.Drive self.old drive.old) → Calls volume message.entry S (seen_on D.Drive self.old drive.old) result (seen_on D.Drive self.new drive.new) }
         // What its writes leave on the journal, and what a power loss leaves of them: the disk may keep any of the
         // blocks of the last write that it was given.
         ensures withstands { (volume : ℕ) (S : State) → IsTrue (D.honest drive.new) → HoldsState volume S (seen_on D.Drive self.old drive.old) → MessageSurvivesPowerLoss volume S (AsksFor message.entry) (faults result) (seen_on D.Drive self.old drive.old) (seen_on D.Drive self.new drive.new) }
-        // On an honest drive where nothing is recovered.
+        // What becomes of it on an honest drive, if nothing is recovered.
         ensures nothing { IsTrue (D.honest drive.new) → HoldsNothing (seen_on D.Drive self.old drive.old) → IsNothingThere message.entry (seen_on D.Drive self.old drive.old) result (seen_on D.Drive self.new drive.new) }
         ensures lent { drives.ReadsAndWrites D.Drive (faults result) drive.old drive.new }
     {
@@ -80,9 +80,9 @@ impl Engine {
         // A recovered state is then known. Only a failure of the drive or lack of memory keeps it from being opened.
         ensures holds { (volume : ℕ) (S : State) → IsTrue (D.honest drive.new) → HoldsState volume S (seen_on D.Drive self.old drive.old) → HoldsState volume S (seen_on D.Drive self.new drive.new) }
         ensures short { (volume : ℕ) (S : State) → IsTrue (D.honest drive.new) → HoldsState volume S (seen_on D.Drive self.old drive.old) → IfErr result IsShortage }
-        // Where nothing is recovered nothing is opened.
+        // If nothing is recovered, nothing is opened.
         ensures nothing { IsTrue (D.honest drive.new) → HoldsNothing (seen_on D.Drive self.old drive.old) → OnOk result ⊥ }
-        // Where it is open nothing is done.
+        // If it is open, nothing is done.
         ensures stays { (kept : Store) → IsOpen (seen_on D.Drive self.old drive.old) kept → (self.new ≡ self.old) × (drive.new ≡ drive.old) }
         ensures ready { IsReady (seen_on D.Drive self.new drive.new) }
         ensures reads { ReadsOnly D.Drive (devices result) drive.old drive.new }

@@ -33,7 +33,7 @@ pub fn run<D: Drive>(
     deliveries: &[Delivery],
 ) -> Result<Vec<Answer>, AllocError>
     ensures ok { IfOk result (λ answers. RunsDeliveries deliveries.now answers.items (situation_on D.Drive None drive.old) (situation_on D.Drive None drive.new)) }
-    // On an honest drive where a state is recovered: what is recovered at each prefix of what was written.
+    // On an honest drive on which a state is recovered: what is recovered at each prefix of what was written.
     ensures holds { (volume : ℕ) (S : State) → IsTrue (D.honest drive.new) → Once (D.journal drive.old) → RecoversTo udf (D.capacity drive.old) volume (held (D.journal drive.old)) S
         → IfOk result (λ answers. RunHolds volume (D.capacity drive.old) deliveries.now S (D.journal drive.old) answers.items (D.journal drive.new)) }
     // The same of every delivery, from the journal as it was when that delivery began, whatever part of the write that had not
