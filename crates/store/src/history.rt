@@ -180,7 +180,7 @@ impl Store {
         ensures history { IfOk result (λ commits. IsTrue (D.honest drive.new) → IsHistory (held (D.journal drive.old)) self.now.vat_icb_address commits.items) }
         // One entry for each commit, and one for the format.
         ensures all { (volume : ℕ) (T : said.State) → IsTrue (D.honest drive.new) → IsOpenOn (D.capacity drive.old) volume (D.journal drive.old) T self.now → IfOk result (λ commits. length commits.items ≡ T.commits + 1) }
-        // Where it is refused no list is the history, or the drive failed or memory was short.
+        // If it is refused, no list is the history, or the drive failed, or memory was short.
         ensures refused { self.now.is_stopped ≡ false → IfErr result (λ fault. IsTrue (D.honest drive.new) → IsHistoryRefused (held (D.journal drive.old)) self.now.vat_icb_address fault) }
         ensures within { IfOk result (λ commits. All (λ c. (PARTITION_START ≤ c.vat_icb_address) × (c.vat_icb_address < next_of (D.journal drive.old))) commits.items) }
         ensures reads { ReadsOnly D.Drive (devices result) drive.old drive.new }
@@ -208,9 +208,9 @@ impl Store {
         requires agrees { IsStoreOn (D.journal drive.old) (D.capacity drive.old) self.now }
         ensures stopped { IsTrue self.now.is_stopped → (result ≡ Err Stopped) × (drive.new ≡ drive.old) }
         ensures none { self.now.is_stopped ≡ false → self.now.vat.sessions.commits < commit → result ≡ Err NoCommit }
-        // The state that was recovered after so many commits.
+        // The state that was recovered after that commit.
         ensures past { (volume : ℕ) (T : said.State) → IsTrue (D.honest drive.new) → IsOpenOn (D.capacity drive.old) volume (D.journal drive.old) T self.now → IfOk result (λ s. (S : said.State) × IsPast (D.capacity drive.old) volume (D.journal drive.old) commit S s.vat_icb_address s.vat) }
-        // Where it is refused none was recovered, or the drive failed or memory was short.
+        // If it is refused, no state was recovered there, or the drive failed, or memory was short.
         ensures refused { (volume : ℕ) (T : said.State) → IsTrue (D.honest drive.new) → IsOpenOn (D.capacity drive.old) volume (D.journal drive.old) T self.now → self.now.is_stopped ≡ false → IfErr result (IsPastRefused (D.capacity drive.old) volume (held (D.journal drive.old)) T.commits commit) }
         ensures table { IfOk result (λ s. IsTrue (D.honest drive.new) → IsTableOf (held (D.journal drive.old)) self.now.vat_icb_address commit s.vat_icb_address s.vat) }
         ensures shown { IfOk result (λ s. IsTrue (D.honest drive.new) → (state : State) × IsShown (D.capacity drive.old) (held (D.journal drive.old)) s.vat_icb_address state × (state.vat ≡ s.vat)) }
@@ -264,7 +264,7 @@ impl Store {
         ensures count { IfOk result (λ n. n ≡ self.now.vat.sessions.commits) }
         // A state was recovered after each.
         ensures whole { (volume : ℕ) (T : said.State) → IsTrue (D.honest drive.new) → IsOpenOn (D.capacity drive.old) volume (D.journal drive.old) T self.now → IfOk result (λ n. (n ≡ T.commits) × AllRecovered (D.capacity drive.old) volume (held (D.journal drive.old)) n) }
-        // Where it is refused none was recovered after one of them, or the drive failed or memory was short.
+        // If it is refused, no state was recovered after one of them, or the drive failed, or memory was short.
         ensures refused { (volume : ℕ) (T : said.State) → IsTrue (D.honest drive.new) → IsOpenOn (D.capacity drive.old) volume (D.journal drive.old) T self.now → self.now.is_stopped ≡ false → IfErr result (IsCheckRefused (D.capacity drive.old) volume (held (D.journal drive.old)) T.commits) }
         ensures history { OnOk result (IsTrue (D.honest drive.new) → IsChecked (D.capacity drive.old) (held (D.journal drive.old)) self.now.vat_icb_address) }
         ensures reads { ReadsOnly D.Drive (devices result) drive.old drive.new }

@@ -1,5 +1,5 @@
-//! A volume that is kept: it is opened, requests are committed to it, and queries answered from it, also as of an earlier
-//! commit.
+//! A volume that is kept: it is opened, requests are committed to it, and queries are answered from it, also as of an
+//! earlier commit.
 //!
 //! Promised: opening, queries, history and checks write nothing. A request that is committed is on the medium, with all
 //! that it leads to. After a failed write, the medium has a prefix of the plan's blocks, and the store is stopped.
