@@ -1,6 +1,6 @@
-//! The limits of this profile of UDF 2.01 and of the messages, and the sizes by which the room for a commit is computed,
-//! each stated once. The crates above cite them; what each one means for a volume or a message is said, and proved, where
-//! it is kept.
+//! The limits of this profile of UDF 2.01 and of the messages, and the sizes from which the room for a commit is
+//! computed, each stated once. The crates above cite them. What each one means for a volume or a message is stated and
+//! proved in the crate that keeps it.
 #![tactic(auto)]
 
 /// The size of a logical sector and of a logical block, in bytes (UDF 2.01 2.2.4.2).
