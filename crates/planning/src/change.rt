@@ -102,7 +102,7 @@ impl<'r> Change<'r> {
         thing: NewContent<'r>,
         moment: Timestamp,
     ) -> Result<Kind, StoreFault>
-        // The node comes first, where nothing is written yet.
+        // If nothing is written yet, the node comes first.
         ensures put { IfOk result (λ kind. self.old.file ≡ None → self.old.directories.items ≡ [] → change_writings moment self.new ≡ new_writing address unique moment parent.address thing.entry ∷ []) }
         ensures kind { IfOk result (λ kind. names_directory kind ≡ has_names (content_of_thing thing.entry)) }
         ensures made { IfOk result (λ kind. (path : Path) → self.new.made ≡ made_by (addition path thing.entry) address) }
