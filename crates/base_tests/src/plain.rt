@@ -280,7 +280,7 @@ fn an_identity_is_never_given_again(rt: HostRuntime) {
 
 const DEEP: &str = "q/a/a/a/a/a/a/a/a/a/a/a/a/a/a/a/a";
 
-/// A directory with a file, beside a file.
+/// A directory with a file, and a file next to it.
 const TREE: [Row<'static>; 3] = [
     ("make", "d", "", Code::Done),
     ("create", "f", "", Code::Done),
