@@ -20,7 +20,7 @@ struct Kept {
     machine: Machine,
 }
 
-/// A machine, and what a scenario keeps beside it.
+/// A machine, and what else a scenario keeps.
 #[derive(Drop)]
 pub struct Player {
     alloc: Global,
