@@ -1,3 +1,5 @@
+//! Entity identifiers (ECMA-167 1/7.4).
+
 /// An entity identifier (ECMA-167 1/7.4), whose flags are 0.
 #[derive(Clone, Copy, Debug, PartialEq, Eq)]
 pub struct EntityId {
