@@ -1,3 +1,5 @@
+//! Dstrings: texts in fields of a fixed size (ECMA-167 1/7.2.12).
+
 ghost use Rattle.std.specs.Prelude.{◌≡◌, ◌≤◌, ◌<◌, ◌-◌, ◌==◌, Some, ℕ, List, length, OnOk, OnErr, IfOk, IfErr, MatchResult, string_bytes};
 ghost use Rattle.std.specs.Result.{result_err};
 ghost use Rattle.std.specs.List.{list_all};

@@ -1,3 +1,5 @@
+//! Why a text cannot be written, and why bytes are no text.
+
 ghost use Rattle.std.specs.Prelude.{◌≡◌};
 ghost use Rattle.osta.specs.Fault.{name_number, osta_number};
 ghost use Rattle.osta.specs.declared.fault.NameFault.TheVariants as name;

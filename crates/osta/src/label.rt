@@ -1,3 +1,5 @@
+//! Labels of volumes.
+
 ghost use Rattle.std.specs.Prelude.{◌≡◌, ◌+◌, ◌<◌, ◌≤◌, ◌∷◌, ◌++◌, ℕ, List, length, IfOk, IfSome, IsAscii, Some, string_bytes, nat_eq};
 ghost use Rattle.std.specs.Result.{result_err};
 ghost use Rattle.std.specs.Cmp.Lexicographic.{pointwise, nat_list_eq_equiv};

@@ -1,3 +1,5 @@
+//! Names of files and directories.
+
 ghost use Rattle.std.specs.Prelude.{◌≡◌, ◌==◌, ◌↔◌, ◌<◌, ◌≤◌, ℕ, List, IsTrue, IsAscii, IfOk, IfErr, IfSome, IfNone, ◌≢◌, MatchOption, ◌∷◌, length, nat_eq, None, bytes_eq, codes, string_bytes};
 ghost use Rattle.std.specs.Result.{result_err};
 ghost use Rattle.std.specs.List.{list_any};

@@ -1,3 +1,5 @@
+//! Reading texts in compressed Unicode (UDF 2.01 2.1.1).
+
 ghost use Rattle.std.specs.Prelude.{◌≡◌, ◌==◌, List, ℕ, Some, IsTrue, IfOk, IfErr, MatchResult, None, string_bytes, encode_utf8_all};
 ghost use Rattle.std.specs.Result.{result_err};
 ghost use Rattle.std.specs.List.{list_all, list_any};

@@ -1,3 +1,5 @@
+//! Writing texts in compressed Unicode (UDF 2.01 2.1.1).
+
 ghost use Rattle.std.specs.Prelude.{◌≡◌, ℕ, List, ◌+◌, ◌*◌, ◌≤◌, ◌<◌, ◌++◌, ◌∷◌, length, IsTrue, IsAscii, IfErr, OnOk, OnErr, None, Some, Err, vec_len, vec_capacity, if◌then◌else◌};
 ghost use Rattle.std.specs.List.{list_all, flat_map};
 ghost use Rattle.std.specs.Str.{chars};
