@@ -1,3 +1,5 @@
+//! The file set descriptor (ECMA-167 4/14.1, UDF 2.01 2.3.2).
+
 ghost use Rattle.limits.specs.declared.TheConstants.{BLOCK_BYTES};
 ghost use Rattle.std.specs.Prelude.{◌≡◌, ◌-◌, ◌↔◌, IsTrue, IfOk, IfErr, IfSome, IfNone, take, drop, replicate};
 ghost use Rattle.ecma.specs.FirstFault.{IsFirst, AllHold};
@@ -67,9 +69,9 @@ pub fn encode_fsd(set: &FileSet) -> Block
 
 /// The file set whose descriptor the block is (ECMA-167 4/14.1).
 pub fn decode_fsd(block: &Block) -> Result<FileSet, IcbFault>
-    // What is read is what the block encodes.
+    // What is read is what the block spells.
     ensures found { IfOk result (λ set. IsFileSet set block.now) }
-    // What a block encodes is read.
+    // What a block spells is read.
     ensures only { (set : FileSet) → IsFileSet set block.now → result ≡ Ok set }
     // A fault is the first.
     ensures fault { IfErr result (IsFirst (set_rules block.now)) }
