@@ -1,3 +1,5 @@
+//! The blocks of a volume header.
+
 ghost use Rattle.limits.specs.declared.TheConstants.{GREATEST_CAPACITY, LEAST_CAPACITY, PARTITION_START};
 ghost use Rattle.std.specs.Prelude.{◌≡◌, ◌≤◌, ◌%◌, IfOk};
 ghost use Rattle.osta.specs.Dstring.{dstring};

@@ -1,3 +1,5 @@
+//! Reading a volume header.
+
 ghost use Rattle.limits.specs.declared.TheConstants.{BLOCK_BYTES, GREATEST_CAPACITY, LEAST_CAPACITY, LEAST_PARTITION_BLOCKS, PARTITION_BLOCKS, PARTITION_START};
 ghost use Rattle.std.specs.Prelude.{◌≡◌, ◌<◌, ◌≤◌, ◌↔◌, ℕ, List, [], length, slice_index, slice_index_or, take, IsTrue, IfOk, IfErr, IfSome, IfNone};
 ghost use Rattle.ecma.specs.Tag.{Sealed};
