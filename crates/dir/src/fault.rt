@@ -1,3 +1,5 @@
+//! Why blocks are not the data of a directory.
+
 ghost use Rattle.std.specs.Prelude.{◌≡◌};
 ghost use Rattle.dir.specs.declared.fault.DirFault.TheVariants.{Memory};
 

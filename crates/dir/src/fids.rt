@@ -1,3 +1,5 @@
+//! The file identifier descriptors of a directory's data, read one by one (ECMA-167 4/14.4).
+
 ghost use Rattle.limits.specs.declared.TheConstants.{BLOCK_BYTES};
 ghost use Rattle.std.specs.Prelude.{◌≡◌, ◌↔◌, ◌+◌, ◌<◌, ◌^◌, IsTrue, length};
 
