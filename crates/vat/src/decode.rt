@@ -1,3 +1,5 @@
+//! Reading tables.
+
 ghost use Rattle.limits.specs.declared.TheConstants.{TABLE_HEAD_BYTES};
 ghost use Rattle.std.specs.Prelude.{◌≡◌, ◌≤◌, ◌+◌, ◌*◌, ◌/◌, ◌⊎◌, ℕ, IfErr, IfOk, OnOk, MatchResult, length, map};
 ghost use Rattle.ecma.specs.FirstFault.{IsFirst, AllHold};

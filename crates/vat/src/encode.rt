@@ -1,3 +1,5 @@
+//! Writing tables.
+
 ghost use Rattle.limits.specs.declared.TheConstants.{ADDRESSES, CLIENTS};
 ghost use Rattle.std.specs.Prelude.{◌≡◌, ◌*◌, ◌≤◌, ◌++◌, length, All, IfOk, OnOk};
 ghost use Rattle.std.specs.List.{flat_map};
