@@ -1,3 +1,5 @@
+//! Why a call on a volume is refused.
+
 ghost use Rattle.std.specs.Prelude.{◌≡◌};
 ghost use Rattle.recover.specs.declared.fault.StoreFault.TheVariants.{Damaged, Device, Memory};
 
