@@ -163,7 +163,7 @@ fn directory_entry(directory: &NewDirectory, extent: Extent) -> PlannedEntry<'st
     ensures written { WritesNode udf (directory_writing directory.now) extent.first (directory_blocks directory.now.content.dir extent.first ++ result ∷ []) (extent.first + div_ceil extent.size BLOCK_BYTES) }
 {
     let content = &directory.content;
-    // Unused: it tells the proof that the parent's address has 32 bits.
+    // Unused: it gives the proof that the parent's address has 32 bits.
     let _parent = content.dir.parent;
     let entry = FileEntry {
         kind: Kind::Directory,

@@ -318,7 +318,7 @@ fn identifiers_size(content: &Content) -> u64
     ensures size { result ≡ 40 + plain_sizes (name_sizes content.now.dir.entries.entries) }
     ensures proper { IsProper content.now.dir }
 {
-    // Unused: it tells the proof that no name occurs twice.
+    // Unused: it gives the proof that no name occurs twice.
     let _many = content.dir.entries.len();
     40 + content.identifiers.plain_size(&content.dir) as u64
 }
