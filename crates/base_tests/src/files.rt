@@ -1,4 +1,4 @@
-//! Drives over files of the system.
+//! Drives over files.
 
 use crate::steps::{Step, play};
 use drive::{DriveFault, FileDrive, create_image, open_image};
@@ -8,7 +8,7 @@ use std::os::fd::IntoRawFd;
 use std::os::unix::fs::symlink;
 use std::test::Fail;
 
-/// Plays the steps on an image, which is made where it is missing.
+/// Plays the steps on an image. If it is missing, it is made.
 fn play_created(
     rt: &HostRuntime,
     path: &str,
@@ -19,13 +19,13 @@ fn play_created(
     play(rt, &mut drive, steps)
 }
 
-/// Plays the steps on a new image, in the place of one that is there.
+/// Plays the steps on a new image, in place of one that may be there.
 fn play_new(rt: &HostRuntime, path: &str, capacity: u32, steps: &[Step<'_>]) -> Result<(), Fail> {
     let _ = fs::remove_file(rt, path);
     play_created(rt, path, capacity, steps)
 }
 
-/// Plays the steps on an image that is there.
+/// Plays the steps on an image that must be there.
 fn play_opened(
     rt: &HostRuntime,
     path: &str,
@@ -36,7 +36,7 @@ fn play_opened(
     play(rt, &mut drive, steps)
 }
 
-/// Makes an image of so many bytes.
+/// Makes an image of `size` bytes.
 fn make(rt: &HostRuntime, path: &str, size: u64) -> Result<(), Fail> {
     create_image(rt, path)?.set_len(size)?;
     Ok(())
@@ -52,7 +52,7 @@ fn is_read(rt: &HostRuntime, path: &str, capacity: u32) -> bool {
     FileDrive::open_to_read(rt, path, capacity).is_ok()
 }
 
-/// Whether a path is refused that is opened, opened to be read, and made an image.
+/// Whether a path is refused when it is opened, when it is opened to be read, and when an image is made there.
 fn refused(rt: &HostRuntime, path: &str, capacity: u32) -> (bool, bool, bool) {
     (
         !is_opened(rt, path, capacity),
@@ -105,7 +105,7 @@ const RUN: [Step<'static>; 9] = [
     Step::Remove("run.img"),
 ];
 
-/// The second slice of a run lies after the first, and a run that does not begin at the next address is a fault.
+/// The second slice of a run is after the first. A run that does not begin at the next address is a fault.
 #[test]
 fn a_run_lies_in_one_piece(rt: HostRuntime) -> Result<(), Fail> {
     play_new(&rt, "run.img", 100, &RUN)
@@ -126,7 +126,8 @@ const NUMBERED: [Step<'static>; 4] = [
     Step::File("number.img", 4096, &[(2048, 7)]),
 ];
 
-/// Whether another writer is refused, by the path or by a number, while a new image is held by the number of a descriptor.
+/// Whether other writers are refused, by the path and by a number, while a new image is held by the number of a
+/// descriptor.
 fn is_held(rt: &HostRuntime, path: &str) -> Result<bool, Fail> {
     let mut drive = by_number(rt, path)?;
     let is_held = !is_opened(rt, path, 10) && number_is_refused(open_image(rt, path)?, 10);
@@ -134,7 +135,7 @@ fn is_held(rt: &HostRuntime, path: &str) -> Result<bool, Fail> {
     Ok(is_held)
 }
 
-/// An image by the number of a descriptor is held like another.
+/// An image by the number of a descriptor is held like any other.
 #[test]
 fn a_descriptor_is_an_image_by_its_number(rt: HostRuntime) -> Result<(), Fail> {
     let path = "number.img";
@@ -143,14 +144,14 @@ fn a_descriptor_is_an_image_by_its_number(rt: HostRuntime) -> Result<(), Fail> {
     play_opened(&rt, path, 10, &REFUSED_NUMBERS)
 }
 
-/// Nothing was written by what was refused.
+/// The refused descriptors wrote nothing.
 const REFUSED_NUMBERS: [Step<'static>; 2] = [
     Step::File("number.img", 4096, &[(2048, 7)]),
     Step::Remove("number.img"),
 ];
 
-/// Whether a descriptor is refused that cannot be written, that is no file's or no descriptor at all, or whose image of two
-/// blocks is longer than its capacity.
+/// Whether these descriptors are refused: one that cannot be written, one of a folder, one of an image of two blocks
+/// that is longer than the capacity, and a number that is no descriptor.
 fn refuses_numbers(rt: &HostRuntime, path: &str) -> Result<bool, Fail> {
     Ok(
         number_is_refused(File::open(rt, path)?, 10)
@@ -170,7 +171,7 @@ const SHRANK: [Step<'static>; 7] = [
     Step::Read(1, Err(DriveFault)),
 ];
 
-/// A drive that is opened on a file with a part of its second block begins with one block, and writes over the part.
+/// A drive that is opened on a file with a part of its second block begins with one block, and overwrites the part.
 const CUT: [Step<'static>; 10] = [
     Step::Capacity(10),
     Step::Part(Ok(2047)),
@@ -190,7 +191,7 @@ fn a_file_that_shrank_is_a_fault(rt: HostRuntime) -> Result<(), Fail> {
     play_opened(&rt, "shrank.img", 10, &CUT)
 }
 
-/// A new image of one block that is open for reading, as if it could be written.
+/// A drive for writing over a new image of one block, whose file is open only for reading.
 fn read_only(rt: &HostRuntime, path: &str) -> Result<FileDrive, Fail> {
     make(rt, path, 2048)?;
     Ok(FileDrive::over(File::open(rt, path)?, 10)?)
@@ -237,7 +238,7 @@ fn a_missing_file_is_not_opened(rt: HostRuntime) {
     assert!(rt; open_image(&rt, path).is_err());
 }
 
-/// One that is there is not made anew, and has no name any more once it is removed.
+/// An image that is there is not made again. Once it is removed it has no name.
 const NAMELESS: [Step<'static>; 3] = [
     Step::Next(Ok(3)),
     Step::Remove("within.img"),
@@ -253,7 +254,7 @@ fn a_file_is_opened_within_its_capacity(rt: HostRuntime) -> Result<(), Fail> {
     play_created(&rt, path, 3, &NAMELESS)
 }
 
-/// Of the last one no file is there.
+/// The last one is a link to a missing file.
 const NO_FILES: [&str; 4] = [".", "/dev/null", "", "nowhere.link"];
 
 #[test]
@@ -282,7 +283,7 @@ const FIRST_WRITER: [Step<'static>; 3] = [
 
 const SECOND_BLOCK: [Step<'static>; 2] = [Step::Next(Ok(1)), Step::Write(1, &[8], Ok(()))];
 
-/// A drive that was opened to be read, on a file to which a second block came then, has the blocks that were there.
+/// A drive that was opened to be read has the blocks that were there, even if a second block is written later.
 const READER: [Step<'static>; 6] = [
     Step::Capacity(10),
     Step::Next(Ok(1)),
@@ -297,7 +298,7 @@ const NOBODY_HOLDS: [Step<'static>; 2] = [
     Step::Remove("one_writer.img"),
 ];
 
-/// Reads what the first writer wrote, which then writes a block more.
+/// Opens the file to read it, while the first writer writes one more block.
 fn read_beside(rt: &HostRuntime, path: &str, writer: &mut FileDrive) -> Result<(), Fail> {
     let mut reader = FileDrive::open_to_read(rt, path, 10)?;
     play(rt, writer, &SECOND_BLOCK)?;

@@ -6,18 +6,18 @@ use media::{FileMedia, Media, MemMedia};
 use std::fs;
 use std::test::Fail;
 
-/// What is asked of the image at a path, each time by a drive of its own, and what is seen.
+/// A step on the image at a path, each with a drive of its own, and what must be seen.
 #[derive(Clone, Copy)]
 enum Step {
-    /// How many blocks an image of this capacity has, and nothing where it is refused.
+    /// How many blocks an image has that is opened with this capacity, or `None` if it is refused.
     Count(&'static str, u32, Option<u32>),
-    /// Adds a block that begins with this byte, to an image that is made where it is missing. False: that is refused.
+    /// Adds a block that begins with this byte. A missing image is made. With `false` it must be refused.
     Add(&'static str, u8, bool),
     /// The block at an address begins with this byte. The image is taken out to be written.
     Byte(&'static str, u32, u8),
 }
 
-/// Two blocks in one image and one in another, of which there is none at first.
+/// Two blocks in one image and one in another. At first there is no image.
 const TWO_IMAGES: [Step; 11] = [
     Step::Count("media_one.img", 10, None),
     Step::Add("media_one.img", 7, true),
@@ -33,7 +33,7 @@ const TWO_IMAGES: [Step; 11] = [
     Step::Count("media_one.img", 10, Some(2)),
 ];
 
-/// The first step that does not go as it is written.
+/// The index of the first step that does not go as it should.
 fn failing<M: Media>(media: &mut M, steps: &[Step]) -> Option<usize> {
     for (i, step) in steps.iter().enumerate() {
         let goes = match *step {
@@ -56,7 +56,7 @@ fn count<M: Media>(media: &mut M, path: &str, capacity: u32) -> Result<u32, Driv
     count
 }
 
-/// Writes a block at the next address of an image, which is made where it is missing.
+/// Writes a block at the next address of an image. If it is missing, it is made.
 fn add<M: Media>(media: &mut M, path: &str, byte: u8) -> Result<(), DriveFault> {
     let mut drive = media.create(path, 10)?;
     let done = add_block(&mut drive, byte);
@@ -114,7 +114,7 @@ const ONE_FAULT: [Step; 4] = [
     Step::Byte("a", 0, 9),
 ];
 
-/// A fault stays set while the image is put back.
+/// A fault stays set when the image is put back.
 #[test]
 fn an_image_in_memory_keeps_its_fault(rt: HostRuntime) -> Result<(), Fail> {
     let mut media = MemMedia::new(rt.alloc());
@@ -125,7 +125,7 @@ fn an_image_in_memory_keeps_its_fault(rt: HostRuntime) -> Result<(), Fail> {
     Ok(())
 }
 
-/// An address that was written twice is what no image file has.
+/// An image with an address that was written twice is refused, since no image file can have one.
 #[test]
 fn an_image_in_memory_is_in_order(rt: HostRuntime) -> Result<(), Fail> {
     let mut media = MemMedia::new(rt.alloc());
@@ -149,7 +149,7 @@ fn files_are_images(rt: HostRuntime) -> Result<(), Fail> {
     Ok(())
 }
 
-/// How many bytes an image has after its last whole block, which are read.
+/// Reads the bytes of an image after its last whole block, and returns how many there are.
 fn part_of<M: Media>(media: &mut M, path: &str, into: &mut Block) -> Result<usize, DriveFault> {
     let drive = media.open(path, 10)?;
     let count = media.part(path, &drive, into);
@@ -157,7 +157,7 @@ fn part_of<M: Media>(media: &mut M, path: &str, into: &mut Block) -> Result<usiz
     count
 }
 
-/// Bytes after the last whole block are no block, and are shown.
+/// Bytes after the last whole block are not counted as a block, and can be read.
 #[test]
 fn a_part_of_a_block_is_shown(rt: HostRuntime) -> Result<(), Fail> {
     let path = "media_part.img";

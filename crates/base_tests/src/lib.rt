@@ -1,6 +1,6 @@
-//! Tests of what is below the codecs or beside them, by topic: the plain program of the model, drives, media,
-//! messages, and the words of the programs. They are in a crate of their own, so that each of those crates is proved
-//! once; they use what is public.
+//! Tests of the crates that use no codec, by topic: the plain program of the model, drives, media, messages, and the
+//! words of the programs. They are in a crate of their own, so that each of those crates is proved once. They use only
+//! what is public.
 #![tactic(auto)]
 
 #[cfg(test)]

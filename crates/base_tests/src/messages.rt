@@ -1,12 +1,12 @@
-//! Messages: every payload of one and two bytes, and how long a frame is held. `vectors` has the other payloads, the frames in
-//! any cut, and the answers.
+//! Messages: every payload of one and two bytes, and how long a frame is held. `vectors` has the other payloads, frames
+//! that are cut, and the answers.
 
 use request::{Code, Frames, Message, PathFault, Query, read_payload};
 use std::alloc::{AllocError, Global};
 use std::process::Abort;
 use std::test::Fail;
 
-/// Client 7 number 1 creates `/a` with `hello`.
+/// The frame of request 1 of client 7, which creates `/a` with `hello`.
 pub(crate) const CREATE: [u8; 42] = [
     0x26, 0, 0, 0, 1, 7, 0, 0, 0, 0, 0, 0, 0, 1, 0, 0, 0, 0, 0, 0, 0, 0, 0, 0, 0, 0, 0, 0, 0, 1, 1,
     0, 0x61, 5, 0, 0, 0, 0x68, 0x65, 0x6C, 0x6C, 0x6F,
@@ -15,7 +15,7 @@ pub(crate) const CREATE: [u8; 42] = [
 /// A length that no payload has.
 pub(crate) const OVERLONG: [u8; 4] = [0, 0, 0, 0x80];
 
-/// The number of the cause for which a message is refused, and 0 for a query.
+/// The number of the cause for which a message is refused, or 0 for a query. `None` for any other message.
 fn cause_of(message: &Message<'_>) -> Option<u16> {
     match message {
         Message::Malformed(cause) => Some(cause.number()),
@@ -29,7 +29,7 @@ fn cause_in(alloc: Global, payload: &[u8]) -> Option<u16> {
     cause_of(&read_payload(alloc, payload))
 }
 
-/// The number that is wanted of a kind with no field after it, or with the first byte of one.
+/// The expected number for a kind without a field, or with the first byte of one.
 fn cause_wanted(payload: &[u8]) -> u16 {
     match payload {
         [16..=18, 0] => 0,
@@ -56,7 +56,7 @@ fn payloads_of_one_and_two_bytes(rt: HostRuntime) {
     }
 }
 
-/// Whether no message is whole.
+/// Whether no message is complete.
 pub(crate) fn is_silent(frames: &Frames) -> bool {
     frames.first().is_none()
 }
@@ -67,7 +67,7 @@ fn first_is_list(frames: &Frames) -> bool {
     matches!(&first, Some(Message::Query(Query::List(path))) if path.names().is_empty())
 }
 
-/// The bytes of a query in two pieces. Where no message is whole there is nothing to let go.
+/// Feeds the bytes of a query in two pieces. `skip` does nothing while no message is complete.
 fn feed_in_two(frames: &mut Frames) -> Result<(), AllocError> {
     frames.skip();
     frames.feed(&[2, 0, 0])?;

@@ -1,4 +1,4 @@
-//! Requests and their replies, by the plain program. A request's moment is its number.
+//! Requests and their replies, in the plain program. The moment of a request is its number.
 
 ghost use Rattle.model.specs.PlainState.{IsWholeState};
 
@@ -9,7 +9,7 @@ use std::process::Abort;
 /// An operation by its name and its paths, and the code of its reply.
 type Row<'a> = (&'a str, &'a str, &'a str, Code);
 
-/// The path of these names, written as `d/x`; the root's is empty.
+/// The path of these names, written as `d/x`. That of the root is empty.
 fn path(alloc: Global, text: &str) -> Result<Vec<String>, AllocError> {
     let mut names = Vec::new(alloc);
     for name in text.split('/') {
@@ -62,7 +62,7 @@ fn ask(
     state.apply(alloc, request).expect(rt, "a reply")
 }
 
-/// The state after an operation of client 7, which no other asks beside, and which gets its code.
+/// The state after an operation of client 7, which is the only client. The operation must get its code.
 fn after(rt: &impl Abort, alloc: Global, state: State, row: &Row<'_>) -> State
     requires { IsWholeState state }
     ensures { IsWholeState result }
@@ -131,7 +131,7 @@ fn numbers_of(node: Option<&Node>) -> Option<(u64, u64)> {
     }
 }
 
-/// What two clients ask, and the reply.
+/// What two clients ask, and the codes that they get.
 const REPEATED: [(u64, u64, &str, &str, Code); 4] = [
     (7, 1, "create", "a", Code::Done),
     (7, 2, "create", "a", Code::Exists),
@@ -139,7 +139,7 @@ const REPEATED: [(u64, u64, &str, &str, Code); 4] = [
     (7, 3, "remove", "q", Code::NotFound),
 ];
 
-/// Each of the first requests is a repeat, by its own reply.
+/// Checks that each request so far is now a repeat, with its own reply.
 fn check_repeats(rt: &impl Abort, state: &State) {
     let mut commit = 0u64;
     for (client, number, _, _, code) in REPEATED.iter().take(state.commits as usize) {
@@ -234,7 +234,7 @@ fn refused_moves_removals_and_depths(rt: HostRuntime) {
     assert_eq!(rt; volume_after(&rt, alloc, &REFUSED).commits, 4);
 }
 
-/// Each asks where there is one directory.
+/// Operations on a volume with one directory `d`, and their codes.
 const AFTER_ONE: [Row<'static>; 4] = [
     ("rename", "d", "d", Code::Exists),
     ("rename", "x", "d/y", Code::NotFound),
@@ -280,14 +280,14 @@ fn an_identity_is_never_given_again(rt: HostRuntime) {
 
 const DEEP: &str = "q/a/a/a/a/a/a/a/a/a/a/a/a/a/a/a/a";
 
-/// A directory with a file, beside a file.
+/// A directory with a file, and a file next to it.
 const TREE: [Row<'static>; 3] = [
     ("make", "d", "", Code::Done),
     ("create", "f", "", Code::Done),
     ("create", "d/x", "", Code::Done),
 ];
 
-/// Each asks where there is such a tree.
+/// Operations on such a tree, and their codes.
 const FIRST_CHECKS: [Row<'static>; 22] = [
     ("create", "", "", Code::Root),
     ("create", DEEP, "", Code::TooDeep),
@@ -330,7 +330,7 @@ const NESTED_C: &str = "a/a/a/a/a/a/a/a/a/a/a/a/a/a/a/b/c";
 
 const NESTED_X: &str = "a/a/a/a/a/a/a/a/a/a/a/a/a/a/a/x";
 
-/// A new volume after they were made.
+/// A new volume with these fifteen directories.
 fn nested(rt: &impl Abort, alloc: Global) -> State
     ensures { IsWholeState result }
 {
@@ -342,7 +342,7 @@ fn nested(rt: &impl Abort, alloc: Global) -> State
     state
 }
 
-/// A directory with a file, and one without, are moved to the deepest place that there is.
+/// Moves a directory with a file, and one without, to the deepest place that there is.
 const MOVE_DEEPEST: [Row<'static>; 7] = [
     ("make", "d", "", Code::Done),
     ("make", "e", "", Code::Done),
@@ -353,13 +353,13 @@ const MOVE_DEEPEST: [Row<'static>; 7] = [
     ("rename", "e", NESTED_B, Code::Exists),
 ];
 
-/// Both are moved once the directory there is full.
+/// Moves the directory and its file there once the target is full.
 const MOVE_TO_FULL: [Row<'static>; 2] = [
     ("rename", "e", NESTED_X, Code::TooDeep),
     ("rename", "e/x", NESTED_X, Code::DirectoryFull),
 ];
 
-/// The state after so many files were created in one directory.
+/// The state after `count` files were created in one directory.
 fn with_files(rt: &impl Abort, alloc: Global, state: State, at: &str, count: u16) -> State
     requires { IsWholeState state }
     ensures { IsWholeState result }
@@ -403,7 +403,7 @@ fn full(rt: &impl Abort, alloc: Global) -> State
     state
 }
 
-/// What is asked where there is no room for one more node, nor for one more name.
+/// Operations without room for one more node, or for one more name.
 const FULL: [Row<'static>; 5] = [
     ("create", "0/0", "", Code::Exists),
     ("create", "0/x", "", Code::DirectoryFull),
@@ -422,14 +422,14 @@ fn a_directory_and_a_tree_are_full(rt: HostRuntime) {
     );
 }
 
-/// What is due for each client's request of this number.
+/// Checks what is due for each client's request of this number.
 fn check_due(rt: &impl Abort, state: &State, wanted: &[(u64, u64, Due)]) {
     for (client, number, due) in wanted {
         assert_eq!(rt; state.due(*client, *number), *due, "{client} {number}");
     }
 }
 
-/// The reply of the commit of this number to the removal of what is not there.
+/// What is due for the repeat of a removal that found nothing, in the commit of this number.
 fn not_found(commit: u64) -> Due {
     Due::Repeat(Reply {
         code: Code::NotFound,
@@ -459,7 +459,7 @@ fn four_replies_are_kept(rt: HostRuntime) {
     check_due(&rt, &volume_after(&rt, alloc, &SIX_REMOVALS), &wanted);
 }
 
-/// A new volume that keeps this reply alone of client 7.
+/// A new volume that keeps only this reply to client 7.
 fn with_one_reply(rt: &impl Abort, alloc: Global, latest: u64, reply: Reply) -> State {
     let mut state = formatted(rt, alloc);
     let record = ClientRecord {

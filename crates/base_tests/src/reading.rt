@@ -1,4 +1,5 @@
-//! Streams that are read into a reader of frames, by readers that give less than was asked for, are interrupted or fail.
+//! Streams that are read into a reader of frames, from readers that give less than was asked for, are interrupted, or
+//! fail.
 
 use crate::messages::{CREATE, OVERLONG, is_silent};
 use request::{FeedFault, Frames};
@@ -8,7 +9,7 @@ use std::io::{Error, ErrorKind, Read};
 use std::process::Abort;
 use std::test::Fail;
 
-/// What a reader does when it is asked next.
+/// What a reader does at the next read.
 #[derive(Clone, Copy)]
 enum Turn {
     Interrupted,
@@ -16,7 +17,7 @@ enum Turn {
     Gives,
 }
 
-/// A reader of some bytes that gives at most so many at once. It is interrupted before each read that gives some.
+/// A reader that gives at most `size` bytes at once. After each read that gives some, the next one is interrupted.
 #[derive(Drop)]
 struct Halting<'a> {
     bytes: &'a [u8],
@@ -53,7 +54,7 @@ fn reader_of(bytes: &[u8], size: usize) -> Halting<'_> {
     }
 }
 
-/// A create of a file of so many bytes, which differ from one another.
+/// A frame that creates a file of `count` bytes, with different bytes next to each other.
 fn long_create(alloc: Global, count: u16) -> Result<Vec<u8>, AllocError> {
     let (head, _) = CREATE.as_slice().split_at(33);
     let (_, fields) = head.split_at(4);
@@ -67,7 +68,7 @@ fn long_create(alloc: Global, count: u16) -> Result<Vec<u8>, AllocError> {
     Ok(frame)
 }
 
-/// A create, a query and a payload that is refused.
+/// Frames with a create, a query, and a payload that is refused.
 const THREE: [&[u8]; 3] = [&CREATE, &[2, 0, 0, 0, 0x11, 0], &[1, 0, 0, 0, 9]];
 
 fn put_all(bytes: &mut Vec<u8>, pieces: &[&[u8]]) -> Result<(), AllocError> {
@@ -77,7 +78,7 @@ fn put_all(bytes: &mut Vec<u8>, pieces: &[&[u8]]) -> Result<(), AllocError> {
     Ok(())
 }
 
-/// Creates, queries and payloads that are refused, a file that is longer than a piece, and at last half a frame.
+/// Creates, queries and payloads that are refused, a frame that is longer than a piece, and at the end half a frame.
 fn stream(alloc: Global) -> Result<Vec<u8>, AllocError> {
     let (half, _) = CREATE.as_slice().split_at(20);
     let mut bytes = Vec::new(alloc);
@@ -90,7 +91,7 @@ fn stream(alloc: Global) -> Result<Vec<u8>, AllocError> {
     Ok(bytes)
 }
 
-/// A reader of frames, and what the messages said that were whole, in words.
+/// A reader of frames, and the complete messages so far, as text.
 #[derive(Drop)]
 struct Listener {
     alloc: Global,
@@ -107,7 +108,7 @@ impl Listener {
         }
     }
 
-    /// Takes the messages that are whole.
+    /// Takes the messages that are complete.
     fn take(&mut self) -> Result<(), AllocError> {
         for _ in 0..u32::MAX {
             let Some(message) = self.frames.first() else {
@@ -127,7 +128,8 @@ impl Listener {
         self.take()
     }
 
-    /// Reads bytes to their end, of which the reader gives `size` and is asked for `most` at once, and counts them.
+    /// Reads bytes to their end. The reader gives at most `size` at once, and is asked for `most`. Returns how many
+    /// there were.
     fn read(&mut self, bytes: &[u8], size: usize, most: usize) -> Result<usize, Fail> {
         let mut reader = reader_of(bytes, size);
         let mut sum = 0usize;
@@ -143,14 +145,14 @@ impl Listener {
     }
 }
 
-/// What the messages of bytes say that are fed in one piece.
+/// The messages of bytes that are fed in one piece.
 fn told_of(alloc: Global, bytes: &[u8]) -> Result<Vec<String>, AllocError> {
     let mut listener = Listener::new(alloc);
     listener.feed(bytes)?;
     Ok(listener.told)
 }
 
-/// Whether so many messages are told, and the same, where bytes are read to their end in pieces of `size` and `most`.
+/// Whether bytes that are read to their end, in pieces of `size` and `most`, give the wanted messages.
 fn is_told(
     alloc: Global,
     bytes: &[u8],
@@ -179,7 +181,7 @@ fn a_stream_in_pieces_has_the_messages_that_are_fed(rt: HostRuntime) -> Result<(
     Ok(())
 }
 
-/// What the messages say where the bytes up to a cut are read, then half of the others fed, and the rest read.
+/// The messages if the bytes up to a cut are read, then half of the others are fed, and the rest is read.
 fn told_in_parts(alloc: Global, bytes: &[u8], cut: usize) -> Result<Vec<String>, Fail> {
     let (front, back) = bytes.split_at(cut.min(bytes.len()));
     let (middle, last) = back.split_at(back.len() / 2);
@@ -206,14 +208,14 @@ fn what_is_fed_and_what_is_read_are_one_stream(rt: HostRuntime) -> Result<(), Fa
 /// What a reader does, how many bytes it is asked for, and what is reported.
 type Asked = (Turn, usize, Result<usize, FeedFault>);
 
-/// Reads of 30 bytes of a create, which are no message yet.
+/// Reads of the first 30 bytes of a create, which are no message yet.
 const BEGUN: [Asked; 3] = [
     (Turn::Gives, 64, Ok(30)),
     (Turn::Fails, 64, Err(FeedFault::Read)),
     (Turn::Interrupted, 64, Ok(0)),
 ];
 
-/// Reads of the 12 others. No memory holds as many as are asked for first, and none is read.
+/// Reads of the other 12 bytes. There is no memory for as many as the first read asks for, so it reads none.
 const ENDED: [Asked; 2] = [
     (Turn::Gives, usize::MAX, Err(FeedFault::Memory)),
     (Turn::Gives, 64, Ok(12)),
@@ -227,7 +229,7 @@ fn check_reads(rt: &impl Abort, frames: &mut Frames, bytes: &[u8], asked: &[Aske
     }
 }
 
-/// Whether the whole messages are the create alone.
+/// Whether the create is the only complete message.
 fn takes_create(listener: &mut Listener) -> Result<bool, AllocError> {
     listener.take()?;
     let wanted = told_of(listener.alloc, &CREATE)?;

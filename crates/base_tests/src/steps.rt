@@ -1,5 +1,5 @@
-//! Tests of drives as lists of steps: each is a call and what it reports, or what is seen of the drive. What a write and a
-//! read require is looked at before each, so that a list may say anything.
+//! Tests of drives as lists of steps. Each step is a call and what it must report, or something that must be seen of
+//! the drive. What a write or a read requires is checked before each, so that a list may have any steps.
 
 ghost use Rattle.std.specs.Prelude.{◌≡◌, ◌≤◌, IfOk};
 ghost use Rattle.drive.specs.Journal.{next_of};
@@ -13,9 +13,9 @@ use std::test::Fail;
 #[derive(Clone, Copy)]
 pub(crate) enum Step<'a> {
     Capacity(u32),
-    /// The next address. What is written and read after it lies before it.
+    /// The next address. The blocks that are written and read after this step must begin at or below it.
     Next(Result<u32, DriveFault>),
-    /// Writes blocks that begin with these bytes, from an address on. After it `Next` comes again.
+    /// Writes blocks that begin with these bytes, from an address on. After it a list must have `Next` again.
     Write(u32, &'a [u8], Result<(), DriveFault>),
     /// Writes a run of two slices of such blocks.
     Run(u32, &'a [u8], &'a [u8], Result<(), DriveFault>),
@@ -23,25 +23,25 @@ pub(crate) enum Step<'a> {
     Read(u32, Result<(), DriveFault>),
     /// The block that is read into begins with this byte.
     Holds(u8),
-    /// How many bytes a file has after its last whole block, which are read.
+    /// How many bytes a file has after its last whole block. They are read.
     Part(Result<usize, DriveFault>),
     /// The file at a path has this size, and these bytes at their places.
     File(&'a str, usize, &'a [(usize, u8)]),
-    /// Gives the file at a path so many bytes, beside its drive.
+    /// Sets the length of the file at a path, without its drive.
     Resize(&'a str, u64),
-    /// Removes the file at a path, beside its drive.
+    /// Removes the file at a path, without its drive.
     Remove(&'a str),
     /// Sets a fault of a drive in memory.
     Arm(Fault),
     /// How many blocks were written to a drive in memory.
     Written(usize),
-    /// The address of one of them, and its first byte.
+    /// The address and the first byte of one of these blocks.
     Event(usize, u32, u8),
     /// How many calls of a drive in memory failed.
     Failures(u64),
 }
 
-/// The step of this place did not go as it is written.
+/// The step of this index did not go as it should.
 #[derive(Clone, Copy, Debug)]
 struct NotSo {
     step: usize,
@@ -49,7 +49,7 @@ struct NotSo {
 
 /// A drive that has steps of its own.
 pub(crate) trait Steps: Drive {
-    /// Whether such a step went so.
+    /// Takes a step that only this drive has. Returns whether it went as it should.
     fn own_step(
         &mut self,
         rt: &HostRuntime,
@@ -133,7 +133,7 @@ fn blocks(alloc: Global, firsts: &[u8]) -> Result<Vec<Block>, AllocError> {
     Ok(blocks)
 }
 
-/// Writes at most a packet, where the next address is at least `next`.
+/// Writes at most a packet. The next address must be at least `next`.
 fn write<D: Drive>(
     alloc: Global,
     drive: &mut D,
@@ -151,7 +151,7 @@ fn write<D: Drive>(
     Ok(drive.write(at, &blocks))
 }
 
-/// Writes a run, where the next address is at least `next`.
+/// Writes a run. The next address must be at least `next`.
 fn write_run<D: Drive>(
     alloc: Global,
     drive: &mut D,
@@ -174,7 +174,7 @@ fn write_run<D: Drive>(
     Ok(drive.write_run(at, &first, &second))
 }
 
-/// Reads a block, where the next address is at least `next`.
+/// Reads a block. The next address must be at least `next`.
 fn read<D: Drive>(
     drive: &mut D,
     next: u32,
@@ -190,7 +190,7 @@ fn read<D: Drive>(
     Ok(drive.read(at, into))
 }
 
-/// A step on any drive: whether it went so, and how far the next address is known after it.
+/// Takes a step on any drive. Returns whether it went as it should, and what the next address is known to be at least.
 fn step_on<D: Steps>(
     rt: &HostRuntime,
     drive: &mut D,

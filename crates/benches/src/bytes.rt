@@ -2,9 +2,10 @@
 
 use std::alloc::{AllocError, Global};
 
+/// A mebibyte, in bytes.
 pub const MEBIBYTE: usize = 1_048_576;
 
-/// A mebibyte of no pattern.
+/// A mebibyte of pseudorandom bytes.
 pub fn ordinary(alloc: Global) -> Result<Vec<u8>, AllocError> {
     let mut bytes = vec![in alloc; 0u8; MEBIBYTE]?;
     let mut state = 1u32;

@@ -1,10 +1,11 @@
-//! The check of the tags' bytes. bench/crc/crc.c does the same by a plain loop.
+//! The CRC of descriptors. bench/crc/crc.c does the same with a plain loop.
 
 use crate::bytes::{MEBIBYTE, ordinary};
 use crate::report::{Report, since, used};
 use std::io;
 
-/// The check of a mebibyte, so many times, and of 24 bytes, the length in a short file identifier, until these are as many.
+/// The CRC of a mebibyte, `count` times, and of 24 bytes, as in a short file identifier, as often as it takes for as
+/// many bytes in all.
 pub fn measure(rt: &HostRuntime, report: Report, count: u32) -> io::Result<()> {
     let mut bytes = ordinary(rt.alloc())?;
     for (length, rounds) in [(MEBIBYTE, count), (24, count.saturating_mul(43_690))] {

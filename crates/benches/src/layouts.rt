@@ -1,4 +1,4 @@
-//! Directories of 512 names, laid and read, beside a copy of the same blocks.
+//! Directories of 512 names, laid and read, compared with a copy of the same blocks.
 
 use crate::report::{Report, since, used, wrong};
 use dir::{Dir, Entry, Kind, lay, read_dir};
@@ -13,7 +13,7 @@ use std::io;
 /// Where the directory's data begins.
 const FIRST: u32 = 6;
 
-/// A name of so many letters at least, which ends in a number.
+/// A name of at least `letters` letters, which ends in a number.
 fn name_of(alloc: Global, number: u32, letters: usize) -> io::Result<Name> {
     let mut text = String::new(alloc);
     for _ in 3..letters {
@@ -23,7 +23,7 @@ fn name_of(alloc: Global, number: u32, letters: usize) -> io::Result<Name> {
     Name::read(alloc, text.as_str()).map_err(|_| wrong())
 }
 
-/// A directory of 512 files, whose names have so many letters at least.
+/// A directory of 512 files, whose names have at least `letters` letters.
 fn many(alloc: Global, letters: usize) -> io::Result<Dir> {
     let mut entries = IndexMap::new(alloc);
     for number in 0..512u32 {
@@ -81,7 +81,7 @@ struct Timed {
 }
 
 impl Timed {
-    /// Of work that began at `start` and has just ended.
+    /// The time of work that began at `start` and has just ended.
     fn since(rt: &HostRuntime, start: u128, count: usize) -> Timed {
         Timed {
             count,
@@ -90,7 +90,7 @@ impl Timed {
     }
 }
 
-/// Copies and reads the blocks of such a directory, which were laid before, and whose data has so many bytes.
+/// Copies and reads the blocks of such a directory, which were laid before, and whose data have `size` bytes.
 fn of_blocks(
     rt: &HostRuntime,
     report: Report,
@@ -114,7 +114,7 @@ fn of_blocks(
     report.took_beside(rt, read.taken, copied.taken)
 }
 
-/// Lays, copies and reads such a directory, whose data has so many bytes.
+/// Lays, copies and reads such a directory, whose data have `size` bytes.
 fn of_letters(
     rt: &HostRuntime,
     report: Report,
@@ -133,7 +133,7 @@ fn of_letters(
     of_blocks(rt, report, &blocks, laid, size, rounds)
 }
 
-/// Spellings of 4 and of 255 bytes, each directory so many times.
+/// Names whose spellings take 4 and 255 bytes, each directory `count` times.
 pub fn measure(rt: &HostRuntime, report: Report, count: u32) -> io::Result<()> {
     of_letters(rt, report, 3, 23_320, count)?;
     of_letters(rt, report, 254, 174_672, count)

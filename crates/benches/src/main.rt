@@ -1,8 +1,8 @@
-//! What frames and codecs take, beside plain work on the same bytes.
+//! How long frames and codecs take, compared with plain work on the same bytes.
 //!
-//! The words are names of benches, each with a count after it, as `crc 4 dir 2`; each bench says what it counts. What was
-//! done is printed, which is the same in each run. With `--times` as the first word, the processor time it took follows, in
-//! microseconds.
+//! The words are names of benches, each with a count after it, as `crc 4 dir 2`. Each bench says what it counts. It
+//! prints what was done, which is the same in each run. With `--times` as the first word, the processor time follows,
+//! in microseconds.
 #![tactic(auto)]
 
 mod bytes;
@@ -17,7 +17,7 @@ use std::process::ExitCode;
 use std::rt::Env;
 use std::{env, io};
 
-/// Runs a bench with its count. False: there is none of this name.
+/// Runs a bench with its count. Returns false if there is none of this name.
 fn run(rt: &HostRuntime, report: Report, name: &str, count: u32) -> io::Result<bool> {
     match name {
         "crc" => checks::measure(rt, report, count)?,
@@ -29,7 +29,7 @@ fn run(rt: &HostRuntime, report: Report, name: &str, count: u32) -> io::Result<b
     Ok(true)
 }
 
-/// Runs the benches that the words name. False: the words are no benches with counts.
+/// Runs the benches that the words name. Returns false if the words are no benches with counts.
 fn run_all(rt: &HostRuntime, words: &[String]) -> io::Result<bool> {
     let mut report = Report { times: false };
     let mut rest = words;

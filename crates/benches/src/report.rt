@@ -1,4 +1,4 @@
-//! What a bench reports: a line that says what was done, which a bench begins and this ends.
+//! What a bench reports: a line that says what was done. The bench begins it, and this ends it.
 
 use std::io;
 use std::io::{Error, ErrorKind};
@@ -7,12 +7,12 @@ use std::time::CpuClock;
 /// How a bench ends its lines.
 #[derive(Clone, Copy)]
 pub struct Report {
-    /// Also by what it took.
+    /// Whether they have the time that was taken.
     pub times: bool,
 }
 
 impl Report {
-    /// Ends a line, with a time where that is wanted.
+    /// Ends a line, with a time if that is wanted.
     pub fn took(self, rt: &HostRuntime, taken: u128) -> io::Result<()> {
         if self.times {
             println!(rt; ": {taken} us")
@@ -21,7 +21,7 @@ impl Report {
         }
     }
 
-    /// Ends a line, with a time and how many times that of plain work it is where that is wanted.
+    /// Ends a line, with a time, and how many times that of plain work it is, if that is wanted.
     pub fn took_beside(self, rt: &HostRuntime, taken: u128, plain: u128) -> io::Result<()> {
         let hundredths = taken.saturating_mul(100) / plain.max(1);
         let whole = hundredths / 100;
@@ -34,7 +34,7 @@ impl Report {
     }
 }
 
-/// The processor time that the program has used, in microseconds, or 0 where there is no clock.
+/// The processor time that the program has used, in microseconds, or 0 if there is no clock.
 pub fn used(rt: &HostRuntime) -> u128 {
     match rt.process_cpu_time() {
         Ok(time) => time.as_micros(),
@@ -47,7 +47,7 @@ pub fn since(rt: &HostRuntime, start: u128) -> u128 {
     used(rt).saturating_sub(start)
 }
 
-/// What a bench did not do.
+/// The error of a bench that could not do its work.
 pub fn wrong() -> Error {
     Error::from(ErrorKind::Other)
 }

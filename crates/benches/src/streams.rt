@@ -1,4 +1,4 @@
-//! Streams of frames in pieces, beside a copy of the same bytes.
+//! Streams of frames in pieces, compared with a copy of the same bytes.
 
 use crate::bytes::MEBIBYTE;
 use crate::report::{Report, since, used};
@@ -7,7 +7,7 @@ use std::alloc::{AllocError, Global};
 use std::io;
 use std::io::{Error, ErrorKind};
 
-/// What a frame of a file of one letter in the root has beside the file's bytes.
+/// How many bytes a frame has besides those of the file, if that has a name of one letter in the root.
 const BESIDE: usize = 37;
 
 /// Appends a frame of a mebibyte, which creates a file of these bytes by the request of this number.
@@ -41,7 +41,7 @@ fn small_frames(alloc: Global, count: u32) -> Result<Vec<u8>, AllocError> {
     Ok(bytes)
 }
 
-/// How many messages are whole.
+/// Takes the messages that are complete, and returns how many.
 fn taken(frames: &mut Frames) -> u32 {
     let mut count = 0u32;
     for _ in 0..u32::MAX {
@@ -54,7 +54,7 @@ fn taken(frames: &mut Frames) -> u32 {
     count
 }
 
-/// How many messages a stream has that is fed in pieces.
+/// How many messages a stream has, if it is fed in pieces.
 fn messages(alloc: Global, stream: &[u8], piece: usize) -> Result<u32, AllocError> {
     let mut frames = Frames::new(alloc);
     let mut count = 0u32;
@@ -65,7 +65,7 @@ fn messages(alloc: Global, stream: &[u8], piece: usize) -> Result<u32, AllocErro
     Ok(count)
 }
 
-/// How many messages a stream has that is read in pieces.
+/// How many messages a stream has, if it is read in pieces.
 fn messages_read(alloc: Global, stream: &[u8], piece: usize) -> io::Result<u32> {
     let mut frames = Frames::new(alloc);
     let mut rest = stream;
@@ -80,7 +80,7 @@ fn messages_read(alloc: Global, stream: &[u8], piece: usize) -> io::Result<u32> 
     Ok(count)
 }
 
-/// The messages of a stream in pieces of each size, beside a copy into new memory.
+/// The messages of a stream in pieces of each size, compared with a copy to new memory.
 fn in_pieces(rt: &HostRuntime, report: Report, name: &str, stream: &[u8]) -> io::Result<()> {
     let alloc = rt.alloc();
     let start = used(rt);
@@ -102,7 +102,7 @@ fn in_pieces(rt: &HostRuntime, report: Report, name: &str, stream: &[u8]) -> io:
     report.took_beside(rt, taken, copy_time)
 }
 
-/// So many frames of a mebibyte, 100 at most, and 10,000 times as many queries of 6 bytes.
+/// `count` frames of a mebibyte, at most 100, and 10,000 times as many queries of 6 bytes.
 pub fn measure(rt: &HostRuntime, report: Report, count: u32) -> io::Result<()> {
     let count = count.min(100);
     in_pieces(rt, report, "large", &large_frames(rt.alloc(), count)?)?;

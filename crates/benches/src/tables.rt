@@ -1,4 +1,4 @@
-//! Clear starts and tables, beside copies of the same bytes.
+//! Clear starts and tables, compared with copies of the same bytes.
 
 ghost use Rattle.vat.specs.Table.{view, FitsTable};
 
@@ -10,10 +10,10 @@ use std::alloc::{AllocError, Global};
 use std::io;
 use vat::{Vat, clear_start, decode_vat, encode_vat};
 
-/// The place of the VAT ICB.
+/// The block number of the VAT ICB.
 const ICB: u32 = 40_000;
 
-/// 512 entries of tables, for every second block number from 5 on: there is one that imitates at each start.
+/// 512 VAT ICBs, for every second block number from 5 on: at each start, one of them is at its own number.
 fn imitations(alloc: Global) -> Result<Vec<u8>, AllocError> {
     let mut bytes = Vec::new(alloc);
     let Some(moment) = Timestamp::of(0) else {
@@ -33,13 +33,13 @@ fn imitations(alloc: Global) -> Result<Vec<u8>, AllocError> {
     Ok(bytes)
 }
 
-/// The bytes of an implementation use of 64 records of four replies each.
+/// The size of an implementation use with 64 records of four replies each, in bytes.
 const IMPLEMENTATION_USE: u16 = 44 + 64 * 48;
 
 /// The label's dstring.
 const LABEL: [&[u8]; 3] = [b"\x08DISC", &[0; 122], &[5]];
 
-/// The revisions, and the implementation use up to its numbers: its identifier, its version, and how many records it has.
+/// The revisions, and the implementation use up to its numbers: its identifier, its version, and its count of records.
 const REVISIONS_AND_IDENTIFIER: [&[u8]; 4] = [
     &[1, 2, 1, 2, 1, 2, 0, 0],
     b"\x00*udfburn sessions",
@@ -108,7 +108,7 @@ fn start_often(bytes: &[u8], rounds: u32) -> u64 {
     count
 }
 
-/// The clear start of some bytes, so many times, and a copy of them as often.
+/// The clear start of some bytes, `rounds` times, and a copy of them as often.
 fn starts(
     rt: &HostRuntime,
     report: Report,
@@ -150,7 +150,7 @@ fn write_often(alloc: Global, vat: &Vat, rounds: u32) -> io::Result<usize>
     Ok(count)
 }
 
-/// The processor times of a table that is read, of one that is written, and of a copy of its bytes.
+/// The processor times for reading a table, for writing one, and for copying its bytes.
 #[derive(Clone, Copy)]
 struct Times {
     read: u128,
@@ -158,8 +158,8 @@ struct Times {
     copy: u128,
 }
 
-/// Reads and writes the table so many times, and copies its bytes as often. The counts are of entries read, and of bytes written
-/// and copied.
+/// Reads and writes the table `rounds` times, and copies its bytes as often. The counts are those of entries read, and
+/// of bytes written and copied.
 fn timed(rt: &HostRuntime, bytes: &[u8], vat: &Vat, rounds: u32) -> io::Result<(Times, [usize; 3])>
     requires { FitsTable (view vat.now) }
 {
@@ -177,7 +177,7 @@ fn timed(rt: &HostRuntime, bytes: &[u8], vat: &Vat, rounds: u32) -> io::Result<(
     Ok((times, [read, written, copied]))
 }
 
-/// The table read and written so many times, and a copy of its bytes as often.
+/// Reads and writes a table `rounds` times, copies its bytes as often, and prints both.
 fn tables(rt: &HostRuntime, report: Report, rounds: u32) -> io::Result<()> {
     let bytes = table(rt.alloc())?;
     let Ok(vat) = decode_vat(rt.alloc(), &bytes, ICB) else {
@@ -190,7 +190,7 @@ fn tables(rt: &HostRuntime, report: Report, rounds: u32) -> io::Result<()> {
     report.took_beside(rt, times.write, times.copy)
 }
 
-/// A mebibyte whose blocks imitate at each start so many times, an ordinary one and a table ten times as often.
+/// A mebibyte in which a block imitates at each start, `count` times; an ordinary one, and a table, ten times as often.
 pub fn measure(rt: &HostRuntime, report: Report, count: u32) -> io::Result<()> {
     let often = count.saturating_mul(10);
     starts(rt, report, "ordinary", &ordinary(rt.alloc())?, often)?;

@@ -1,4 +1,4 @@
-//! The calls of C, on the session that a handle stands for: each outcome as its number.
+//! The calls of C, on the session of a handle. Each returns its outcome as a number.
 
 ghost use Rattle.std.specs.Prelude.{◌≡◌};
 ghost use Rattle.capi.specs.Calls.{OpensVolume, OpensNewVolume, AnswersBytes, Counts, ShowsBlock, GivesBlock, Ended, presence_number};
@@ -98,7 +98,7 @@ pub(crate) fn end(session: &mut Session)
     session.end();
 }
 
-/// The number by which C learns whether there is a block.
+/// The number that C gets for whether there is a block.
 fn found(is_there: bool) -> i32
     ensures { result ≡ presence_number is_there }
 {

@@ -1,4 +1,4 @@
-//! The commits of a volume, one at a time from the newest down.
+//! The commits of a volume, one at a time, from the newest back.
 
 ghost use Rattle.limits.specs.declared.TheConstants.{PARTITION_START};
 ghost use Rattle.std.specs.Prelude.{◌≡◌, ◌≤◌, ◌<◌, ℕ, IsTrue, IfOk, IfErr};
@@ -18,8 +18,8 @@ use recover::{before, table_at, table_entry};
 use std::alloc::Global;
 use store::{Store, StoreFault};
 
-/// The newest commit, or the one before that whose VAT ICB stands at an address, by the store that an engine keeps, which is
-/// opened where none is.
+/// The newest commit if `after` is 0, and otherwise the one before that whose VAT ICB is at the address `after`. Uses
+/// the engine's store, and opens it if none is open. `NoCommit` if there is none before.
 pub(crate) fn opened_commit<D: Drive>(
     alloc: Global,
     engine: &mut Engine,
@@ -42,7 +42,7 @@ pub(crate) fn opened_commit<D: Drive>(
     }
 }
 
-/// The same, by the store that is open.
+/// The same as `opened_commit`, by the store that is open.
 fn commit_before<D: Drive>(
     alloc: Global,
     store: &Store,
@@ -63,7 +63,8 @@ fn commit_before<D: Drive>(
     }
 }
 
-/// The address of its VAT ICB.
+/// The address of the VAT ICB of that commit. `NoCommit` if `after` is no address of a written block in the partition,
+/// or that of the format.
 fn address_before<D: Drive>(
     alloc: Global,
     store: &Store,
@@ -96,7 +97,7 @@ fn address_before<D: Drive>(
     }
 }
 
-/// The commit whose VAT ICB stands at an address.
+/// The commit whose VAT ICB is at an address.
 fn commit_at<D: Drive>(alloc: Global, drive: &mut D, at: u32) -> Result<CommitStatus, StoreFault>
     requires low { PARTITION_START ≤ at }
     requires within { at < next_of (D.journal drive.old) }

@@ -1,4 +1,5 @@
-//! The functions that C calls. A handle is the address of a session's box, which C frees when the session has ended.
+//! The functions that C calls. A handle is the address of a session's box, which C frees after the session has ended.
+//! Each status is a number of `fault.rt`.
 
 ghost use types.Logic.{sem};
 ghost use base.Fml.{fex};
@@ -25,8 +26,8 @@ use crate::volumes::format_file;
 use limits::Block;
 use std::alloc::Global;
 
-/// Makes a volume on the file under a descriptor, or finishes one that the same words began. The descriptor is closed in any
-/// case.
+/// Makes a volume on the file of a descriptor, or finishes one that a format with the same words began. The descriptor
+/// is closed in any case.
 #[unsafe(no_mangle)]
 pub extern "C" fn udfburn_core_format_fd(
     alloc: Global,
@@ -40,7 +41,8 @@ pub extern "C" fn udfburn_core_format_fd(
     status_of(format_file(alloc, fd, label, moment, capacity))
 }
 
-/// Gives C the box of a session that has ended. One of the next two calls opens a volume in it.
+/// Gives C the box of a session that has ended. `udfburn_core_open_fd` or `udfburn_core_open_memory` opens a volume in
+/// it. If there is no memory, `out` stays as it was.
 #[unsafe(no_mangle)]
 pub extern "C" fn udfburn_core_new(alloc: Global, out: &mut *mut u8) -> i32
     ensures* { sem 𝓛 (fex ((core : Option Session) × HandsOut result out.old out.new core) (λ k. handed_at out.new k.0)) }
@@ -50,8 +52,8 @@ pub extern "C" fn udfburn_core_new(alloc: Global, out: &mut *mut u8) -> i32
     status
 }
 
-/// Opens the volume on the file under a descriptor, which is the session's from then on. Where this is refused the descriptor
-/// is closed, and the session stays as it was.
+/// Opens the volume on the file of a descriptor, which the session owns from then on. If this is refused, the
+/// descriptor is closed, and the session stays as it was.
 #[unsafe(no_mangle)]
 pub unsafe extern "C" fn udfburn_core_open_fd(handle: *mut u8, fd: i32) -> i32
     ghost held: { Session }
@@ -61,7 +63,7 @@ pub unsafe extern "C" fn udfburn_core_open_fd(handle: *mut u8, fd: i32) -> i32
     calls::open_fd(unsafe { &mut *handle.cast::<Session>() }, fd)
 }
 
-/// Opens a new volume in memory, whose blocks the caller takes.
+/// Opens a new volume in memory, whose blocks the caller takes. If this is refused, the session stays as it was.
 #[unsafe(no_mangle)]
 pub unsafe extern "C" fn udfburn_core_open_memory(
     handle: *mut u8,
@@ -81,7 +83,7 @@ pub unsafe extern "C" fn udfburn_core_open_memory(
     )
 }
 
-/// Takes bytes of the stream of messages, and answers those that are whole.
+/// Takes bytes of the stream of messages, and answers the messages that are complete.
 #[unsafe(no_mangle)]
 pub unsafe extern "C" fn udfburn_core_answer(handle: *mut u8, bytes: &[u8]) -> i32
     ghost held: { Session }
@@ -101,7 +103,7 @@ pub unsafe extern "C" fn udfburn_core_answered(handle: *mut u8) -> usize
     calls::answered(unsafe { &mut *handle.cast::<Session>() })
 }
 
-/// Moves the first bytes of the answers that wait out: how many they are.
+/// Moves the first bytes of the answers that wait to `into`. Returns how many.
 #[unsafe(no_mangle)]
 pub unsafe extern "C" fn udfburn_core_take(handle: *mut u8, into: &mut [u8]) -> usize
     ghost held: { Session }
@@ -111,7 +113,7 @@ pub unsafe extern "C" fn udfburn_core_take(handle: *mut u8, into: &mut [u8]) -> 
     calls::take(unsafe { &mut *handle.cast::<Session>() }, into)
 }
 
-/// Shows the first block of a volume in memory that was not taken yet.
+/// Copies the first block of a volume in memory that was not taken yet, and its address.
 #[unsafe(no_mangle)]
 pub unsafe extern "C" fn udfburn_core_next_block(
     handle: *mut u8,
@@ -135,7 +137,7 @@ pub unsafe extern "C" fn udfburn_core_took(handle: *mut u8) -> i32
     calls::took(unsafe { &mut *handle.cast::<Session>() })
 }
 
-/// The number of the last request of a client that the volume knows, or 0.
+/// The number of the last request of a client, or 0 if the volume does not know it.
 #[unsafe(no_mangle)]
 pub unsafe extern "C" fn udfburn_core_last_number(
     handle: *mut u8,
@@ -149,7 +151,7 @@ pub unsafe extern "C" fn udfburn_core_last_number(
     calls::last_number(unsafe { &mut *handle.cast::<Session>() }, client, number)
 }
 
-/// What the volume is, and how far it is written.
+/// The state of the volume, and how far it is written.
 #[unsafe(no_mangle)]
 pub unsafe extern "C" fn udfburn_core_status(handle: *mut u8, told: &mut Status) -> i32
     ghost held: { Session }
@@ -159,7 +161,7 @@ pub unsafe extern "C" fn udfburn_core_status(handle: *mut u8, told: &mut Status)
     calls::status(unsafe { &mut *handle.cast::<Session>() }, told)
 }
 
-/// The newest commit after 0, or the one before that whose VAT ICB stands at an address.
+/// The newest commit if `after` is 0, and otherwise the one before that whose VAT ICB is at the address `after`.
 #[unsafe(no_mangle)]
 pub unsafe extern "C" fn udfburn_core_log(
     handle: *mut u8,
@@ -173,7 +175,7 @@ pub unsafe extern "C" fn udfburn_core_log(
     calls::log(unsafe { &mut *handle.cast::<Session>() }, after, told)
 }
 
-/// Ends the session: C then frees the handle.
+/// Ends the session. C then frees the handle.
 #[unsafe(no_mangle)]
 pub unsafe extern "C" fn udfburn_core_end(handle: *mut u8)
     ghost held: { Session }

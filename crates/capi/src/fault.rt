@@ -1,22 +1,22 @@
-//! Why a call was refused, and the number by which C learns it.
+//! Why a call was refused, and the number that C gets for it.
 
 ghost use Rattle.std.specs.Prelude.{◌≡◌};
 ghost use Rattle.capi.specs.Numbers.{status, fault_of_store};
 
 use store::StoreFault;
 
-/// Why a call was refused. Nothing of it concerns a message, which has its own answer.
+/// Why a call was refused. A message that is refused has an answer instead.
 #[derive(Clone, Copy, Debug, PartialEq, Eq)]
 pub enum Fault {
     /// There was no memory.
     Memory,
-    /// The file or the drive cannot be had, is held by another writer, or failed.
+    /// The file or the drive cannot be opened, is held by another writer, or failed.
     Device,
-    /// A frame was longer than a frame may be, so that the stream of messages is at its end.
+    /// A frame was longer than a frame may be: no further message is answered.
     TooLong,
     /// A label is not valid.
     Text,
-    /// No volume recovers there, or none can be made there.
+    /// There is no sound volume, or none can be made with these words.
     Volume,
     /// There is no such block, or no such commit.
     Nothing,
@@ -40,7 +40,7 @@ impl Fault {
     }
 }
 
-/// What a refusal of a store or of a format is to the caller.
+/// The fault for the caller when a store or a format refuses.
 pub(crate) fn fault_of(fault: StoreFault) -> Fault
     ensures { result ≡ fault_of_store fault }
 {
@@ -53,7 +53,7 @@ pub(crate) fn fault_of(fault: StoreFault) -> Fault
     }
 }
 
-/// The number by which C learns of an outcome.
+/// The number that C gets for an outcome.
 pub(crate) fn status_of(outcome: Result<(), Fault>) -> i32
     ensures { result ≡ status outcome }
 {

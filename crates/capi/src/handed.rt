@@ -11,7 +11,7 @@ use crate::session::Session;
 use std::alloc::Global;
 use std::marker::Model;
 
-/// The address that C gets, and the number by which it learns whether a session lies there.
+/// The address that C gets, and the number for whether a session is there.
 pub(crate) struct Handed {
     pub(crate) at: *mut u8,
     pub(crate) status: i32,
@@ -36,7 +36,7 @@ impl Handed {
         }
     }
 
-    /// No session, and a pointer of the caller's.
+    /// No session, and the caller's pointer.
     pub(crate) fn none(at: *mut u8, status: i32) -> Handed
         ensures { (result.at ≡ at) × (result.status ≡ status) × (result.core ≡ None) }
     {

@@ -23,7 +23,7 @@ use request::Frames;
 use std::alloc::{AllocError, Global};
 use store::StoreFault;
 
-/// Answers the messages that are whole, and appends each answer's frame.
+/// Answers the messages that are complete, and appends each answer's frame.
 pub(crate) fn answer_on(
     alloc: Global,
     medium: &mut Medium,
@@ -44,7 +44,7 @@ pub(crate) fn answer_on(
     }
 }
 
-/// Opens the store where none is open, or where a write failed.
+/// Opens the store if none is open, or if a write failed.
 pub(crate) fn open_on(
     alloc: Global,
     medium: &mut Medium,
@@ -69,7 +69,7 @@ pub(crate) fn open_on(
     }
 }
 
-/// What the volume is, by the store that is open, or is opened.
+/// The state of the volume, by the engine's store, which is opened if none is open.
 pub(crate) fn status_by(
     alloc: Global,
     medium: &mut Medium,
@@ -92,7 +92,7 @@ pub(crate) fn status_by(
     }
 }
 
-/// The newest commit, or the one before that whose VAT ICB stands at an address.
+/// The newest commit if `after` is 0, and otherwise the one before that whose VAT ICB is at the address `after`.
 pub(crate) fn commit_by(
     alloc: Global,
     medium: &mut Medium,

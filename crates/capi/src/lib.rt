@@ -1,4 +1,4 @@
-//! The writer as a C library: sessions of the engine that `serve` uses, and the functions by which C has them.
+//! The core of the C library: sessions of the engine, and the functions by which C uses them.
 #![tactic(auto)]
 
 mod calls;

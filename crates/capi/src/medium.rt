@@ -1,8 +1,8 @@
-//! What a session's volume lies on.
+//! What a session's volume is on.
 
 use drive::{FileDrive, MemDrive};
 
-/// What a session's volume lies on.
+/// What a session's volume is on.
 #[derive(Drop)]
 pub enum Medium {
     /// An image file, locked while it is held.

@@ -1,4 +1,4 @@
-//! What a store reports beside messages.
+//! What a store reports without a message.
 
 ghost use Rattle.std.specs.Prelude.{◌≡◌, ◌++◌, ◌≤◌, ℕ, length, drop, IsTrue, IfOk, IfErr};
 ghost use Rattle.model.specs.Session.{State};
@@ -20,7 +20,7 @@ use std::alloc::Global;
 use store::{Store, StoreFault};
 use vat::Record;
 
-/// The number of the last request of a client that has a record here, or 0.
+/// The number of the last request of a client, or 0 if it has no record here.
 pub(crate) fn last_of(records: &[Record], client: u64) -> u64
     ensures { result ≡ last_kept client records.now }
 {
@@ -32,7 +32,7 @@ pub(crate) fn last_of(records: &[Record], client: u64) -> u64
     0
 }
 
-/// What a volume is, and how far it is written, by the store that is open on it.
+/// The state of a volume, and how far it is written, by the store that is open on it.
 pub(crate) fn status_on<D: Drive>(
     alloc: Global,
     store: &Store,
@@ -73,7 +73,8 @@ pub(crate) fn status_on<D: Drive>(
     })
 }
 
-/// Puts a label's text at the beginning of the room, and leaves what comes after it: how many bytes the text has.
+/// Copies a label's text to the beginning of `into`, and leaves what comes after it. Returns how many bytes the text
+/// has.
 fn put_label(alloc: Global, label: Label, into: &mut [u8; 64]) -> Result<u32, StoreFault>
     requires { length label ≤ 64 }
     ensures text { IfOk result (λ count. (count ≡ length label) × (into.new ≡ label ++ drop count into.old)) }
@@ -87,7 +88,7 @@ fn put_label(alloc: Global, label: Label, into: &mut [u8; 64]) -> Result<u32, St
     Ok(bytes.len() as u32)
 }
 
-/// The same, by the store that an engine keeps, which is opened where none is.
+/// The same as `status_on`, by the engine's store, which is opened if none is open.
 pub(crate) fn opened_status<D: Drive>(
     alloc: Global,
     engine: &mut Engine,

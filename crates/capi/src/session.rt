@@ -1,4 +1,4 @@
-//! A volume that is open for a caller in C: what it lies on, the engine that answers, and what was not taken yet.
+//! A volume that is open for a caller in C: what it is on, the engine that answers, and what was not taken yet.
 
 ghost use Rattle.std.specs.Prelude.{◌≤◌, vec_len};
 ghost use Rattle.engine.specs.Situation.{IsReady};
@@ -17,7 +17,7 @@ use limits::Block;
 use request::Frames;
 use std::alloc::Global;
 
-/// What a handle stands for.
+/// The session that a handle leads to.
 #[derive(Drop)]
 pub struct Session {
     pub(crate) alloc: Global,
@@ -59,8 +59,8 @@ impl Session {
         }
     }
 
-    /// Opens the volume on the file under a descriptor, in the place of what the session held. The file is closed where this is
-    /// refused, and the session is then as it was.
+    /// Opens the volume on the file of a descriptor, in place of what the session held. If this is refused, the file is
+    /// closed, and the session stays as it was.
     pub fn open_file(&mut self, fd: i32) -> Result<(), Fault>
         ensures { OpensFile result self.old self.new }
     {
@@ -70,7 +70,8 @@ impl Session {
         }
     }
 
-    /// Opens a new volume in memory, in the place of what the session held. Where this is refused the session is as it was.
+    /// Opens a new volume in memory, in place of what the session held. If this is refused, the session stays as it
+    /// was.
     pub fn open_memory(&mut self, label: &[u8], moment: u64, capacity: u32) -> Result<(), Fault>
         ensures { OpensMemory label.now moment capacity result self.old self.new }
     {
@@ -80,7 +81,7 @@ impl Session {
         }
     }
 
-    /// Opens the volume on a medium, in the place of what the session held.
+    /// Opens the volume on a medium, in place of what the session held.
     fn turn_to(&mut self, medium: Medium) -> Result<(), Fault>
         ensures opened { OnOk result (Opened medium self.new) }
         ensures refused { IfErr result (λ fault. RefusesToOpen medium fault × (self.new ≡ self.old)) }
@@ -110,7 +111,7 @@ impl Session {
         }
     }
 
-    /// A session that was sent nothing, with an engine that is ready on a medium.
+    /// A session that was sent nothing yet, with an engine that is ready on a medium.
     fn of(alloc: Global, medium: Medium, engine: Engine) -> Session
         requires { IsReady (seen_by engine medium) }
         ensures medium { result.medium ≡ medium }
@@ -132,8 +133,9 @@ impl Session {
         }
     }
 
-    /// Takes bytes of the stream of messages, and answers those that are whole. Their answers wait after those that wait
-    /// already. A refusal ends the stream: each later call is refused alike, and takes nothing.
+    /// Takes bytes of the stream of messages, and answers the messages that are complete. Their answers wait after
+    /// those that wait already. A refusal ends the stream: each later call is refused with the same fault, and takes
+    /// nothing.
     pub fn answer(&mut self, bytes: &[u8]) -> Result<(), Fault>
         ensures { AnswersStream result bytes.now self.old self.new }
     {
@@ -147,7 +149,8 @@ impl Session {
         outcome
     }
 
-    /// Takes bytes of the stream of messages, and answers those that are whole.
+    /// Takes bytes of the stream of messages, and answers the messages that are complete. `Memory` if there is none,
+    /// and `TooLong` if a frame is longer than a frame may be.
     fn take_in(&mut self, bytes: &[u8]) -> Result<(), Fault>
         ensures ok { OnOk result (AnswersMessages bytes.now self.old self.new) }
         ensures err { IfErr result (λ fault. StopsBy fault bytes.now self.old self.new) }
@@ -181,7 +184,7 @@ impl Session {
         self.answers.len() - self.taken
     }
 
-    /// Moves the first bytes of the answers that wait out, as many as there are and have room: how many they are.
+    /// Moves the first bytes of the answers that wait to `into`, as many as there are and have room. Returns how many.
     pub fn take(&mut self, into: &mut [u8]) -> usize
         ensures { Took self.old into.old result self.new into.new }
     {
@@ -192,7 +195,8 @@ impl Session {
         count
     }
 
-    /// Moves what waits to the beginning, where each byte that is moved is paid for by one that was taken.
+    /// Moves what waits to the beginning, if at least as many bytes were taken. So all moves together cost no more than
+    /// the bytes that were taken.
     fn close_up(&mut self)
         ensures waits { waiting self.new ≡ waiting self.old }
         ensures same { SameSession self.old self.new }
@@ -207,7 +211,8 @@ impl Session {
         }
     }
 
-    /// Shows the first block that was written in memory and not taken yet: whether there is one.
+    /// Copies the first block that was written in memory and not taken yet, and its address. Returns whether there is
+    /// one.
     pub fn next_block(&self, address: &mut u32, block: &mut Block) -> bool
         ensures { Shows self.now result (address.old, block.old) (address.new, block.new) }
     {
@@ -224,7 +229,7 @@ impl Session {
         }
     }
 
-    /// Takes the block that `next_block` shows: whether there was one.
+    /// Counts the block that `next_block` copies as taken. Returns whether there was one.
     pub fn took(&mut self) -> bool
         ensures { GivesOneBlock self.old result self.new }
     {
@@ -238,7 +243,7 @@ impl Session {
         true
     }
 
-    /// Opens the volume where it is not open, or where a write failed.
+    /// Opens the volume if it is not open, or if a write failed.
     fn look(&mut self) -> Result<(), Fault>
         ensures asked { Asked self.old self.new }
         ensures kept { OnOk result ((store : Store) × IsOpen (seen self.new) store) }
@@ -250,7 +255,7 @@ impl Session {
         }
     }
 
-    /// The number of the last request of a client that the volume knows, or 0.
+    /// The number of the last request of a client, or 0 if the volume does not know it.
     pub fn last_number(&mut self, client: u64) -> Result<u64, Fault>
         ensures reports { TellsNumber client result self.old self.new }
         ensures asked { Asked self.old self.new }
@@ -262,7 +267,7 @@ impl Session {
         Ok(last_of(&store.newest().sessions.records, client))
     }
 
-    /// What the volume is, and how far it is written. A refusal leaves what is there.
+    /// The state of the volume, and how far it is written. If this is refused, `told` stays as it was.
     pub fn status(&mut self, told: &mut Status) -> Result<(), Fault>
         ensures status { StatusIs result told.old told.new self.old self.new }
         ensures asked { Asked self.old self.new }
@@ -276,7 +281,8 @@ impl Session {
         }
     }
 
-    /// The newest commit, or the one before that whose VAT ICB stands at an address. A refusal leaves what is there.
+    /// The newest commit if `after` is 0, and otherwise the one before that whose VAT ICB is at the address `after`. If
+    /// this is refused, `told` stays as it was.
     pub fn commit_before(&mut self, after: u32, told: &mut CommitStatus) -> Result<(), Fault>
         ensures commit { CommitIs after result told.old told.new self.old self.new }
         ensures asked { Asked self.old self.new }
@@ -290,7 +296,7 @@ impl Session {
         }
     }
 
-    /// Lets all go that the session holds, so that a file is closed and unlocked, and no memory is kept.
+    /// Drops all that the session holds, so that a file is closed and unlocked, and no memory is kept.
     pub fn end(&mut self)
         ensures { Ended self.new }
     {

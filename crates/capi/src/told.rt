@@ -1,23 +1,26 @@
-//! What C is told of a volume, as it crosses.
+//! What C is told about a volume, in the layout of C.
 
-/// A volume, as it is.
+/// The state of a volume.
 #[repr(C)]
 #[derive(Clone, Copy)]
 pub struct Status {
-    /// Of the newest commit, or of the format, in microseconds from 1970-01-01 UTC.
+    /// The moment of the newest commit, or of the format, in microseconds from 1970-01-01 UTC.
     pub moment: u64,
-    /// In blocks.
+    /// How many blocks the volume has.
     pub capacity: u32,
     /// The address at which the next commit begins.
     pub next: u32,
+    /// The number of the newest commit: 0 for the format.
     pub commits: u32,
+    /// How many files the tree has.
     pub files: u32,
-    /// The root counted.
+    /// How many directories the tree has, including the root.
     pub directories: u32,
+    /// How many clients the volume knows.
     pub clients: u32,
     /// How many bytes of `label` are the label's.
     pub label_length: u32,
-    /// As UTF-8, and zeros after it.
+    /// The label in UTF-8, with zeros after it.
     pub label: [u8; 64],
 }
 
@@ -25,14 +28,14 @@ pub struct Status {
 #[repr(C)]
 #[derive(Clone, Copy)]
 pub struct CommitStatus {
-    /// Of its VAT ICB, in microseconds from 1970-01-01 UTC.
+    /// The moment of its VAT ICB, in microseconds from 1970-01-01 UTC.
     pub moment: u64,
-    /// How many commits there were with it: 0 for the format.
+    /// Its number: 0 for the format, 1 for the first request.
     pub number: u32,
     /// The address of its VAT ICB.
     pub address: u32,
     /// How many files the tree had after it.
     pub files: u32,
-    /// The root counted.
+    /// How many directories the tree had after it, including the root.
     pub directories: u32,
 }

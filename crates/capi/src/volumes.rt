@@ -1,4 +1,4 @@
-//! New volumes, and drives over the descriptors of a caller.
+//! New volumes, and drives over descriptors of the caller.
 
 ghost use Rattle.limits.specs.declared.TheConstants.{MOMENT_LIMIT};
 ghost use Rattle.std.specs.Prelude.{◌≡◌, ◌<◌, ℕ, List, IfOk, IfErr, OnOk};
@@ -14,7 +14,7 @@ use limits::{BLOCK_SIZE, MOMENT_LIMIT};
 use std::alloc::Global;
 use store::StoreFault;
 
-/// The drive over a descriptor, which is closed where it is dropped, also where this is refused.
+/// The drive over a descriptor, which is closed when the drive is dropped, or if this is refused.
 pub(crate) fn drive_of(fd: i32, capacity: u32) -> Result<FileDrive, Fault>
     ensures image { IfOk result (λ drive. (image : List (List ℕ)) × BeginsWith image drive) }
     ensures capacity { IfOk result (λ drive. capacity_of drive ≡ capacity) }
@@ -26,7 +26,8 @@ pub(crate) fn drive_of(fd: i32, capacity: u32) -> Result<FileDrive, Fault>
     }
 }
 
-/// Makes a volume on the file under a descriptor, or finishes one that the same words began.
+/// Makes a volume on the file of a descriptor, or finishes one that a format with the same words began. `Text` if the
+/// label is not UTF-8 or no label, and `Volume` if the moment is `MOMENT_LIMIT` or later.
 pub(crate) fn format_file(
     alloc: Global,
     fd: i32,
@@ -44,7 +45,7 @@ pub(crate) fn format_file(
     format_on(alloc, &mut drive, &mut look, label, moment)
 }
 
-/// Makes a volume on a file, or finishes one. What lies after its last whole block is kept in `look`.
+/// Makes a volume on a file, or finishes one. Contracts see in `look` what is after its last whole block.
 fn format_on(
     alloc: Global,
     drive: &mut FileDrive,
@@ -88,7 +89,7 @@ fn require_beginning_of(
     require_beginning(alloc, drive, &part[..count], label, moment)
 }
 
-/// A new volume in memory.
+/// Makes a new volume in memory. The faults are those of `format_file`.
 pub(crate) fn format_memory(
     alloc: Global,
     label: &[u8],

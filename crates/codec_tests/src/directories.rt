@@ -1,4 +1,4 @@
-//! The identifiers of a directory one by one.
+//! The identifiers of a directory, one by one.
 
 use dir::{Dir, Entry, Fids, Kind, lay};
 use indexmap::IndexMap;
@@ -15,7 +15,7 @@ pub(crate) fn empty(alloc: Global) -> Dir {
     }
 }
 
-/// A text of so many letters that ends with the digits of a number.
+/// A text of at least `letters` characters, which ends with the digits of a number.
 pub(crate) fn numbered(alloc: Global, number: usize, letters: usize) -> Result<String, Fail> {
     let digits = format!(in alloc; "{number}")?;
     let mut text = String::new(alloc);

@@ -1,4 +1,4 @@
-//! Directories that are laid by the identifiers that are kept of their names.
+//! Directories that are laid with the kept identifiers of their names.
 
 ghost use Rattle.std.specs.Prelude.{OnOk};
 ghost use Rattle.dir.specs.Fronts.{IsIdentifierPrefix};
@@ -11,7 +11,7 @@ use std::alloc::Global;
 use std::process::Abort;
 use std::test::Fail;
 
-/// Adds a name whose length, kind and numbers go by its number.
+/// Adds a name whose length, kind and numbers depend on its number.
 fn add(
     rt: &impl Abort,
     alloc: Global,
@@ -58,7 +58,7 @@ fn add_all(
     Ok(())
 }
 
-/// The directory is laid by what is kept as it is laid without.
+/// Checks that the directory is laid with its kept identifiers as it is laid without.
 fn check_laid(
     rt: &impl Abort,
     alloc: Global,

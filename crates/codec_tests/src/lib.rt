@@ -1,5 +1,5 @@
-//! Tests of the codecs and of what is read back of a medium, of what no vector says: `vectors` has all others. They are in a
-//! crate of their own, so that what they test is proved once; they use what is public.
+//! Tests of the codecs, and of what is read back from a medium, for what no vector can say: `vectors` has all others.
+//! They are in a crate of their own, so that what they test is proved once. They use only what is public.
 #![tactic(auto)]
 
 #[cfg(test)]

@@ -1,4 +1,4 @@
-//! Media made by hand.
+//! Media that are made block by block.
 
 ghost use Rattle.std.specs.Prelude.{◌<◌, ◌≤◌};
 
@@ -35,7 +35,7 @@ pub(crate) fn add(drive: &mut MemDrive, block: &Block) -> Result<(), Fail> {
     Ok(())
 }
 
-/// The entry of the root, which has no directory in it.
+/// The entry of a root without directories.
 pub(crate) fn root_entry(size: u32, first: u32) -> Result<Block, Fail>
     requires some { 0 < size }
     requires small { size ≤ 65_536 }
@@ -79,7 +79,7 @@ pub(crate) struct Numbers {
     pub commits: u32,
 }
 
-/// Those of a format.
+/// The numbers of a format.
 pub(crate) const FORMATTED: Numbers = Numbers {
     previous: u32::MAX,
     files: 0,
@@ -88,10 +88,12 @@ pub(crate) const FORMATTED: Numbers = Numbers {
     commits: 0,
 };
 
-/// What the data of a table begins with: the lengths of its header and of the implementation use, and the label's dstring.
+/// The beginning of the data of a table: the lengths of its header and of its implementation use, and the label's
+/// dstring.
 const LENGTHS_AND_LABEL: [&[u8]; 4] = [&[196, 0, 44, 0], b"\x08DISC", &[0; 122], &[5]];
 
-/// The revisions, and the implementation use up to its numbers: its identifier, its version, and that it has no record.
+/// The revisions, and the implementation use up to its numbers: its identifier, its version, and its count of records,
+/// 0.
 const REVISIONS_AND_IDENTIFIER: [&[u8]; 4] = [
     &[1, 2, 1, 2, 1, 2, 0, 0],
     b"\x00*udfburn sessions",
@@ -146,7 +148,7 @@ pub(crate) fn file_set() -> Result<Block, Fail> {
     Ok(encode_fsd(&set))
 }
 
-/// A name of a directory, and what it is of: its kind, its virtual address and its unique ID.
+/// A name in a directory, and its entry: its kind, its virtual address and its unique ID.
 pub(crate) type Item = (&'static str, dir::Kind, u32, u32);
 
 /// The one block of a directory's data.
@@ -210,7 +212,7 @@ pub(crate) const USED: Numbers = Numbers {
     commits: 1,
 };
 
-/// What a commit writes that makes a file `a` in the root, at the addresses 262 to 266.
+/// What a commit that makes a file `a` in the root writes, at the addresses 262 to 266.
 pub(crate) fn created(rt: &impl Abort, alloc: Global) -> Result<[Block; 5], Fail> {
     Ok([
         file(16, 2)?,
@@ -253,7 +255,8 @@ pub(crate) fn state_of(
     Ok(state_at(alloc, drive, at))
 }
 
-/// The chain of a format, of a commit that makes a file, and of one that writes its table alone, by its commits.
+/// The chain of a format, of a commit that makes a file, and of one that writes only a table with this count of
+/// commits.
 pub(crate) fn chain(rt: &impl Abort, alloc: Global, commits: u32) -> Result<MemDrive, Fail> {
     let mut drive = volume_after(rt, alloc, &created(rt, alloc)?)?;
     let numbers = Numbers {

@@ -1,4 +1,4 @@
-//! The reads that a state takes: what is reported where each fails in turn, and what is not read again.
+//! The reads that a state takes: what is reported if each fails in turn, and what is not read again.
 
 ghost use Rattle.drive.specs.Journal.{held};
 ghost use Rattle.drive.specs.MemDrive.{journal_of};
@@ -15,7 +15,8 @@ use std::test::Fail;
 fn a_failed_read_is_told(rt: HostRuntime) -> Result<(), Fail> {
     let alloc = rt.alloc();
     let mut drive = volume_after(&rt, alloc, &created(&rt, alloc)?)?;
-    // One of the VAT ICB, two and then all of the volume header, the table's data, the file set, the root and the file.
+    // Two and then all 257 of the volume header, the VAT ICB, the table's data, the file set, two of the root, and the
+    // file.
     for read in 1..=265 {
         drive.arm(Fault::Read(read));
         let refused = state_of(alloc, &mut drive, 266)?.err();
@@ -70,7 +71,7 @@ fn what_two_states_share_is_read_once(rt: HostRuntime) -> Result<(), Fail> {
     let mut drive = chain(&rt, alloc, 2)?;
     // The VAT ICB, its data and the file set.
     assert!(rt; reads_after(alloc, &mut drive, 268, 266)? == 3);
-    // Beside these the root that they do not share, its entry and its data.
+    // And the root, which they do not share: its entry and its data.
     assert!(rt; reads_after(alloc, &mut drive, 266, 261)? == 5);
     // And the file, which comes after the format.
     assert!(rt; reads_after(alloc, &mut drive, 261, 266)? == 6);

@@ -3,7 +3,7 @@
 use ecma::{Field, LongAd, are_fields_at, u16_at, u32_at, u64_at, write_fields};
 use vat::{Replies, Reply};
 
-/// The fields of a parent's identifier after its tag, which are written over the beginning of what is there.
+/// The fields of a parent's identifier after its tag, which are written over the beginning of some bytes.
 #[test]
 fn fields_stand_where_they_are_written(rt: HostRuntime) {
     let root = LongAd {

@@ -12,51 +12,51 @@ use limits::{GREATEST_CAPACITY, LEAST_CAPACITY, MOMENT_LIMIT};
 pub enum Storage<'w> {
     /// The volume on the image at this path.
     Image(&'w str),
-    /// A new volume in memory, with a capacity of so many blocks.
+    /// A new volume in memory, of this many blocks.
     Memory(u32),
 }
 
 /// What the words ask for.
 #[derive(Clone, Copy, Debug, PartialEq, Eq)]
 pub enum Command<'w> {
-    /// A new volume on an image.
+    /// Makes a new volume on an image.
     Format {
         image: &'w str,
         label: &'w str,
         /// Microseconds from 1970-01-01 UTC.
         moment: u64,
-        /// In blocks.
+        /// How many blocks the volume gets at most.
         capacity: u32,
     },
-    /// Answers to the messages of the standard input.
+    /// Answers the messages of the standard input.
     Apply(Storage<'w>),
-    /// The names in a directory.
+    /// Prints the names in a directory.
     List {
         image: &'w str,
         path: &'w str,
     },
-    /// The bytes of a file.
+    /// Prints the bytes of a file.
     Get {
         image: &'w str,
         path: &'w str,
     },
-    /// All commits of the volume on an image.
+    /// Prints all commits of the volume on an image.
     Log {
         image: &'w str,
     },
-    /// Whether the state after each commit is valid.
+    /// Checks that the state after each commit is valid.
     Check {
         image: &'w str,
     },
-    /// The standard input for a daemon, and its answers.
+    /// Sends the standard input to a daemon, and prints its answers.
     Send {
         socket: &'w str,
     },
 }
 
-/// What the words ask for, where they are exactly one of the commands.
+/// What the words ask for. `None` if they are not exactly those of a command.
 pub fn read_command<'w>(words: &[&'w str]) -> Option<Command<'w>>
-    // They are the words of the command, and of no other words is one read.
+    // What is read is what the words ask for, and other words ask for nothing.
     ensures found { IfSome result (Asks (map (λ w. w.now) words.now)) }
     ensures only { IfNone result ((command : _) → Asks (map (λ w. w.now) words.now) command → ⊥) }
 {

@@ -10,7 +10,7 @@ use clap::error::ErrorKind;
 use clap::{Arg, ArgAction, ArgMatches, Command, Error};
 use std::alloc::{AllocError, Global};
 
-/// The greatest number of connections after which a daemon can be told to end.
+/// The most connections after which a daemon can be told to end.
 const MOST_CONNECTIONS: u64 = 1_000_000;
 
 const IMAGE: &str = "IMAGE";
@@ -26,14 +26,14 @@ pub struct DaemonWords<'w> {
     pub image: &'w str,
     /// The path of the socket.
     pub socket: &'w str,
-    /// After how many connections it ends, at most 1,000,000. None where it goes on.
+    /// After how many connections it ends, at most 1,000,000. `None` if it does not end.
     pub connections: Option<u64>,
 }
 
-/// Why words ask nothing of the daemon.
+/// Why words are not read.
 #[derive(Clone, Copy, Debug, PartialEq, Eq)]
 pub enum WordsFault {
-    /// They are not its words.
+    /// They are not words that the daemon takes.
     Usage,
     /// There was no memory.
     Memory,
@@ -60,7 +60,7 @@ impl From<Error> for WordsFault {
 
 /// Reads `IMAGE SOCKET [--connections N]`. The first of the words is the program's own name.
 pub fn read_daemon<'w>(alloc: Global, words: &'w [&'w str]) -> Result<DaemonWords<'w>, WordsFault>
-    // The words ask for this; words that are refused as others ask for nothing.
+    // The words ask for what is read. Words that are refused with `Usage` ask for nothing.
     ensures read { IfOk result (AsksDaemon (map (λ w. w.now) words.now)) }
     ensures usage { IfErr result (λ fault. fault ≡ Usage → (asked : _) → AsksDaemon (map (λ w. w.now) words.now) asked → ⊥) }
 {

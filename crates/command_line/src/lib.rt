@@ -1,8 +1,8 @@
-//! The words of the two programs, as what they ask for.
+//! The words of the two programs, and what they ask for.
 //!
-//! `read_command` reads the words of `udfburn`, which are matched by position, exactly; `read_daemon` those of `udfburnd`.
-//! Numbers are decimal digits alone, and within their ranges. Whether a path, an image or a socket is any good is left to
-//! the crate above.
+//! `read_command` reads the words of `udfburn`, which must match exactly, by position. `read_daemon` reads those of
+//! `udfburnd`. Numbers have only decimal digits, and are within their ranges. Whether a path, an image or a socket is
+//! valid is left to the crate above.
 #![tactic(auto)]
 
 mod command;

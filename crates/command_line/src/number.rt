@@ -3,12 +3,12 @@
 ghost use Rattle.command_line.specs.Number.{IsNumeralOf};
 ghost use Rattle.std.specs.Prelude.{◌≡◌, ◌≤◌, ℕ, Some, IfSome};
 
-/// The number that a word of decimal digits says, where it is at most `most`.
+/// The number of a word of decimal digits, if it is at most `most`.
 pub(crate) fn read_number(word: &str, most: u64) -> Option<u64>
     ensures some { IfSome result (λ n. IsNumeralOf word.now n × (n ≤ most)) }
     ensures only { (n : ℕ) → IsNumeralOf word.now n → n ≤ most → result ≡ Some n }
 {
-    // A sign is no digit.
+    // `parse` would accept a sign.
     if word.starts_with('+') {
         return None;
     }

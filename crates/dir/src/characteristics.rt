@@ -5,7 +5,7 @@ ghost use Rattle.std.specs.Prelude.{⊤, ◌≡◌, [], ◌∷◌, codes};
 use crate::entry::Kind;
 use bitflags::{Flag, Flags, bitflag_items};
 
-/// What kind of file an identifier is of.
+/// What a file identifier descriptor names: a file, a directory, or the directory above.
 #[derive(Clone, Copy, PartialEq, Eq, Debug)]
 pub(crate) struct Characteristics(u8);
 
@@ -43,14 +43,14 @@ impl Characteristics {
     ghost use Rattle.dir.specs.Directory.{characteristics_of};
     ghost use Rattle.dir.specs.Kinds.{IsKind};
 
-    /// Those of the directory above.
+    /// The characteristics of the directory above.
     pub(crate) fn of_parent() -> Characteristics
         ensures { result.0 ≡ 0x0A }
     {
         Characteristics::DIRECTORY.union(Characteristics::PARENT)
     }
 
-    /// Those of a name.
+    /// The characteristics of a name of this kind.
     pub(crate) fn of(kind: Kind) -> Characteristics
         ensures { result.0 ≡ characteristics_of kind }
     {
@@ -78,7 +78,7 @@ impl Characteristics {
         self == Characteristics::of_parent()
     }
 
-    /// What a name with them is of.
+    /// The kind of a name with these characteristics.
     pub(crate) fn kind(self) -> Kind
         requires kind { IsKind self.0 }
         requires name { self.0 ≢ 0x0A }

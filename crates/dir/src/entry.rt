@@ -3,7 +3,7 @@
 use indexmap::IndexMap;
 use osta::Name;
 
-/// What a name is of.
+/// What a name leads to.
 #[derive(Clone, Copy, Debug, PartialEq, Eq)]
 pub enum Kind {
     File,
@@ -14,7 +14,7 @@ impl Kind {
     ghost use Rattle.std.specs.Prelude.{◌≡◌};
     ghost use Rattle.dir.specs.Directory as directory;
 
-    /// Whether a name of this kind is of a directory.
+    /// Whether a name of this kind leads to a directory.
     pub(crate) fn is_directory(self) -> bool
         ensures { result ≡ directory.is_directory self }
     {
@@ -39,6 +39,6 @@ pub struct Entry {
 #[derive(Drop)]
 pub struct Dir {
     pub parent: u32,
-    /// At most `limits::DIRECTORY_NAMES` on a volume.
+    /// The names with their entries, at most `limits::DIRECTORY_NAMES` on a volume.
     pub entries: IndexMap<Name, Entry>,
 }

@@ -1,3 +1,5 @@
+//! Why blocks are not the data of a directory.
+
 ghost use Rattle.std.specs.Prelude.{◌≡◌};
 ghost use Rattle.dir.specs.declared.fault.DirFault.TheVariants.{Memory};
 
@@ -7,21 +9,21 @@ use std::alloc::{AllocError, AllocFailed};
 /// show.
 #[derive(Clone, Copy, Debug, PartialEq, Eq)]
 pub enum DirFault {
-    /// An identifier's tag, or a field that says the same in each identifier.
+    /// An identifier's tag, or a field that is the same in each identifier.
     Tag = 31,
-    /// A parent that is not the first identifier or says more than an address, or a first one that
-    /// is no parent.
+    /// A parent that is not the first identifier, or has a name or a unique ID, or a first identifier that is no
+    /// parent.
     Parent = 32,
-    /// Bytes that are no name, or not its one spelling.
+    /// Bytes that are the spelling of no name.
     Name = 33,
-    /// A name that was there before.
+    /// A name that occurs twice.
     Twice = 34,
-    /// An identifier past its block's end, or with 4 to 28 bytes after it in the block.
+    /// An identifier that passes the end of its block, or leaves 4 to 28 bytes after it in the block.
     Span = 35,
     /// Implementation use or padding that is not as the layout has it.
     Pad = 36,
-    /// An identifier past the data's end, bytes after the data that are not zeros, or more names
-    /// than a directory may have.
+    /// An identifier that passes the end of the data, bytes after the data that are not zeros, or more names than a
+    /// directory may have.
     End = 37,
     /// There is no memory.
     Memory = 7,

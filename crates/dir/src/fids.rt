@@ -1,3 +1,5 @@
+//! The file identifier descriptors of a directory's data, read one by one (ECMA-167 4/14.4).
+
 ghost use Rattle.limits.specs.declared.TheConstants.{BLOCK_BYTES};
 ghost use Rattle.std.specs.Prelude.{◌≡◌, ◌↔◌, ◌+◌, ◌<◌, ◌^◌, IsTrue, length};
 
@@ -11,22 +13,23 @@ use limits::BLOCK_SIZE;
 use osta::Name;
 use std::alloc::Global;
 
-/// A file identifier (ECMA-167 4/14.4) as it is in a block.
+/// A file identifier descriptor (ECMA-167 4/14.4), as slices of a block.
 #[derive(Clone, Copy)]
 pub struct Fid<'a> {
     /// The whole identifier with its tag and its padding.
     pub bytes: &'a [u8],
     /// The 16 bytes of the extent that holds the entry.
     pub icb: &'a [u8],
+    /// Its implementation use. It is empty unless the identifier is lengthened.
     pub implementation_use: &'a [u8],
-    /// In compressed form, empty in a parent.
+    /// Its name in compressed form. That of the directory above has none.
     pub name: &'a [u8],
 }
 
 impl<'a> Fid<'a> {
     ghost use Rattle.std.specs.Prelude.{◌≡◌, ◌+◌, ◌≤◌, ◌<◌, ◌^◌, length, take, drop};
 
-    /// The parts of a whole identifier, by the bytes of its implementation use and its name.
+    /// The parts of a whole identifier, by the sizes of its implementation use and its name.
     fn new(bytes: &'a [u8], use_size: usize, name_size: usize) -> Fid<'a>
         requires use_size { use_size < 2 ^ 16 }
         requires name_size { name_size < 2 ^ 8 }
@@ -53,8 +56,8 @@ impl<'a> Fid<'a> {
     ghost use Rattle.dir.specs.Item.{said};
     ghost use Rattle.dir.specs.Split.{HasHead, IsWholeIdentifier, identifier_in, name_size, use_size};
 
-    /// What the identifier says, if it has a tag for the block of this number and the fields are
-    /// those of a file, a directory or a parent.
+    /// What the identifier says. `None` if its tag is not one for the block of this number, or its fields are not those
+    /// of a file, a directory or a parent.
     pub(crate) fn item(&self, number: u32) -> Option<Item<'a>>
         requires { IsWholeIdentifier self.now }
         ensures exactly { IsSome result ↔ HasHead number self.now.bytes.now }
@@ -81,8 +84,8 @@ impl Fid<'_> {
     ghost use Rattle.dir.specs.Identifier.{use_of};
     ghost use Rattle.dir.specs.Split.{IsWholeIdentifier, IsPadded, IsLengthened, IsUse, HasZeros};
 
-    /// Whether implementation use and padding are as the layout has them, for an identifier at a
-    /// place of its block and the data after it.
+    /// Whether implementation use and padding are as the layout has them, for an identifier at the place `at` of its
+    /// block, with the data `after` it.
     pub(crate) fn is_padded(&self, at: usize, after: &[u8]) -> bool
         requires whole { IsWholeIdentifier self.now }
         requires room { at + length self.now.bytes.now ≤ BLOCK_BYTES }
@@ -125,8 +128,8 @@ impl Fid<'_> {
         id == &developer[..id_size]
     }
 
-    /// Whether the implementation use reaches from a place to the block's end, and the identifier
-    /// after it was not to be put into that block.
+    /// Whether the implementation use makes the identifier at `at` reach to the block's end, and the next identifier
+    /// did not fit into that block.
     fn is_lengthened(&self, at: usize, after: &[u8]) -> bool
         requires whole { IsWholeIdentifier self.now }
         requires room { at + length self.now.bytes.now ≤ BLOCK_BYTES }
@@ -149,15 +152,15 @@ impl Fid<'_> {
     }
 }
 
-/// The file identifiers of a directory's data in order, up to the first that passes the data's end
-/// or its block's end. Only their lengths are looked at.
+/// The file identifiers of a directory's data, in order, up to the first that passes the end of the data or of its
+/// block. Only their lengths are looked at.
 #[derive(Drop)]
 pub struct Fids<'a> {
     /// What is left of the data.
     data: &'a [u8],
     /// Where it begins in its block.
     at: usize,
-    /// How many blocks lie before that block.
+    /// How many blocks are before that block.
     index: usize,
     ghost in_block: { at < BLOCK_BYTES },
     ghost small: { index + length data.now < 2 ^ 64 },
@@ -195,7 +198,7 @@ impl<'a> Fids<'a> {
         }
     }
 
-    /// The next identifier, or the fault of its lengths. After a fault all is as before.
+    /// The next identifier, or the fault of its lengths: `End` or `Span`. After a fault all is as before.
     pub(crate) fn split(&mut self) -> Result<Fid<'a>, DirFault>
         ensures exactly { IsOk result ↔ IsSplit self.old.at self.old.data.now }
         ensures prints { IfOk result (λ fid. ShowsSlices fid self.old.data.now) }
@@ -261,7 +264,7 @@ impl<'a> Fids<'a> {
         requires bytes { AreBytes self.old.data.now }
         ensures ok { IfOk result (λ item. ReadsIdentifier is_first first self.old self.new (said item)) }
         ensures name { IfOk result (λ item. length item.name.now ≤ 255) }
-        // What the layout has there is read.
+        // Whatever the layout has there is read.
         ensures err { IfErr result (λ fault. (x : Identifier) (rest : List Identifier) → FitsIdentifier x → IsInPlace is_first x → IsFirstNameShort rest
             → self.old.data.now ≡ laid (first + self.old.index) self.old.at (x ∷ rest) → FitsInBlock self.old.at (x ∷ rest) → ⊥) }
     {
@@ -293,7 +296,7 @@ impl<'a> Fids<'a> {
         Ok(item.icb)
     }
 
-    /// Reads the next name and what is said of it.
+    /// Reads the next name and its entry.
     pub(crate) fn read_name(&mut self, alloc: Global, first: u32) -> Result<(Name, Entry), DirFault>
         requires first { first + self.old.index < 2 ^ 32 }
         requires at { self.old.at % 4 ≡ 0 }

@@ -1,4 +1,4 @@
-//! One file identifier, as it is written.
+//! One file identifier descriptor, as it is written.
 
 ghost use Rattle.limits.specs.declared.TheConstants.{BLOCK_BYTES};
 ghost use Rattle.std.specs.Prelude.{◌≡◌, ◌↔◌, ◌≤◌, IsTrue, length};
@@ -18,22 +18,22 @@ pub(crate) const FILE_IDENTIFIER: u16 = 257;
 /// The file version number of each identifier (ECMA-167 4/14.4.2).
 const VERSION: u16 = 1;
 
-/// The partition of that extent, the virtual one.
+/// The partition of the extent of the entry: the virtual one.
 const PARTITION: u16 = 1;
 
-/// The flags of that extent.
+/// The flags of the extent of the entry.
 const FLAGS: u16 = 0;
 
-/// The bytes of an identifier before its implementation use.
+/// How many bytes of an identifier are before its implementation use.
 pub(crate) const HEAD_SIZE: usize = 38;
 
-/// The bytes from the tag's end to the implementation use.
+/// How many bytes are from the end of the tag to the implementation use.
 const FIELDS_SIZE: usize = HEAD_SIZE - TAG_SIZE;
 
-/// What a file identifier says.
+/// What a file identifier descriptor says.
 #[derive(Clone, Copy)]
 pub(crate) struct Item<'a> {
-    /// In compressed form, empty for a parent.
+    /// The name in compressed form. That of the directory above has none.
     pub name: &'a [u8],
     pub characteristics: Characteristics,
     /// The virtual address of the entry.
@@ -48,7 +48,7 @@ impl<'a> Item<'a> {
     ghost use Rattle.dir.specs.Item.{said};
     ghost use Rattle.dir.specs.Reads.{IsInPlace};
 
-    /// That of the directory above, by its virtual address.
+    /// The identifier of the directory above, by its virtual address.
     pub(crate) fn of_parent(icb: u32) -> Item<'a>
         ensures { said result ≡ directory.of_parent icb }
     {
@@ -60,13 +60,13 @@ impl<'a> Item<'a> {
         }
     }
 
-    /// That of a name.
+    /// The identifier of a name.
     pub(crate) fn of_name(name: &'a Name, entry: Entry) -> Item<'a>
         ensures value { said result ≡ directory.of_name name.now entry }
         ensures short { length result.name.now ≤ 255 }
         ensures entry { IsDirectoryEntry (name.now, entry) }
     {
-        // Unused: brings into the proof that it is a name.
+        // Unused: it gives the proof that this is a name.
         let _text = name.as_str();
         Item {
             name: name.compressed(),
@@ -76,8 +76,8 @@ impl<'a> Item<'a> {
         }
     }
 
-    /// Whether it is the parent's and says no more than an address, if it is the first of a
-    /// directory, and else whether it is not a parent's.
+    /// For the first identifier of a directory: whether it is the parent's, without a name and a unique ID. For any
+    /// other: whether it is not a parent's.
     pub(crate) fn is_in_place(&self, is_first: bool) -> bool
         ensures { IsTrue result ↔ IsInPlace is_first (said self.now) }
     {
@@ -95,8 +95,7 @@ impl Item<'_> {
     ghost use Rattle.dir.specs.Identifier.{plain_size, head_of, body_of, identifier};
     ghost use Rattle.dir.specs.Item.{said};
 
-    /// Writes the identifier for the block of this number, lengthened by `more` bytes, over all of
-    /// the bytes.
+    /// Writes the identifier, for the block of this number and lengthened by `more` bytes, over all of `into`.
     pub(crate) fn write(&self, number: u32, more: u16, into: &mut [u8])
         requires name { length self.now.name.now ≤ 255 }
         requires more { more ≤ BLOCK_BYTES }
@@ -107,7 +106,7 @@ impl Item<'_> {
         seal(FILE_IDENTIFIER, number, into);
     }
 
-    /// Writes it as `write` does, by its bytes for the block number 0 and not lengthened, where these are kept.
+    /// Writes it as `write` does. `kept` has its bytes for block number 0, not lengthened, if these are kept.
     pub(crate) fn write_from(&self, kept: Option<&[u8]>, number: u32, more: u16, into: &mut [u8])
         requires kept { IfSome kept (λ bytes. bytes.now ≡ identifier 0 (said self.now) 0) }
         requires name { length self.now.name.now ≤ 255 }
@@ -124,7 +123,7 @@ impl Item<'_> {
         }
     }
 
-    /// Writes what is after the tag, over all of the bytes.
+    /// Writes what is after the tag over all of `into`.
     fn write_body(&self, more: u16, into: &mut [u8])
         requires name { length self.now.name.now ≤ 255 }
         requires more { more ≤ BLOCK_BYTES }
@@ -139,7 +138,7 @@ impl Item<'_> {
         into[name_end..].fill(0);
     }
 
-    /// Writes the fields between the tag and the implementation use, over all of the bytes.
+    /// Writes the fields between the tag and the implementation use over all of `into`.
     fn write_fields(&self, more: u16, into: &mut [u8])
         requires name { length self.now.name.now ≤ 255 }
         requires size { length into.old ≡ 22 }
@@ -157,8 +156,8 @@ impl Item<'_> {
     }
 }
 
-/// Whether the fields between tag and implementation use that are the same in each identifier are
-/// in a whole one.
+/// Whether the fields between the tag and the implementation use that are the same in each identifier are as they must
+/// be.
 pub(crate) fn has_fields(bytes: &[u8]) -> bool
     requires { 38 ≤ length bytes.now }
     ensures { IsTrue result ↔ HasIdentifierFields bytes.now }
@@ -175,7 +174,7 @@ pub(crate) fn has_fields(bytes: &[u8]) -> bool
     is_u16_at(FLAGS, bytes, 30)
 }
 
-/// Moves an identifier from block 0 to the block of this number. Its check covers no byte of the tag.
+/// Moves an identifier from block 0 to the block of this number. Its CRC covers no byte of the tag, so it stays.
 pub(crate) fn relocate(number: u32, bytes: &mut [u8])
     requires { TAG_SIZE ≤ length bytes.old }
     ensures { (x : Identifier) → bytes.old ≡ identifier 0 x 0 → bytes.new ≡ identifier number x 0 }
@@ -187,7 +186,8 @@ pub(crate) fn relocate(number: u32, bytes: &mut [u8])
     bytes[12..TAG_SIZE].copy_from_slice(&location); // 12 tag location
 }
 
-/// Writes the implementation use that lengthens an identifier, over all of the bytes: the entity of this program, and zeros.
+/// Writes the implementation use that lengthens an identifier over all of `into`: the entity identifier of this
+/// program, and zeros.
 fn write_use(into: &mut [u8])
     ensures { into.new ≡ use_of (length into.old) }
 {

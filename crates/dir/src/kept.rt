@@ -13,19 +13,19 @@ use limits::DIRECTORY_NAMES;
 use osta::Name;
 use std::alloc::{AllocError, Global};
 
-/// The bytes of the longest identifier that is not lengthened, that of a name of 255 bytes.
+/// The size of the longest identifier that is not lengthened, in bytes: that of a name of 255 bytes.
 const MOST_SIZE: usize = 296;
 
-/// The identifiers of the first names of a directory as bytes, one after another: each for the block number 0, and not
-/// lengthened. What these names add up to is kept with them.
+/// The identifiers of the first names of a directory as bytes, one after another, each for block number 0 and not
+/// lengthened. The sums of these names are kept with them.
 #[derive(Drop)]
 pub struct Identifiers {
     pub(crate) bytes: Vec<u8>,
-    /// How many they are.
+    /// How many identifiers there are.
     pub(crate) count: usize,
     /// The size of the data of a directory of these names.
     size: DataSize,
-    /// How many of these names are of directories.
+    /// How many of these names lead to directories.
     directories: u16,
 }
 
@@ -36,7 +36,7 @@ impl Identifiers {
     ghost use Rattle.osta.specs.Compressed.{compressed};
     ghost use Rattle.dir.specs.Fronts.{IsIdentifierPrefix};
 
-    /// Those of no names.
+    /// No identifiers.
     pub fn new(alloc: Global) -> Identifiers
         ensures { (entries : List (List ℕ × Entry)) → IsIdentifierPrefix result entries }
     {
@@ -48,7 +48,7 @@ impl Identifiers {
         }
     }
 
-    /// Forgets all of them.
+    /// Drops all of them.
     pub fn clear(&mut self)
         ensures { (entries : List (List ℕ × Entry)) → IsIdentifierPrefix self.new entries }
     {
@@ -58,15 +58,15 @@ impl Identifiers {
         self.directories = 0;
     }
 
-    /// Adds those that are missing of the directory's names, as far as there is memory. Of more names than a directory of a
-    /// volume has, none is added.
+    /// Adds the identifiers of the directory's names that are missing, as far as there is memory. If the directory has
+    /// more names than `DIRECTORY_NAMES`, it adds none and fails too.
     pub fn fill(&mut self, dir: &Dir) -> Result<(), AllocError>
         requires front { IsIdentifierPrefix self.old dir.now.entries.entries }
         ensures front { IsIdentifierPrefix self.new dir.now.entries.entries }
         ensures all { OnOk result (self.new.count ≡ length dir.now.entries.entries) }
         ensures onward { self.old.count ≤ self.new.count }
     {
-        // What they add up to is counted in few bits.
+        // The sums of more names might overflow.
         if dir.entries.len() > DIRECTORY_NAMES {
             return Err(AllocError);
         }
@@ -77,7 +77,7 @@ impl Identifiers {
         Ok(())
     }
 
-    /// Takes away that of the name at an index, where it is kept, before the name itself goes.
+    /// Removes the identifier of the name at an index, if it is kept. The name itself is removed afterwards.
     pub fn remove(&mut self, dir: &Dir, index: usize)
         requires few { length dir.now.entries.entries ≤ DIRECTORY_NAMES }
         requires front { IsIdentifierPrefix self.old dir.now.entries.entries }
@@ -97,7 +97,7 @@ impl Identifiers {
         self.count -= 1;
     }
 
-    /// The size of the directory's data, at once where all of its names are kept.
+    /// The size of the directory's data. It takes no loop if the identifiers of all names are kept.
     pub fn data_size(&self, dir: &Dir) -> DataSize
         requires few { length dir.now.entries.entries ≤ DIRECTORY_NAMES }
         requires front { IsIdentifierPrefix self.now dir.now.entries.entries }
@@ -111,7 +111,8 @@ impl Identifiers {
         dir.data_size()
     }
 
-    /// The bytes of the identifiers of all of the directory's names, none of them lengthened, at once where they are kept.
+    /// The size of the identifiers of all names of the directory, if none is lengthened. It takes no loop if all are
+    /// kept.
     pub fn plain_size(&self, dir: &Dir) -> usize
         requires few { length dir.now.entries.entries ≤ DIRECTORY_NAMES }
         requires front { IsIdentifierPrefix self.now dir.now.entries.entries }
@@ -125,7 +126,8 @@ impl Identifiers {
         dir.plain_size()
     }
 
-    /// How many of the directory's names are of directories, at once where all of them are kept.
+    /// How many of the directory's names lead to directories. It takes no loop if the identifiers of all names are
+    /// kept.
     pub fn directory_count(&self, dir: &Dir) -> u16
         requires few { length dir.now.entries.entries ≤ DIRECTORY_NAMES }
         requires front { IsIdentifierPrefix self.now dir.now.entries.entries }
@@ -138,7 +140,7 @@ impl Identifiers {
         dir.directory_count()
     }
 
-    /// Adds that of a name after the others.
+    /// Adds the identifier of a name after the others.
     fn push(&mut self, name: &Name, entry: Entry) -> Result<(), AllocError>
         requires few { self.old.count < DIRECTORY_NAMES }
         requires room { (end_of_data self.old.size).full < DIRECTORY_NAMES }
@@ -178,7 +180,7 @@ fn place(dir: &Dir, index: usize) -> (usize, usize)
     (start, start + size_at(dir, index))
 }
 
-/// The bytes of the identifier of the name at an index.
+/// The size of the identifier of the name at an index, in bytes.
 fn size_at(dir: &Dir, index: usize) -> usize
     requires { index < length dir.now.entries.entries }
     ensures value { length (flat_map plain (take (index + 1) (named dir.now.entries.entries))) ≡ length (flat_map plain (take index (named dir.now.entries.entries))) + result }
@@ -189,7 +191,7 @@ fn size_at(dir: &Dir, index: usize) -> usize
     plain_size(item.name.len())
 }
 
-/// Takes the bytes from one place to another away.
+/// Removes the bytes from `start` to `end`.
 fn cut(bytes: &mut Vec<u8>, start: usize, end: usize)
     requires order { start ≤ end }
     requires within { end ≤ vec_len bytes.old }
@@ -200,7 +202,7 @@ fn cut(bytes: &mut Vec<u8>, start: usize, end: usize)
     bytes.truncate(rest);
 }
 
-/// The size of the data of a directory of the first names, as many as `count`, without the one at an index of them.
+/// The size of the data of a directory of the first `count` names without the one at `index`.
 fn size_without(dir: &Dir, index: usize, count: usize) -> DataSize
     requires few { length dir.now.entries.entries ≤ DIRECTORY_NAMES }
     requires there { index < count }

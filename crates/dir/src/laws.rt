@@ -1,14 +1,14 @@
-//! Laws of the layout. The functions do nothing: what they ensure holds.
+//! What holds of the layout. Nothing here runs: each function's contract is a law.
 
 ghost use Rattle.dir.specs.Directory.{OneDirectory, LaidIsDirectory, BlocksBegin};
 ghost use Rattle.dir.specs.Size.{DataIsSized, BlocksAreFew, DirectoriesAreShort};
 
-/// Blocks are the data of one directory at most.
+/// Blocks are the data of at most one directory.
 pub fn one_directory()
     ensures { OneDirectory }
 {}
 
-/// The blocks that `lay` gives of a directory are its data, and so are read as that directory.
+/// The blocks that `lay` makes of a directory are its data, and so are read as that directory.
 pub fn laid_is_directory()
     ensures { LaidIsDirectory }
 {}
@@ -18,8 +18,8 @@ pub fn data_is_sized()
     ensures { DataIsSized }
 {}
 
-/// A directory takes no more blocks than one and the bytes of its unlengthened identifiers divided
-/// by 1,720.
+/// A directory takes at most one block and the size of its unlengthened identifiers divided by
+/// `limits::LEAST_FILLED_BYTES`.
 pub fn blocks_are_few()
     ensures sizes { BlocksAreFew }
     ensures directories { DirectoriesAreShort }

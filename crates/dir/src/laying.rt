@@ -16,22 +16,22 @@ use crate::size::{fits, plain_size};
 use ecma::Block;
 use limits::{BLOCK_SIZE, DIRECTORY_NAMES, PARTITION_BLOCKS};
 
-/// Where an identifier has the length of its name.
+/// Where an identifier has the length of its name (ECMA-167 4/14.4).
 const NAME_SIZE: usize = 19;
 
-/// The blocks of a directory in order, each made when it is asked for. It takes no memory.
+/// The blocks of a directory, in order, each made when it is asked for. It allocates no memory.
 #[derive(Drop)]
 pub struct Lay<'a> {
     dir: &'a Dir,
-    /// The identifiers that are laid, the parent's first.
+    /// How many identifiers are laid, of which the first is the parent's.
     next: usize,
-    /// What the next of them says, if there is one.
+    /// The next identifier, if there is one.
     item: Option<Item<'a>>,
     /// The number of the next block.
     number: u32,
     /// How many of the names' identifiers are kept as bytes.
     known: usize,
-    /// The bytes of those that are not laid yet.
+    /// The bytes of those kept identifiers that are not laid yet.
     kept: &'a [u8],
     ghost few: { length dir.now.entries.entries ≤ DIRECTORY_NAMES },
     ghost laid: { next ≤ length dir.now.entries.entries + 1 },
@@ -54,7 +54,7 @@ impl<'a> Lay<'a> {
     ghost use Rattle.dir.specs.declared.laying.Lay.{Lay};
     ghost use Rattle.dir.specs.Identifier.{plain_size, identifier};
 
-    /// The blocks of a directory, the first of them having this number.
+    /// The blocks of a directory, of which the first has the number `first`.
     pub fn new(dir: &'a Dir, first: u32) -> Lay<'a>
         requires few { length dir.now.entries.entries ≤ DIRECTORY_NAMES }
         requires first { first ≤ PARTITION_BLOCKS }
@@ -70,7 +70,7 @@ impl<'a> Lay<'a> {
         }
     }
 
-    /// The same, laid by the identifiers that are kept of its first names.
+    /// The same blocks, made with the identifiers that are kept of its first names.
     pub fn over(dir: &'a Dir, identifiers: &'a Identifiers, first: u32) -> Lay<'a>
         requires front { IsIdentifierPrefix identifiers.now dir.now.entries.entries }
         requires few { length dir.now.entries.entries ≤ DIRECTORY_NAMES }
@@ -101,7 +101,7 @@ impl<'a> Lay<'a> {
         Some(block)
     }
 
-    /// Writes the next block over all of this one, or says that there is none.
+    /// Writes the next block over all of this one. Returns whether there was one.
     pub fn next_into(&mut self, block: &mut Block) -> bool
         ensures some { IsTrue result → blocks_left self.old ≡ block.new ∷ blocks_left self.new }
         ensures none { result ≡ false → blocks_left self.old ≡ [] }
@@ -125,8 +125,8 @@ impl<'a> Lay<'a> {
         true
     }
 
-    /// Writes the next identifiers from a place of the block on that are kept, as long as the one after each is kept too and
-    /// stays in the block, and says where they end. No name is looked at for them.
+    /// Writes the next kept identifiers from `start` of the block on, as long as the one after each is kept too and
+    /// fits into the block. Returns where they end. Their names are not looked at.
     fn put_kept(&mut self, start: usize, block: &mut Block) -> usize
         requires inside { start < BLOCK_BYTES }
         requires stood { FitsInBlock start (identifiers_left self.old) }
@@ -158,7 +158,7 @@ impl<'a> Lay<'a> {
         at
     }
 
-    /// Writes the next identifier at a place of the block, and says where it ends.
+    /// Writes the next identifier at a place of the block. Returns where it ends.
     fn put(&mut self, item: &Item<'a>, at: usize, block: &mut Block) -> usize
         requires next { slice_get (identifiers_of self.old.dir.now) self.old.next ≡ Some (said item.now) }
         requires short { length item.now.name.now ≤ 255 }
@@ -183,7 +183,7 @@ impl<'a> Lay<'a> {
         after
     }
 
-    /// Goes past the next identifier, and gives its bytes for the block number 0 and not lengthened, if they are kept.
+    /// Goes past the next identifier. Returns its bytes for block number 0, not lengthened, if they are kept.
     fn pass(&mut self, item: &Item<'a>) -> Option<&'a [u8]>
         requires next { slice_get (identifiers_of self.old.dir.now) self.old.next ≡ Some (said item.now) }
         requires short { length item.now.name.now ≤ 255 }
@@ -204,7 +204,7 @@ impl<'a> Lay<'a> {
     }
 }
 
-/// What the identifier of the name at an index says.
+/// The identifier of the name at an index, if there is one.
 fn name_at(dir: &Dir, index: usize) -> Option<Item<'_>>
     ensures value { option_map said result ≡ slice_get (identifiers_of dir.now) (index + 1) }
     ensures short { IfSome result (λ item. length item.name.now ≤ 255) }
@@ -213,7 +213,7 @@ fn name_at(dir: &Dir, index: usize) -> Option<Item<'_>>
     Some(Item::of_name(name, *entry))
 }
 
-/// How many bytes the identifier takes that bytes begin with, if it is not lengthened.
+/// The size of the identifier at the beginning of these bytes, if it is not lengthened.
 fn kept_size(bytes: &[u8]) -> usize
     requires { 20 ≤ length bytes.now }
     ensures { result ≡ spec.plain_size (name_size bytes.now) }
@@ -221,7 +221,7 @@ fn kept_size(bytes: &[u8]) -> usize
     plain_size(usize::from(bytes[NAME_SIZE]))
 }
 
-/// Writes bytes over the beginning of others, as far as these reach.
+/// Copies bytes over the beginning of `into`, as many as fit.
 fn copy_front(bytes: &[u8], into: &mut [u8])
     ensures { let count = min (length bytes.now) (length into.old) in into.new ≡ take count bytes.now ++ drop count into.old }
 {
@@ -229,7 +229,7 @@ fn copy_front(bytes: &[u8], into: &mut [u8])
     into[..count].copy_from_slice(&bytes[..count]);
 }
 
-/// Clears a block from a place on.
+/// Fills a block with zeros from a place on.
 fn clear_after(block: &mut Block, at: usize)
     requires { at ≤ BLOCK_BYTES }
     ensures { block.new ≡ take at block.old ++ replicate (BLOCK_BYTES - at) 0 }

@@ -15,14 +15,15 @@ use indexmap::IndexMap;
 use limits::{DIRECTORY_NAMES, PARTITION_BLOCKS};
 use std::alloc::Global;
 
-/// The directory whose data of `size` bytes the blocks are, the first of them having this number.
+/// The directory whose data, of `size` bytes, these blocks are. The first of them has the number `first`. Otherwise the
+/// first fault that is met.
 pub fn read_dir(alloc: Global, blocks: &[Block], size: u32, first: u32) -> Result<Dir, DirFault>
     requires some { 0 < size }
     requires count { length blocks.now ≡ block_count size }
     requires first { first ≤ PARTITION_BLOCKS }
     // What is read is what the blocks hold.
     ensures found { IfOk result (λ dir. IsDirectory dir.parent dir.entries.entries first size blocks.now) }
-    // What they hold is read, unless memory is short.
+    // Whatever they hold is read, unless memory is short.
     ensures only { IfErr result (λ fault. fault ≢ DirFault.Memory → (parent : ℕ) (entries : List (List ℕ × Entry)) → IsDirectory parent entries first size blocks.now → ⊥) }
 {
     let mut fids = Fids::new(blocks, size as usize);

@@ -15,7 +15,7 @@ pub(crate) fn rounded(size: usize) -> usize
     (size + 3) / 4 * 4
 }
 
-/// The bytes of a file identifier without implementation use, by the bytes of its compressed name.
+/// The size of a file identifier without implementation use, by that of its compressed name.
 pub(crate) fn plain_size(name_size: usize) -> usize
     requires { name_size ≤ 255 }
     ensures { result ≡ identifier.plain_size name_size }
@@ -23,8 +23,8 @@ pub(crate) fn plain_size(name_size: usize) -> usize
     rounded(38 + name_size)
 }
 
-/// Whether so many bytes may be put where `left` bytes of a block are left. After them none are
-/// left, or enough for the EntityID that begins an implementation use.
+/// Whether an identifier of this size may be put into a block with `left` bytes left. After it none must be left, or
+/// enough for the entity identifier with which an implementation use begins.
 pub(crate) fn fits(size: usize, left: usize) -> bool
     requires { size < 2 ^ 32 }
     ensures { result ≡ layout.fits size left }
@@ -35,7 +35,9 @@ pub(crate) fn fits(size: usize, left: usize) -> bool
 /// The size of a directory's data, from the lengths of its names alone.
 #[derive(Clone, Copy, Debug, PartialEq, Eq)]
 pub struct DataSize {
+    /// How many whole blocks are before the last one.
     full: u32,
+    /// How many bytes of the last block are data.
     used: u32,
     ghost some: { 0 < used },
     ghost in_block: { used ≤ BLOCK_BYTES },
@@ -75,7 +77,7 @@ impl DataSize {
         u64::from(self.full) * u64::from(BLOCK_BYTES) + u64::from(self.used)
     }
 
-    /// The blocks that the data takes.
+    /// How many blocks the data take.
     pub fn blocks(&self) -> u32
         requires { (end_of_data self.now).full + 1 < 2 ^ 32 }
         ensures full { result ≡ (end_of_data self.now).full + 1 }

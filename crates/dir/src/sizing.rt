@@ -1,4 +1,4 @@
-//! What the names of a directory add up to.
+//! Sums over the names of a directory.
 
 ghost use Rattle.std.specs.Prelude.{◌≡◌, ◌*◌, ◌<◌, ◌≤◌, ℕ, length};
 ghost use Rattle.std.specs.List.{All};
@@ -27,7 +27,7 @@ impl Dir {
         size
     }
 
-    /// The bytes of its names' identifiers, none of them lengthened.
+    /// The size of the identifiers of its names if none is lengthened, in bytes.
     pub fn plain_size(&self) -> usize
         requires few { length self.now.entries.entries ≤ DIRECTORY_NAMES }
         ensures size { result ≡ plain_sizes (name_sizes self.now.entries.entries) }
@@ -43,7 +43,7 @@ impl Dir {
         size
     }
 
-    /// How many of its names are of directories.
+    /// How many of its names lead to directories.
     pub fn directory_count(&self) -> u16
         requires few { length self.now.entries.entries ≤ DIRECTORY_NAMES }
         ensures value { result ≡ directory_count self.now.entries.entries }

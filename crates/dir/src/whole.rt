@@ -11,7 +11,7 @@ use ecma::Block;
 use limits::{BLOCK_SIZE, DIRECTORY_NAMES, PARTITION_BLOCKS};
 use std::alloc::{AllocError, Global};
 
-/// The blocks of a directory, the first of them having this number.
+/// The blocks of a directory, of which the first has the number `first`.
 pub fn lay(alloc: Global, dir: &Dir, first: u32) -> Result<Vec<Block>, AllocError>
     requires few { length dir.now.entries.entries ≤ DIRECTORY_NAMES }
     requires first { first ≤ PARTITION_BLOCKS }

@@ -1,5 +1,5 @@
-//! An open file, by the calls of the system on its descriptor. It comes from a file, or by the number of a
-//! descriptor from whoever opened it, and then needs no runtime.
+//! An open file, by system calls on its descriptor. It comes from a `File`, or by the number of a descriptor that the
+//! caller opened, and then needs no runtime.
 
 use crate::DriveFault;
 use std::fs::File;
@@ -9,11 +9,11 @@ use std::os::unix::fs::MetadataExt;
 /// The greatest offset and length of a read or a write.
 const GREATEST: u64 = 1 << 62;
 
-/// It is closed where it is dropped.
+/// An open file, which is closed when it is dropped.
 #[derive(Drop)]
 pub(crate) enum Descriptor {
     File(File),
-    /// Whether it is a regular file and has a name was for whoever opened it to see to.
+    /// Whoever opened it has checked that it is a regular file and has a name.
     Number(OwnedFd),
 }
 
@@ -26,7 +26,7 @@ pub(crate) struct Found {
 }
 
 impl Descriptor {
-    /// The descriptor of this number, which is closed by this value alone. A negative number is a fault.
+    /// The descriptor of this number, which only this value closes. A negative number is a fault.
     pub(crate) fn of_number(fd: i32) -> Result<Descriptor, DriveFault> {
         if fd < 0 {
             return Err(DriveFault);
@@ -34,8 +34,8 @@ impl Descriptor {
         Ok(Descriptor::Number(unsafe { os::FromRawFd::from_raw_fd(fd) }))
     }
 
-    /// Of a descriptor that came by its number: one that cannot be set to the length that it has is a fault. It is
-    /// no regular file then, or is not open for writing. The file is locked, so that no writer makes it longer
+    /// Checks a descriptor that came by its number: if it cannot be set to the length that it has, this is a fault. It
+    /// is then no regular file, or is not open for writing. The file must be locked, so that no writer makes it longer
     /// meanwhile.
     pub(crate) fn require_writable(&self) -> Result<(), DriveFault> {
         match self {
@@ -54,6 +54,7 @@ impl Descriptor {
         }
     }
 
+    /// Locks the file. It is a fault if another has locked it.
     pub(crate) fn try_lock(&self) -> Result<(), DriveFault> {
         done(libc::flock(self.number(), libc::LOCK_EX | libc::LOCK_NB))
     }
@@ -69,13 +70,13 @@ impl Descriptor {
         Err(DriveFault)
     }
 
-    /// Has the system forget what it keeps of the file in memory.
+    /// Makes the system drop what it has cached of the file.
     pub(crate) fn forget_cached(&self) -> Result<(), DriveFault> {
         // The length 0 reaches to the end.
         done(libc::posix_fadvise(self.number(), 0, 0, libc::POSIX_FADV_DONTNEED))
     }
 
-    /// Has the system begin to read these bytes. It is a hint, so what the system answers is let go.
+    /// Makes the system begin to read these bytes. It is a hint, so the result is ignored.
     pub(crate) fn read_soon(&self, offset: u64, len: u64) {
         if offset <= GREATEST && len <= GREATEST {
             let advice = libc::POSIX_FADV_WILLNEED;
@@ -163,7 +164,7 @@ fn done(status: i32) -> Result<(), DriveFault> {
     if status == 0 { Ok(()) } else { Err(DriveFault) }
 }
 
-/// Whether a signal interrupted the call, which is then made again.
+/// Whether a signal interrupted the call, which is then to be made again.
 fn is_interrupted(status: i32) -> bool {
     status != 0 && os::errno() == libc::EINTR
 }

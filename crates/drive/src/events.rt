@@ -7,7 +7,7 @@ ghost use Rattle.drive.specs.Journal.{written, next_of, last_at, AreWhole, InOrd
 use crate::Block;
 use std::alloc::{AllocError, Global};
 
-/// A journal. While each address was written once, in order, a block is found by its address.
+/// A journal. As long as each address was written once, in order, a block is found by its address without a search.
 #[derive(Drop)]
 pub(crate) struct Events {
     list: Vec<(u32, Block)>,
@@ -42,7 +42,7 @@ impl Events {
         self.next
     }
 
-    /// What was written last at this address.
+    /// The block that was written last at this address.
     pub(crate) fn last(&self, at: u32) -> Option<&Block>
         ensures { option_copied result ≡ last_at self.now.list.items at }
     {
@@ -52,7 +52,7 @@ impl Events {
         last_block(&self.list, at)
     }
 
-    /// Adds the blocks from this address on. An `Err` adds none.
+    /// Adds the blocks from this address on. If there is no memory, it adds none.
     pub(crate) fn add(&mut self, at: u32, blocks: &[Block]) -> Result<(), AllocError>
         requires fits { at + length blocks.now < 2 ^ 32 }
         ensures ok { OnOk result (self.new.list.items ≡ self.old.list.items ++ written at blocks.now) }
@@ -72,7 +72,7 @@ impl Events {
         requires { k ≤ length self.now.list.items }
         ensures { IfOk result (λ front. front.list.items ≡ take k self.now.list.items) }
     {
-        // Unused: brings its range into the proof.
+        // Unused: it gives the proof the range of `next`.
         let _next = self.next;
         let list = Vec::from_slice(alloc, &self.list[..k])?;
         let next = next_after(&list);
@@ -84,7 +84,7 @@ impl Events {
     }
 }
 
-/// One more than the greatest address, which is none where it does not fit.
+/// One more than the greatest address, and 0 for no events.
 fn next_after(events: &[(u32, Block)]) -> u32
     requires { next_of events.now < 2 ^ 32 }
     ensures { result ≡ next_of events.now }

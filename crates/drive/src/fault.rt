@@ -2,27 +2,27 @@
 ghost use Rattle.std.specs.Prelude.{◌≡◌, ◌≤◌, ℕ, IfSome};
 ghost use Rattle.drive.specs.Faults.{scheduled_at, cut_by, after_adding, next_fails, after_next, read_fails, after_read};
 
-/// The call of this number fails, counted from 1 over all calls of `next`, `read` and `write`. A write
-/// then adds so many of its blocks, or all where it has fewer.
+/// The call of this number fails, counted from 1 over all calls of `next`, `read` and `write`. A write that fails adds
+/// its first `keep` blocks, or all if it has fewer.
 #[derive(Clone, Copy, Debug)]
 pub struct Scheduled {
     pub call: u64,
     pub keep: usize,
 }
 
-/// One failure, which comes once.
+/// A failure that happens once.
 #[derive(Clone, Copy, Debug, PartialEq, Eq)]
 pub enum Fault {
-    /// Counting the blocks that are added from now on, the write whose blocks reach or pass this number
-    /// adds those up to it and fails. At 0 it is the next write, which adds none.
+    /// The write with which the blocks that are added from now on reach or pass this number fails. It adds those up to
+    /// the number. At 0 it is the next write, which adds none.
     AfterBlocks(u64),
-    /// The `next` of this number from now on fails, counted from 1.
+    /// The call of `next` of this number from now on fails, counted from 1.
     Next(u64),
-    /// The `read` of this number from now on fails, counted from 1.
+    /// The call of `read` of this number from now on fails, counted from 1.
     Read(u64),
 }
 
-/// How many blocks a call of this number adds at most, where it is to fail.
+/// If the call of this number is to fail: the most blocks that it adds.
 pub(crate) fn keep_at(schedule: &[Scheduled], call: u64) -> Option<usize>
     ensures { result ≡ scheduled_at schedule.now call }
 {
@@ -32,7 +32,7 @@ pub(crate) fn keep_at(schedule: &[Scheduled], call: u64) -> Option<usize>
         .map(|item| item.keep)
 }
 
-/// Where the fault cuts a write that would add so many blocks: it adds those before, and fails.
+/// If the fault stops a write that would add `count` blocks: how many of them it adds before it fails.
 pub(crate) fn cut(armed: &Option<Fault>, count: usize) -> Option<usize>
     ensures cut { result ≡ cut_by armed.now count }
     ensures within { IfSome result (λ n. n ≤ count) }
@@ -43,7 +43,7 @@ pub(crate) fn cut(armed: &Option<Fault>, count: usize) -> Option<usize>
     }
 }
 
-/// So many blocks were added.
+/// Notes that `count` blocks were added.
 pub(crate) fn note_added(armed: &mut Option<Fault>, count: usize)
     ensures { armed.new ≡ after_adding armed.old count }
 {
@@ -56,7 +56,7 @@ pub(crate) fn note_added(armed: &mut Option<Fault>, count: usize)
     }
 }
 
-/// Whether this call of `next` fails.
+/// Whether this call of `next` fails. Counts it.
 pub(crate) fn stops_next(armed: &mut Option<Fault>) -> bool
     ensures fails { result ≡ next_fails armed.old }
     ensures armed { armed.new ≡ after_next armed.old }
@@ -71,7 +71,7 @@ pub(crate) fn stops_next(armed: &mut Option<Fault>) -> bool
     false
 }
 
-/// Whether this call of `read` fails.
+/// Whether this call of `read` fails. Counts it.
 pub(crate) fn stops_read(armed: &mut Option<Fault>) -> bool
     ensures fails { result ≡ read_fails armed.old }
     ensures armed { armed.new ≡ after_read armed.old }

@@ -1,15 +1,13 @@
-//! An image file, by the calls of the system that keep it.
+//! An image file, and how it is kept safe on the disk.
 //!
-//! What is answered must be on the disk. So a file that is written is held alone, by an exclusive lock, and
-//! synced before anything is read of it: what an earlier process left in the system's cache is on the disk
-//! before it is taken for written. Then the system is made to forget that cache, so that what is read is what
-//! the disk has, also after a sync that failed in that process. Each write ends with a sync. After a write or
-//! a sync that failed the file is cut back to the blocks that it had, and synced, before anything else: the
-//! system may take the pages of a failed sync for written, and neither another sync nor writing them again
-//! brings them to the disk.
+//! What is answered must be on the disk. So a file that is written is held under an exclusive lock, and synced before
+//! anything is read from it: what an earlier process left in the system's cache is on the disk before it counts as
+//! written. Then the system is made to drop that cache, so that what is read is what the disk has, even if a sync
+//! failed in that process. Each write ends with a sync. After a write or a sync that failed, the file is cut back to
+//! the blocks that it had, and synced, before anything else. For the system may treat the pages of a failed sync as
+//! clean: then neither another sync nor writing them again brings them to the disk.
 //!
-//! A file that is only read is neither locked nor synced, so that it may be one that another writes, or that
-//! nobody may write.
+//! A file that is only read is neither locked nor synced, so another may be writing it, or nobody may be allowed to.
 
 ghost use Rattle.limits.specs.declared.TheConstants.{BLOCK_BYTES};
 ghost use Rattle.std.specs.Prelude.{◌+◌, ◌<◌, ◌^◌, length, IfOk};
@@ -28,19 +26,18 @@ enum Access {
     Write,
 }
 
-/// A regular file that is open as an image. How many of its blocks count is kept by its user, and passed to
-/// each call.
+/// A regular file that is open as an image. Its user keeps how many of its blocks count, and passes that to each call.
 #[derive(Drop)]
 pub(crate) struct Image {
     file: Descriptor,
     access: Access,
-    /// A write failed, and what it may have left is not cut off yet.
+    /// Whether a write failed whose remains are not cut off yet.
     is_torn: bool,
 }
 
 impl Image {
-    /// A file that is open for reading and writing, to write it. It is locked until it is dropped, synced, and
-    /// read anew from the disk. One that another has locked is a fault.
+    /// An image to write, over a file that is open for reading and writing. The file is locked until it is dropped,
+    /// synced, and read anew from the disk. It is a fault if another has locked it.
     pub(crate) fn to_write(file: Descriptor) -> Result<Image, DriveFault> {
         file.try_lock()?;
         file.require_writable()?;
@@ -53,6 +50,7 @@ impl Image {
         })
     }
 
+    /// An image to read.
     pub(crate) fn to_read(file: Descriptor) -> Image {
         Image {
             file,
@@ -61,7 +59,7 @@ impl Image {
         }
     }
 
-    /// How many whole blocks the file has. One that is no regular file is a fault.
+    /// How many whole blocks the file has. It is a fault if it is no regular file.
     pub(crate) fn count(&self) -> Result<u32, DriveFault> {
         let found = self.file.found()?;
         if found.is_file {
@@ -71,7 +69,7 @@ impl Image {
         }
     }
 
-    /// Whether the file has these blocks. One that is written has no other whole block, and a name.
+    /// Whether the file has `count` blocks. A file that is written must also have no other whole block, and a name.
     pub(crate) fn has(&mut self, count: u32) -> Result<bool, DriveFault> {
         self.cut_back(count)?;
         let found = self.file.found()?;
@@ -82,19 +80,20 @@ impl Image {
         })
     }
 
-    /// The block at an address.
+    /// Reads the block at an address.
     pub(crate) fn read(&mut self, count: u32, at: u32, into: &mut Block) -> Result<(), DriveFault> {
         self.cut_back(count)?;
         self.file.read_exact_at(into, offset(at))
     }
 
-    /// Has the system begin to read these blocks. It may not, and no call fails for it.
+    /// Makes the system begin to read these blocks. It is a hint, so the result is ignored.
     pub(crate) fn read_soon(&self, at: u32, count: u32) {
         self.file
             .read_soon(offset(at), u64::from(count) * u64::from(BLOCK_BYTES));
     }
 
-    /// The bytes after the last whole block, at the beginning of `into`: how many they are, at most 2,047.
+    /// Reads the bytes after the last whole block to the beginning of `into`. Returns how many there are, at most
+    /// 2,047.
     pub(crate) fn part(&self, into: &mut Block) -> Result<usize, DriveFault>
         ensures { IfOk result (λ n. n < BLOCK_BYTES) }
     {
@@ -105,8 +104,8 @@ impl Image {
         Ok(len)
     }
 
-    /// Writes the blocks of both slices, the second after the first, after those that count, and waits until the
-    /// disk has them all. Blocks for another address are a fault, so that none is written twice.
+    /// Writes the blocks of both slices, the second after the first, after the `count` blocks that it has, and waits
+    /// until the disk has them all. Blocks for another address are a fault, so none is written twice.
     pub(crate) fn append(
         &mut self,
         count: u32,
@@ -124,13 +123,13 @@ impl Image {
             return Ok(());
         }
         self.is_torn = true;
-        // Where this fails too, the next call begins with it.
+        // If this fails too, the next call begins with it.
         let _ = self.cut_back(count);
         Err(DriveFault)
     }
 
-    /// Cuts off what a failed write may have left after these blocks, where that was not done yet. A file
-    /// that is shorter was cut by another, and is left.
+    /// Cuts off what a failed write may have left after `count` blocks, unless that is done. It is a fault if the file
+    /// is shorter: another has cut it, and it is left as it is.
     fn cut_back(&mut self, count: u32) -> Result<(), DriveFault> {
         if !self.is_torn {
             return Ok(());
@@ -146,8 +145,8 @@ impl Image {
     }
 }
 
-/// Whether the blocks of both slices were written and then synced once, and lie at the end of a file that could
-/// still be found then.
+/// Writes the blocks of both slices, and syncs once. Returns whether that worked, and the file then ended with them and
+/// still had a name.
 fn is_written(file: &Descriptor, at: u32, first: &[Block], second: &[Block]) -> bool
     requires { at + (length first.now + length second.now) < 2 ^ 32 }
 {
@@ -166,14 +165,14 @@ fn is_written(file: &Descriptor, at: u32, first: &[Block], second: &[Block]) -> 
     }
 }
 
-/// The file at this path, for reading and writing. One that is missing or no regular file is a fault.
+/// Opens the file at this path for reading and writing. It is a fault if it is missing or no regular file.
 pub fn open_image<R: Files<File = File>>(rt: &R, path: &str) -> Result<File, DriveFault> {
     require_regular(rt, path)?;
     fault_of(OpenOptions::new().read(true).write(true).open(rt, path))
 }
 
-/// The file at this path, for reading and writing, which is made where it is missing. It is made under this
-/// very name: a symbolic link to nothing is a fault.
+/// Opens the file at this path for reading and writing. If it is missing, it is made, under this very name: a symbolic
+/// link to nothing is a fault.
 pub fn create_image<R: Files<File = File>>(rt: &R, path: &str) -> Result<File, DriveFault> {
     match fs::metadata(rt, path) {
         Ok(_) => open_image(rt, path),
@@ -182,13 +181,13 @@ pub fn create_image<R: Files<File = File>>(rt: &R, path: &str) -> Result<File, D
     }
 }
 
-/// The file at this path, for reading alone. One that is missing or no regular file is a fault.
+/// Opens the file at this path for reading only. It is a fault if it is missing or no regular file.
 pub(crate) fn open_to_read<R: Files<File = File>>(rt: &R, path: &str) -> Result<File, DriveFault> {
     require_regular(rt, path)?;
     fault_of(File::open(rt, path))
 }
 
-/// Syncs the folder in which the file at this path is, so that a power loss does not take its name.
+/// Syncs the folder of the file at this path, so that a power loss does not take away its name.
 pub fn sync_folder<R: Files<File = File>>(rt: &R, path: &str) -> Result<(), DriveFault> {
     let folder = match path.rsplit_once('/') {
         Some(("", _)) => "/",
@@ -199,7 +198,8 @@ pub fn sync_folder<R: Files<File = File>>(rt: &R, path: &str) -> Result<(), Driv
     fault_of(folder.sync_all())
 }
 
-/// It is asked before anything is opened, since to open a pipe may wait, and a device may act.
+/// Checks that this is a regular file. That is done before the file is opened, since opening a pipe may wait, and
+/// opening a device may make it act.
 fn require_regular<R: Files<File = File>>(rt: &R, path: &str) -> Result<(), DriveFault> {
     let found = fault_of(fs::metadata(rt, path))?;
     if found.is_file() {

@@ -1,4 +1,4 @@
-//! Blocks on their way to a drive, in packets that one write may be given.
+//! Blocks on their way to a drive, in packets and runs.
 ghost use Rattle.std.specs.Prelude.{◌≡◌, ◌+◌, ◌*◌, ◌/◌, ◌==◌, ◌<◌, ◌≤◌, if◌then◌else◌, ℕ, List, ◌∷◌, ◌++◌, [], length, take, drop, vec_len, is_err, IfOk, OnOk, OnErr};
 ghost use Rattle.std.specs.Vec.{vec_capacity};
 ghost use Rattle.drive.specs.declared.TheConstants.{PACKET};
@@ -12,7 +12,7 @@ use std::alloc::{AllocError, Global};
 use std::marker::Model;
 use std::slice;
 
-/// The next packet of the blocks of both slices after so many of them: at most [`PACKET`], of one slice.
+/// The next packet of the blocks of both slices after the first `done`: at most [`PACKET`] blocks, of one slice.
 pub(crate) fn packet_of<'b>(first: &'b [Block], second: &'b [Block], done: usize) -> &'b [Block]
     requires { done < length first.now + length second.now }
     ensures blocks { result.now ≡ take (length result.now) (drop done (first.now ++ second.now)) }
@@ -27,9 +27,9 @@ pub(crate) fn packet_of<'b>(first: &'b [Block], second: &'b [Block], done: usize
     &second[begun..second.len().min(begun + PACKET)]
 }
 
-/// Writes the blocks from this address on: all but the last in one run, and the last in a write of its own, after
-/// the finished writes of all others. So whatever part of a write a power loss leaves, the last block is there
-/// only where the others are.
+/// Writes the blocks from this address on: all but the last in one run, and then the last in a write of its own, after
+/// all others have finished. So whatever part of a write a power loss leaves, the last block is there only if the
+/// others are.
 pub fn write_last_alone<D: Drive>(
     drive: &mut D,
     at: u32,
@@ -54,9 +54,9 @@ pub fn write_last_alone<D: Drive>(
     Ok(())
 }
 
-/// Takes blocks for addresses that follow each other, and writes them in runs: blocks that it was lent, as they
-/// lie, and after them a packet of those that it was given one by one. To a caller it is the blocks that wait
-/// and the address of the first of them.
+/// Takes blocks for consecutive addresses, and writes them in runs: first blocks that it borrows, and after them a
+/// packet of those that it was given one by one. In contracts it is the blocks that wait, and the address of the first
+/// of them.
 #[derive(Drop)]
 pub struct PacketWriter<'b> {
     lent: &'b [Block],
@@ -73,7 +73,7 @@ impl<'b> Model for PacketWriter<'b> {
 }
 
 impl<'b> PacketWriter<'b> {
-    /// A writer of blocks from this address on. No later call takes memory.
+    /// A writer of blocks from this address on. No later call allocates memory.
     pub fn new(alloc: Global, at: u32) -> Result<PacketWriter<'b>, AllocError>
         ensures { IfOk result (λ w. w ≡ record { at = at; blocks = [] }) }
     {
@@ -91,7 +91,7 @@ impl<'b> PacketWriter<'b> {
         self.packet.len()
     }
 
-    /// Takes a block, which waits. Where a whole packet waits already, what waits is written first.
+    /// Takes a block, which waits. If a whole packet waits already, what waits is written first.
     pub fn put<D: Drive>(&mut self, drive: &mut D, block: &Block) -> Result<(), DriveFault>
         requires begins { self.old.at ≤ next_of (D.journal drive.old) }
         requires fits { next_address self.old < D.capacity drive.old }
@@ -141,7 +141,7 @@ impl<'b> PacketWriter<'b> {
         Ok(())
     }
 
-    /// Takes blocks that go out as they lie, and are not copied. What waits before them is written first.
+    /// Borrows blocks, which wait without being copied. What waits before them is written first.
     pub fn lend<D: Drive>(&mut self, drive: &mut D, blocks: &'b [Block]) -> Result<(), DriveFault>
         requires begins { self.old.at ≤ next_of (D.journal drive.old) }
         requires fits { next_address self.old + length blocks.now ≤ D.capacity drive.old }

@@ -1,4 +1,6 @@
-/// An entity identifier (ECMA-167 1/7.4), its flags 0.
+//! Entity identifiers (ECMA-167 1/7.4).
+
+/// An entity identifier (ECMA-167 1/7.4), whose flags are 0.
 #[derive(Clone, Copy, Debug, PartialEq, Eq)]
 pub struct EntityId {
     /// A text, with zeros after it.
@@ -10,8 +12,8 @@ impl EntityId {
     ghost use Rattle.std.specs.Prelude.{◌≡◌};
     ghost use Rattle.ecma.specs.EntityId.{entity_id};
 
-    /// The suffix of an identifier that UDF defines (UDF 2.01 2.1.5.3): revision 2.01, of no
-    /// operating system. That of the domain is the same bytes, its flags 0.
+    /// The suffix of an identifier that UDF defines (UDF 2.01 2.1.5.3): revision 2.01, and no operating system. The
+    /// suffix of the domain has the same bytes, with its flags 0.
     pub const UDF_SUFFIX: [u8; 8] = [0x01, 0x02, 0, 0, 0, 0, 0, 0];
 
     /// No entity.
@@ -26,7 +28,7 @@ impl EntityId {
         suffix: [0; 8],
     };
 
-    /// The domain of UDF (UDF 2.01 2.1.5.2), in revision 2.01 and with no protection.
+    /// The domain of UDF (UDF 2.01 2.1.5.2), in revision 2.01, without write protection.
     pub const DOMAIN: EntityId = EntityId {
         identifier: *b"*OSTA UDF Compliant\0\0\0\0",
         suffix: [0x01, 0x02, 0, 0, 0, 0, 0, 0],

@@ -1,4 +1,4 @@
-//! Whether numbers or zeros are in bytes, without their being spelled.
+//! Whether numbers or zeros are in bytes, without encoding them.
 
 ghost use Rattle.std.specs.Prelude.{◌≡◌, ◌+◌, ◌≤◌, ◌↔◌, [], ◌∷◌, length, take, drop, replicate, IsTrue};
 ghost use Rattle.std.specs.Int.{w16, w32, w64, to_le_bytes};
@@ -74,7 +74,7 @@ fn is_zero_run(bytes: &[u8], at: usize) -> bool
     front | back == 0
 }
 
-/// The bits of the two numbers from `at` on.
+/// The bits that are set in either of the two numbers from `at` on.
 fn two_words(bytes: &[u8], at: usize) -> u64
     requires { at + 16 ≤ length bytes.now }
     ensures { (result ≡ 0) ↔ (take 16 (drop at bytes.now) ≡ replicate 16 0) }

@@ -23,30 +23,30 @@ use request::{Answer, Message, Query, Request};
 use std::alloc::Global;
 use store::{Due, Store, StoreFault};
 
-/// What answers messages. At first it knows of no volume.
+/// Answers messages. A new engine has no store open.
 #[derive(Drop)]
 pub struct Engine {
     store: Option<Store>,
 }
 
 impl Engine {
-    /// An engine that has seen no medium.
+    /// An engine with no store open.
     pub fn new() -> Engine
         ensures { result.store ≡ None }
     {
         Engine { store: None }
     }
 
-    /// The answer to a message. Where a write fails, the medium is opened again for the next message that needs it.
+    /// Answers a message. After a failed write, the medium is opened again for the next request or query.
     pub fn answer<D: Drive>(&mut self, alloc: Global, drive: &mut D, message: Message<'_>) -> Answer
         requires { IsReady (seen_on D.Drive self.old drive.old) }
         ensures answered { Answered message.entry (seen_on D.Drive self.old drive.old) result (seen_on D.Drive self.new drive.new) }
-        // On an honest drive, where a state is recovered that an open store knows.
+        // What becomes of the message on an honest drive, if a state is recovered and an open store knows it.
         ensures calls { (volume : ℕ) (S : State) → IsTrue (D.honest drive.new) → HoldsState volume S (seen_on D.Drive self.old drive.old) → Calls volume message.entry S (seen_on D.Drive self.old drive.old) result (seen_on D.Drive self.new drive.new) }
-        // What its writes leave on the journal; and what a power loss leaves of them, where a disk keeps any choice of the blocks
-        // of the last one that it was given.
+        // What its writes leave on the journal, and what a power loss leaves of them: the disk may keep any of the
+        // blocks of the last write that it was given.
         ensures withstands { (volume : ℕ) (S : State) → IsTrue (D.honest drive.new) → HoldsState volume S (seen_on D.Drive self.old drive.old) → MessageSurvivesPowerLoss volume S (AsksFor message.entry) (faults result) (seen_on D.Drive self.old drive.old) (seen_on D.Drive self.new drive.new) }
-        // On an honest drive where nothing is recovered.
+        // What becomes of it on an honest drive, if nothing is recovered.
         ensures nothing { IsTrue (D.honest drive.new) → HoldsNothing (seen_on D.Drive self.old drive.old) → IsNothingThere message.entry (seen_on D.Drive self.old drive.old) result (seen_on D.Drive self.new drive.new) }
         ensures lent { drives.ReadsAndWrites D.Drive (faults result) drive.old drive.new }
     {
@@ -72,17 +72,17 @@ impl Engine {
         }
     }
 
-    /// Opens the store where none is open, or where a write failed. Nothing is written.
+    /// Opens the store if none is open, or if a write failed. Nothing is written.
     pub fn open<D: Drive>(&mut self, alloc: Global, drive: &mut D) -> Result<(), StoreFault>
         requires { IsReady (seen_on D.Drive self.old drive.old) }
         ensures open { OnOk result ((store : Store) × IsOpen (seen_on D.Drive self.new drive.new) store) }
         ensures closed { OnErr result (self.new.store ≡ None) }
-        // A recovered state is known then, and only a failure or lack of memory keeps it from being opened.
+        // A recovered state is then known. Only a failure of the drive or lack of memory keeps it from being opened.
         ensures holds { (volume : ℕ) (S : State) → IsTrue (D.honest drive.new) → HoldsState volume S (seen_on D.Drive self.old drive.old) → HoldsState volume S (seen_on D.Drive self.new drive.new) }
         ensures short { (volume : ℕ) (S : State) → IsTrue (D.honest drive.new) → HoldsState volume S (seen_on D.Drive self.old drive.old) → IfErr result IsShortage }
-        // Where nothing is recovered nothing is opened.
+        // If nothing is recovered, nothing is opened.
         ensures nothing { IsTrue (D.honest drive.new) → HoldsNothing (seen_on D.Drive self.old drive.old) → OnOk result ⊥ }
-        // Where it is open nothing is done.
+        // If it is open, nothing is done.
         ensures stays { (kept : Store) → IsOpen (seen_on D.Drive self.old drive.old) kept → (self.new ≡ self.old) × (drive.new ≡ drive.old) }
         ensures ready { IsReady (seen_on D.Drive self.new drive.new) }
         ensures reads { ReadsOnly D.Drive (devices result) drive.old drive.new }
@@ -173,7 +173,7 @@ fn answer_query<D: Drive>(store: &mut Store, alloc: Global, drive: &mut D, query
     }
 }
 
-/// The answer where a request is not committed.
+/// The answer to a request that is not committed.
 fn refusal(fault: StoreFault) -> Answer
     ensures refused { result ≡ refused fault }
     ensures may { (result ≡ answers.Full) ⊎ FailsOrIsDamaged result }
@@ -185,7 +185,7 @@ fn refusal(fault: StoreFault) -> Answer
     }
 }
 
-/// The answer where a file's bytes are not given.
+/// The answer to a query for a file's bytes that fails.
 fn get_refusal(fault: StoreFault) -> Answer
     ensures refused { result ≡ get_refused fault }
     ensures reported { (path : Path) → CanBeAnswered (queries.Get path) result }
@@ -198,7 +198,7 @@ fn get_refusal(fault: StoreFault) -> Answer
     }
 }
 
-/// The answer where a directory's names are not given.
+/// The answer to a query for a directory's names that fails.
 fn list_refusal(fault: StoreFault) -> Answer
     ensures refused { result ≡ list_refused fault }
     ensures reported { (path : Path) → CanBeAnswered (queries.List path) result }
@@ -211,7 +211,7 @@ fn list_refusal(fault: StoreFault) -> Answer
     }
 }
 
-/// The answer where it does not say what a path leads to.
+/// The answer to a query for a node's status that fails.
 fn stat_refusal(fault: StoreFault) -> Answer
     ensures refused { result ≡ stat_refused fault }
     ensures reported { (path : Path) → CanBeAnswered (queries.Stat path) result }
@@ -223,7 +223,7 @@ fn stat_refusal(fault: StoreFault) -> Answer
     }
 }
 
-/// The answer where the drive failed, where there was no memory, or where the medium holds no sound volume.
+/// The answer if the drive failed, if there was no memory, or if the medium holds no sound volume.
 fn failure(fault: StoreFault) -> Answer
     ensures fails { FailsOrIsDamaged result }
     ensures failed { result ≡ failed fault }

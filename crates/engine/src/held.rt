@@ -13,8 +13,9 @@ use drive::Drive;
 use request::{Answer, Frames, encode_answer};
 use std::alloc::{AllocError, Global};
 
-/// Answers the messages that are whole, and appends each answer's frame. Where there is no memory for one, the frames of the
-/// answers before it were appended, and no further message is answered.
+/// Answers the messages that are complete, and appends each answer's frame. If there is no memory for a frame, only
+/// those before it are appended, and no further message is answered. The message whose frame is missing was carried out
+/// all the same.
 #[tactic(auto, using(crate::proofs::Messages::answering_none, crate::proofs::Messages::answering_more, crate::proofs::Messages::answering_some, crate::proofs::Messages::taken_less, request::proofs::FrameLaws::taken_first))]
 pub fn answer_held<D: Drive>(
     alloc: Global,

@@ -5,27 +5,28 @@ ghost use Rattle.engine.specs.Headline.{RunsAreHeld, RunsBegin, RunsGoOn};
 ghost use Rattle.engine.specs.Losses.{LossesReach, RunsReach, ServedReach};
 ghost use Rattle.engine.specs.Steps.{StepsHold};
 
-/// On an honest drive what an engine makes of its store's calls is a step that the medium's runs allow.
+/// On an honest drive, what an engine does with its store's calls is a step of a run of the medium.
 pub fn calls_are_steps()
     ensures messages { CallsAreSteps }
     ensures restarts { RestartsAreSteps }
 {}
 
-/// Such steps leave at each prefix of the journal the state after the first of the requests that were committed.
+/// After such steps, each prefix of the journal recovers to the state after the first N of the committed requests, for
+/// some N.
 pub fn steps_hold()
     ensures { StepsHold }
 {}
 
-/// A run begins where a state is recovered, goes on with each delivery, and what it wrote holds its commits.
+/// A run begins on a medium with a recovered state, and continues with each delivery. What it wrote holds its commits.
 pub fn runs_hold()
     ensures begin { RunsBegin }
     ensures more { RunsGoOn }
     ensures held { RunsAreHeld }
 {}
 
-/// Whatever a power loss leaves of a delivery of a run, or of a message of a stream, what came before it is cut off after
-/// all its commits, and perhaps the new request under way; and of runs that are so cut off one after another, however many,
-/// the state after all that was committed is recovered, from which the next one goes on.
+/// A power loss during a delivery of a run, or during a message of a stream, loses no earlier commit. The medium
+/// recovers to the state after those commits, or after those and the new request that was under way. Runs may be cut
+/// off in this way one after another, however many: each one starts from the state after all that was committed.
 pub fn losses_are_survived()
     ensures runs { RunsReach }
     ensures streams { ServedReach }

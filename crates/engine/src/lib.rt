@@ -1,7 +1,7 @@
 //! The answers: each message of a stream is answered in turn, and what is acknowledged is on the medium.
 //!
-//! An engine keeps a store while it can, and opens the medium again where a write failed. It keeps no drive: each call is
-//! lent it. Frames and their payloads are the layer below, sockets and words the one above.
+//! An engine keeps a store while it can, and opens the medium again after a failed write. It keeps no drive: each call
+//! borrows it. Frames and their payloads are the layer below, sockets and words the one above.
 #![tactic(auto)]
 
 mod engine;

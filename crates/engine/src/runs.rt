@@ -1,4 +1,4 @@
-//! A whole run, as a list.
+//! A whole run, as a list of deliveries.
 
 ghost use Rattle.std.specs.Prelude.{◌≡◌, ◌≤◌, ℕ, None, IsTrue, IfOk, OnErr, sum_by};
 ghost use Rattle.drive.specs.Journal.{held, Once};
@@ -16,24 +16,24 @@ use drive::Drive;
 use request::{Answer, read_payload};
 use std::alloc::{AllocError, Global};
 
-/// What comes to an engine.
+/// What an engine receives.
 #[derive(Debug, Drop)]
 pub enum Delivery {
     /// The payload of a frame.
     Frame(Vec<u8>),
-    /// All is forgotten that is not on the medium.
+    /// A restart: all that is not on the medium is forgotten.
     Restart,
 }
 
-/// Answers deliveries in order: one answer a frame, none a restart. Where there is no memory for the answers, the medium
-/// is not touched.
+/// Answers deliveries in order: one answer for each frame, none for a restart. If there is no memory for the answers,
+/// the medium is not touched.
 pub fn run<D: Drive>(
     alloc: Global,
     drive: &mut D,
     deliveries: &[Delivery],
 ) -> Result<Vec<Answer>, AllocError>
     ensures ok { IfOk result (λ answers. RunsDeliveries deliveries.now answers.items (situation_on D.Drive None drive.old) (situation_on D.Drive None drive.new)) }
-    // On an honest drive where a state is recovered: what is recovered at each prefix of what was written.
+    // On an honest drive on which a state is recovered: what is recovered at each prefix of what was written.
     ensures holds { (volume : ℕ) (S : State) → IsTrue (D.honest drive.new) → Once (D.journal drive.old) → RecoversTo udf (D.capacity drive.old) volume (held (D.journal drive.old)) S
         → IfOk result (λ answers. RunHolds volume (D.capacity drive.old) deliveries.now S (D.journal drive.old) answers.items (D.journal drive.new)) }
     // The same of every delivery, from the journal as it was when that delivery began, whatever part of the write that had not

@@ -18,16 +18,19 @@ use std::alloc::Global;
 use std::io::{Read, Write};
 use thiserror::Error;
 
-/// How many bytes are read at once, at most.
+/// The most bytes that are read at once.
 const PIECE_BYTES: usize = 65_536;
 
 /// Why a stream was left before its end. It is shown as its number and its name.
 #[derive(Clone, Copy, Debug, PartialEq, Eq, Error)]
 pub enum ServeFault {
+    /// The stream could not be read.
     #[error("91 Read")]
     Read,
+    /// An answer could not be written.
     #[error("92 Write")]
     Write,
+    /// There was no memory to read on, or for the frame of an answer.
     #[error("93 Memory")]
     Memory,
 }
@@ -44,7 +47,7 @@ pub fn serve<R: Read, W: Write, D: Drive>(
     requires { IsReady (seen_on D.Drive engine.old drive.old) }
     ensures ok { OnOk result (ServesAll (seen_on D.Drive engine.old drive.old) (seen_on D.Drive engine.new drive.new)
         (R.remaining reader.old) (R.remaining reader.new) (W.contents writer.old) (W.contents writer.new)) }
-    // Else the first of them were, and which fault it is shows how far that went.
+    // Otherwise the first of them were answered, and the fault shows how far that went.
     ensures left { IfErr result (λ fault. ServesUntil fault (seen_on D.Drive engine.old drive.old) (seen_on D.Drive engine.new drive.new)
         (R.remaining reader.old) (R.remaining reader.new) (W.contents writer.old) (W.contents writer.new)) }
     ensures ready { IsReady (seen_on D.Drive engine.new drive.new) }
@@ -65,7 +68,7 @@ pub fn serve<R: Read, W: Write, D: Drive>(
     Err(ServeFault::Read)
 }
 
-/// Reads the next bytes of a stream into the reader of frames: how many they are, none at the end of the stream alone.
+/// Reads the next bytes of a stream into the reader of frames. Returns how many: 0 only at the end of the stream.
 fn read_on<R: Read>(reader: &mut R, frames: &mut Frames) -> Result<usize, ServeFault>
     ensures bound { IfOk result (λ count. count ≤ PIECE_BYTES) }
     ensures ok { IfOk result (λ count. ReadsPiece count (R.remaining reader.old) (R.remaining reader.new) frames.old frames.new) }
@@ -78,8 +81,8 @@ fn read_on<R: Read>(reader: &mut R, frames: &mut Frames) -> Result<usize, ServeF
     }
 }
 
-/// The end of a stream where there is no memory to read on: at its end a stream needs none. Elsewhere memory is short, also
-/// where the stream cannot be asked.
+/// Looks for the end of a stream when there is no memory to read on, since the end needs none. Anywhere else the fault
+/// is `Memory`, even if the read fails.
 fn end_of<R: Read>(reader: &mut R) -> Result<usize, ServeFault>
     ensures ok { IfOk result (λ count. (count ≡ 0) × TakesPiece (R.remaining reader.old) (R.remaining reader.new) []) }
     ensures memory { IfErr result (λ fault. fault ≡ ServeFault.Memory) }
@@ -92,7 +95,7 @@ fn end_of<R: Read>(reader: &mut R) -> Result<usize, ServeFault>
     }
 }
 
-/// Answers the messages that are whole.
+/// Answers the messages that are complete.
 #[tactic(auto, using(crate::proofs::Messages::answering_none, crate::proofs::Messages::answering_more, crate::proofs::Messages::answering_some, crate::proofs::Messages::answering_kept, crate::proofs::Messages::answering_flushed, crate::proofs::Messages::taken_less, request::proofs::FrameLaws::taken_first))]
 fn answer_all<W: Write, D: Drive>(
     alloc: Global,
@@ -122,7 +125,7 @@ fn answer_all<W: Write, D: Drive>(
     Ok(())
 }
 
-/// Writes an answer's frame, which is made in the buffer. Where a write fails, a prefix of it was written.
+/// Writes an answer's frame, which is made in the buffer. If a write fails, a prefix of the frame was written.
 fn write_answer<W: Write>(
     writer: &mut W,
     answer: Answer,

@@ -1,4 +1,4 @@
-//! Reads and writes of whole pieces, by which it is known what was read and written wherever they fail.
+//! Reads and writes of pieces. Their contracts say what was read or written even if they fail.
 
 ghost use Rattle.std.specs.Prelude.{◌≡◌, ◌≤◌, ◌<◌, ℕ, length, take, IfOk, IfErr, OnOk, OnErr};
 ghost use Rattle.std.specs.Io.KnownBytes.{Appends, Consumes, IsAtEnd, Keeps};
@@ -8,7 +8,8 @@ ghost use Rattle.engine.specs.declared.serving.ServeFault.TheVariants as faults;
 use crate::serving::ServeFault;
 use std::io::{ErrorKind, Read, Write};
 
-/// Reads the next bytes, of which there are none at the end of the stream. A read that a signal interrupts is tried again.
+/// Reads the next bytes, and returns how many: 0 only at the end of the stream. A read that a signal interrupts is
+/// tried again.
 pub fn read_piece<R: Read>(reader: &mut R, piece: &mut [u8]) -> Result<usize, ServeFault>
     requires { 0 < length piece.old }
     ensures bound { IfOk result (λ n. n ≤ length piece.new) }
@@ -26,7 +27,7 @@ pub fn read_piece<R: Read>(reader: &mut R, piece: &mut [u8]) -> Result<usize, Se
     Err(ServeFault::Read)
 }
 
-/// Writes the bytes. Where it fails, a prefix of them was written.
+/// Writes the bytes. If it fails, a prefix of them was written.
 pub fn put_all<W: Write>(writer: &mut W, bytes: &[u8]) -> Result<(), ServeFault>
     ensures ok { OnOk result (Appends (W.contents writer.old) (W.contents writer.new) bytes.now) }
     ensures err { OnErr result (PutsPrefix (W.contents writer.old) (W.contents writer.new) bytes.now) }

@@ -31,18 +31,19 @@ use udf::blocks_are_bytes;
 use vat::{Sessions, Vat, Version, encode_vat};
 use volume::front_block;
 
-/// The bytes of a directory without names.
+/// The size of a directory without names, in bytes: that of its parent's identifier.
 const EMPTY_DIRECTORY: u32 = 40;
 
-/// The bytes of the table of a volume with its root alone.
+/// The size of the table of a volume with only its root, in bytes.
 const FIRST_TABLE: u32 = 204;
 
 /// The block number of the first VAT ICB.
 const TABLE_ENTRY: u32 = 4;
 
-/// Writes a new volume on a blank drive, or the rest of one that the same words began. The moment is in microseconds from
-/// 1970-01-01 UTC. A drive is refused that has other blocks, or more. The last block, which makes the volume valid, goes out
-/// in a write of its own, after the finished writes of all others.
+/// Writes a new volume on a blank drive, or the rest of one that a format with the same words began. The moment is in
+/// microseconds from 1970-01-01 UTC. `Label` if the text is no label, `Small` if the drive has fewer blocks than
+/// `LEAST_CAPACITY`, and `NotBlank` if it has other blocks than such a format, or more. The last block, which makes the
+/// volume valid, is written in a write of its own, after all others have finished.
 #[tactic(auto, using(crate::proofs::FormatJournals::nothing_written))]
 pub fn format<D: Drive>(
     alloc: Global,
@@ -53,7 +54,7 @@ pub fn format<D: Drive>(
     requires moment { moment < MOMENT_LIMIT }
     ensures ok { OnOk result (IsFormatted (D.capacity drive.old) (words_on (D.capacity drive.old) label.now moment) (D.journal drive.old) (D.journal drive.new) (D.honest drive.new)) }
     ensures err { IfErr result (IsFormatRefused (D.capacity drive.old) (words_on (D.capacity drive.old) label.now moment) (D.journal drive.old) (D.journal drive.new) (D.honest drive.new)) }
-    // Whatever part of its writes a power loss leaves, where a disk keeps any choice of the blocks of the last one that it was given.
+    // What a power loss leaves of its writes: the disk may keep any of the blocks of the last write that it was given.
     ensures withstands { FormatSurvivesPowerLoss (D.capacity drive.old) (words_on (D.capacity drive.old) label.now moment) (D.journal drive.old) (D.writes drive.old) (D.writes drive.new) (D.honest drive.new) }
     ensures label { (result ≡ Err fault.Label) ↔ IsSome (first_text_fault (label_faults label.now)) }
     ensures small { (result ≡ Err fault.Small) ↔ (IsNone (first_text_fault (label_faults label.now)) × (D.capacity drive.old < LEAST_CAPACITY)) }
@@ -85,7 +86,7 @@ pub fn format<D: Drive>(
     }
 }
 
-/// A label, a moment and a capacity have one format. It does nothing: what it ensures is a law.
+/// For one label, moment and capacity there is one format. Nothing runs: the contract is a law.
 pub fn one_format()
     ensures { OneFormat }
 {}
@@ -122,7 +123,7 @@ fn root_names(alloc: Global) -> Block
     Lay::new(&root, 1).next_block().unwrap()
 }
 
-/// How many blocks of a format a drive has, and nothing else; none where it has another block.
+/// How many blocks of a format a drive has. `None` if it has any other block.
 fn begun<D: Drive>(drive: &mut D, parts: &Parts) -> Result<Option<u32>, DriveFault>
     ensures next { IfOk result (λ found. IfSome found (λ next. (next ≡ next_of (D.journal drive.old)) × (next ≤ FORMAT_BLOCKS))) }
     ensures seen { IfOk result (λ found. IfSome found (IsFormatRead (words_of parts.now) (D.journal drive.old) (D.honest drive.new))) }
@@ -152,7 +153,7 @@ fn begun<D: Drive>(drive: &mut D, parts: &Parts) -> Result<Option<u32>, DriveFau
     Ok(Some(next))
 }
 
-/// The blocks of a format from an address on.
+/// The blocks of a format from the address `next` on.
 fn rest(alloc: Global, parts: &Parts, next: u32) -> Result<Vec<Block>, AllocError>
     requires { next ≤ FORMAT_BLOCKS }
     ensures { IfOk result (λ blocks. AreBlocks (words_of parts.now) next FORMAT_BLOCKS blocks.items) }
@@ -226,7 +227,7 @@ fn table_block(table: &[u8]) -> Block
     block
 }
 
-/// The bytes of the table of a volume with its root alone.
+/// The bytes of the table of a volume with only its root.
 fn first_table(alloc: Global, label: Label) -> Result<Vec<u8>, AllocError>
     requires { IsLabel label }
     ensures { IfOk result (λ bytes. bytes.items ≡ table_bytes (udf.first_table label)) }

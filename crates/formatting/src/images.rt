@@ -1,4 +1,4 @@
-//! What an image holds after its last whole block, where a format is to go on.
+//! What an image may have after its last whole block when a format is finished on it.
 
 ghost use Rattle.limits.specs.declared.TheConstants.{MOMENT_LIMIT};
 ghost use Rattle.std.specs.Prelude.{◌≡◌, ◌<◌, IfErr, OnOk};
@@ -12,8 +12,8 @@ use drive::{Drive, MemDrive};
 use recover::StoreFault;
 use std::alloc::Global;
 
-/// Refuses bytes that do not begin the next block of a format with these words: those that an image has after its last
-/// whole block. A drive counts whole blocks alone, so that the format does not see them.
+/// Refuses, with `NotBlank`, bytes after the last whole block of an image that do not begin the next block of a format
+/// with these words. A drive counts only whole blocks, so `format` does not see these bytes.
 pub fn require_beginning<D: Drive>(
     alloc: Global,
     drive: &mut D,
@@ -26,7 +26,7 @@ pub fn require_beginning<D: Drive>(
     ensures writes { D.writes drive.new ≡ D.writes drive.old }
     ensures capacity { D.capacity drive.new ≡ D.capacity drive.old }
     ensures honest { D.honest drive.new ≡ D.honest drive.old }
-    // A failure of the drive is reported only where the drive has failed.
+    // A failure of the drive is reported only if the drive has failed.
     ensures failures { CountsFailures (devices result) (D.failures drive.old) (D.failures drive.new) }
     ensures begun { OnOk result (IsPartBegun (D.capacity drive.old) label.now moment (D.journal drive.old) part.now) }
     ensures refused { IfErr result (IsPartUnbegun (D.capacity drive.old) label.now moment (D.journal drive.old) part.now) }
@@ -58,7 +58,7 @@ fn require_part(
         Ok(()) => {}
         Err(StoreFault::Label) => return Err(StoreFault::Label),
         Err(StoreFault::Small) => return Err(StoreFault::Small),
-        // A blank drive in memory fails where there is no more of it.
+        // Otherwise a format on a blank drive in memory fails only for lack of memory.
         Err(_) => return Err(StoreFault::Memory),
     }
     let Some(event) = whole.journal().get(at as usize) else {

@@ -9,7 +9,7 @@ use ecma::Block;
 use limits::BLOCK_BYTES;
 use std::marker::Model;
 
-/// A file entry that is made when it is written: what it says, and its location. To a caller it is its block.
+/// A file entry that is encoded when it is written: its fields, and its location. Contracts see it as its block.
 #[derive(Debug, Drop)]
 pub struct PlannedEntry<'a> {
     entry: FileEntry<'a>,
@@ -40,9 +40,9 @@ impl<'a> PlannedEntry<'a> {
         ensures { IsEntry (fields_of entry.now) location result }
     {
         let stamp = entry.moment.to_bytes();
-        // Unused: brings into the proof that they are bytes.
+        // Unused: it gives the proof that these are bytes.
         let _inside = bytes_inside(&entry.place);
-        // Field by field, since no proof covers the copy of the whole through a reference.
+        // Copied field by field, since no proof covers copying the whole through a reference.
         let entry = FileEntry {
             kind: entry.kind,
             moment: entry.moment,
@@ -92,7 +92,7 @@ fn bytes_inside<'a>(place: &Place<'a>) -> &'a [u8]
     }
 }
 
-/// The same bytes. To a proof an item of a slice that is lent by itself is a byte, and one after a field is a number.
+/// The same bytes. The proof knows that the items of a borrowed slice are bytes, but not those of a slice in a field.
 fn each_below_256(bytes: &[u8]) -> &[u8]
     ensures value { result.now ≡ bytes.now }
     ensures bytes { (i : ℕ) → slice_index result.now i < 256 }

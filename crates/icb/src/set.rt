@@ -1,3 +1,5 @@
+//! The file set descriptor (ECMA-167 4/14.1, UDF 2.01 2.3.2).
+
 ghost use Rattle.limits.specs.declared.TheConstants.{BLOCK_BYTES};
 ghost use Rattle.std.specs.Prelude.{◌≡◌, ◌-◌, ◌↔◌, IsTrue, IfOk, IfErr, IfSome, IfNone, take, drop, replicate};
 ghost use Rattle.ecma.specs.FirstFault.{IsFirst, AllHold};
@@ -102,7 +104,7 @@ fn has_set_tag(block: &Block) -> bool
     open_tag(descriptor, FILE_SET, ADDRESS).is_ok()
 }
 
-/// The file set whose fields are after the tag: its label and moment are read, and then all fields compared with
+/// The file set whose fields are after the tag. Its label and moment are read, and then all fields are compared with
 /// those of that file set.
 fn set_at(block: &Block) -> Option<FileSet>
     ensures some { IfSome result (λ set. HasFileSetFields set (take 496 (drop 16 block.now))) }

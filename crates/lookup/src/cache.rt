@@ -17,15 +17,15 @@ use std::num::NonZeroUsize;
 /// How many directories are kept.
 const KEPT_DIRECTORIES: usize = 64;
 
-/// Directories by where their entries stand. What stands in a block is never written again, so what an entry says is kept
-/// with the directory, and neither is read twice.
+/// Directories by where their entries are. A block is never written again, so what its entry says is kept with the
+/// directory, and neither is read twice.
 #[derive(Drop)]
 pub struct DirectoryCache {
     cache: LruCache<EntryAt, (Placed, Content)>,
 }
 
 impl DirectoryCache {
-    /// Keeps none yet.
+    /// An empty cache.
     pub fn new(alloc: Global) -> Result<DirectoryCache, StoreFault>
         ensures kept { IfOk result (λ directories. (journal : List Event) → AreKept journal directories) }
         ensures short { IfErr result IsShortage }
@@ -37,8 +37,8 @@ impl DirectoryCache {
         })
     }
 
-    /// The directory whose entry stands there, if it is kept, which it is not any longer. One that does not lie below the
-    /// table, as that of another state may, is none.
+    /// Takes out the directory whose entry is at this place, if it is kept. `None` if its data are not below the VAT
+    /// ICB at `table`, as those of another state may be.
     pub(crate) fn take(&mut self, at: EntryAt, table: u32) -> Option<(Placed, Content)>
         ensures lies { IfSome result (λ kept. (journal : List Event) → AreKept journal self.old → (kept.0.at ≡ at) × LiesThere journal kept.0 kept.1) }
         ensures below { IfSome result (λ kept. kept.0.extent.first + PARTITION_START + div_ceil kept.0.extent.size BLOCK_BYTES ≤ table) }
@@ -51,7 +51,7 @@ impl DirectoryCache {
         Some((placed, content))
     }
 
-    /// Keeps the directory that lies there, if there is memory for it.
+    /// Keeps the directory at this place, if there is memory for it.
     pub fn keep(&mut self, placed: Placed, content: Content)
         ensures { (journal : List Event) → LiesThere journal placed content → AreKept journal self.old → AreKept journal self.new }
     {

@@ -1,4 +1,4 @@
-//! A directory apart from where it lies.
+//! A directory without its place on the medium.
 
 ghost use Rattle.limits.specs.declared.TheConstants.{DIRECTORY_NAMES};
 ghost use Rattle.std.specs.Prelude.{◌≡◌, [], ◌∷◌, ◌++◌, ◌<◌, ◌≤◌, IfErr, IfSome, None, OnErr, OnOk, length, nat_eq};
@@ -14,7 +14,7 @@ use osta::Name;
 use recover::StoreFault;
 use std::alloc::Global;
 
-/// A directory that a volume may have.
+/// A directory of at most `limits::DIRECTORY_NAMES` names, as a volume may have.
 #[derive(Drop)]
 pub struct Content {
     pub dir: Dir,
@@ -25,7 +25,7 @@ pub struct Content {
 }
 
 impl Content {
-    /// A directory as it is read or made. No identifiers are kept of it yet.
+    /// A directory as it is read or made. None of its identifiers is kept yet.
     pub fn of(alloc: Global, dir: Dir) -> Content
         requires few { length dir.entries.entries ≤ DIRECTORY_NAMES }
         ensures { result.dir ≡ dir }
@@ -39,7 +39,7 @@ impl Content {
     /// Adds a name after the others.
     pub fn add(&mut self, name: Name, entry: Entry) -> Result<(), StoreFault>
         requires room { length self.old.dir.entries.entries < DIRECTORY_NAMES }
-        // A name that is there keeps its place.
+        // A name that is there already keeps its place.
         ensures entries { OnOk result (self.new.dir.entries.entries ≡ insert_entry (pointwise nat_eq) self.old.dir.entries.entries name entry) }
         ensures added { OnOk result (lookup (pointwise nat_eq name) self.old.dir.entries.entries ≡ None → self.new.dir.entries.entries ≡ self.old.dir.entries.entries ++ (name, entry) ∷ []) }
         ensures parent { self.new.dir.parent ≡ self.old.dir.parent }
@@ -50,12 +50,12 @@ impl Content {
         if self.dir.entries.insert(name, entry)?.is_some() {
             self.identifiers.clear();
         }
-        // Those that there is no memory for are spelled when the directory is laid.
+        // Identifiers for which there is no memory are encoded when the directory is laid out.
         let _ = self.identifiers.fill(&self.dir);
         Ok(())
     }
 
-    /// Takes a name away, and says what was said of it.
+    /// Removes a name, and returns its entry, if it is there.
     pub fn remove(&mut self, name: &Name) -> Option<Entry>
         ensures described { result ≡ lookup (pointwise nat_eq name.now) self.old.dir.entries.entries }
         ensures entries { self.new.dir.entries.entries ≡ remove_entry (pointwise nat_eq name.now) self.old.dir.entries.entries }

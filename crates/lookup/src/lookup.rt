@@ -14,7 +14,7 @@ use limits::PARTITION_START;
 use recover::{Extent, StoreFault, cause, damaged, lies_below, read_block};
 use std::alloc::Global;
 
-/// Looks in the nodes of a state. It is lent the drive that they stand on, and the directories that were used last.
+/// A look-up in the nodes of a state. It borrows the drive that they are on, and the directories that were used last.
 #[derive(Drop)]
 pub struct Lookup<'s, 'n, D: Drive> {
     pub(crate) alloc: Global,
@@ -36,7 +36,7 @@ impl<'s, 'n, D: Drive> Lookup<'s, 'n, D> {
     ghost use Rattle.lookup.specs.Entries.{IsBlockThere, IsEntryBlock, IsPlacedThere};
     ghost use Rattle.lookup.specs.Lookups.{Looks, OfNode, free_seen, graph_seen};
 
-    /// Looks in these nodes.
+    /// A look-up in these nodes.
     pub fn new(
         alloc: Global,
         drive: &'s mut D,
@@ -59,19 +59,19 @@ impl<'s, 'n, D: Drive> Lookup<'s, 'n, D> {
         }
     }
 
-    /// What memory is taken from.
+    /// The allocator.
     pub fn alloc(&self) -> Global {
         self.alloc
     }
 
-    /// The least unused virtual address from 2 on, else the next past the end.
+    /// The least unused virtual address from 2 on. If all are used, the one after the last.
     pub fn free_address(&self) -> u32
         ensures { result ≡ free_seen self.now }
     {
         self.nodes.free_address()
     }
 
-    /// What the table leads to is not what was looked for.
+    /// The fault if the table does not lead to what was looked for: damage at the VAT ICB, with the cause `IDENTITY`.
     pub fn damaged(&self) -> StoreFault
         ensures reported { result ≡ Damaged self.now.nodes.vat_icb_address IDENTITY }
         ensures failures { device_failures result ≡ 0 }
@@ -79,7 +79,8 @@ impl<'s, 'n, D: Drive> Lookup<'s, 'n, D> {
         damaged(self.nodes.vat_icb_address, cause::IDENTITY)
     }
 
-    /// Where the entry of a node stands.
+    /// Where the entry of a node is. If the table has no block number for its virtual address, this is damage at the
+    /// VAT ICB, with the cause `RANGE`.
     pub(crate) fn entry_at(&self, address: u32) -> Result<EntryAt, StoreFault>
         ensures address { IfOk result (λ at. at.address ≡ address) }
         ensures used { IfOk result (λ at. slice_get self.now.nodes.numbers.now at.address ≡ Some (Some at.number)) }
@@ -96,20 +97,20 @@ impl<'s, 'n, D: Drive> Lookup<'s, 'n, D> {
         Ok(EntryAt { number, address })
     }
 
-    /// The block of an entry that stands there, and its address.
+    /// Reads the block of the entry at this place. Returns the block, and its address.
     fn block_at(&mut self, at: EntryAt) -> Result<(Block, u32), StoreFault>
         requires used { slice_get self.old.nodes.numbers.now at.address ≡ Some (Some at.number) }
         ensures read { IfOk result (IsBlockThere D.Drive self.old self.new at.number) }
         ensures refused { IfErr result (λ fault. fault ≡ Device) }
         ensures looks { Looks D.Drive (devices result) self.old self.new }
     {
-        // Unused: brings the range of the table's address into the proof.
+        // Unused: it gives the proof the range of the address of the VAT ICB.
         let _table = self.nodes.vat_icb_address;
         let number = at.number + PARTITION_START;
         Ok((read_block(self.drive, number)?, number))
     }
 
-    /// The block of a node's entry, and its address.
+    /// Reads the block of a node's entry. Returns the block, and its address.
     pub(crate) fn entry_block(&mut self, address: u32) -> Result<(Block, u32), StoreFault>
         ensures block { IfOk result (IsEntryBlock D.Drive self.old self.new address) }
         ensures refused { IfErr result (λ fault. (s : Stored) → graph_seen D.Drive self.old address s → fault ≡ Device) }
@@ -119,7 +120,8 @@ impl<'s, 'n, D: Drive> Lookup<'s, 'n, D> {
         self.block_at(at)
     }
 
-    /// What the entry of a directory that stands there says.
+    /// What the entry of the directory at this place says. If its data are not in an extent below the VAT ICB, this is
+    /// damage at the entry, with the cause `RANGE`.
     pub(crate) fn directory(&mut self, at: EntryAt) -> Result<Placed, StoreFault>
         requires used { slice_get self.old.nodes.numbers.now at.address ≡ Some (Some at.number) }
         ensures placed { IfOk result (IsPlacedThere D.Drive self.old self.new at) }

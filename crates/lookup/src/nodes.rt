@@ -7,7 +7,7 @@ ghost use Rattle.model.specs.Addresses as addresses;
 use ecma::Timestamp;
 use recover::Extent;
 
-/// How many virtual addresses are looked at at once for one that is unused.
+/// How many virtual addresses are looked at together in the search for an unused one.
 const RUN: usize = 4;
 
 /// Where the entry of a node is: the number of its block, and the virtual address in its tag.
@@ -17,7 +17,7 @@ pub struct EntryAt {
     pub address: u32,
 }
 
-/// Where a directory's entry is and its data lie, and its moment.
+/// Where a directory's entry and its data are, and its moment.
 #[derive(Clone, Copy, Debug)]
 pub struct Placed {
     pub at: EntryAt,
@@ -34,7 +34,8 @@ pub struct Nodes<'a> {
 }
 
 impl Nodes<'_> {
-    /// The least unused virtual address from 2 on, else the next past the end.
+    /// The least unused virtual address from 2 on, since 0 is the file set's and 1 the root's. If all are used, the one
+    /// after the last.
     pub(crate) fn free_address(&self) -> u32
         ensures { result ≡ addresses.free_address self.now.numbers.now }
     {

@@ -1,4 +1,4 @@
-//! Questions about a state. What the medium holds is not trusted: a structure that is no such structure is refused.
+//! Queries about a state. What the medium holds is not trusted: an invalid structure is refused.
 
 ghost use Rattle.std.specs.Prelude.{◌≡◌, IfOk, IfErr, length, map, false};
 ghost use Rattle.drive.specs.Journal.{Once};
@@ -26,7 +26,7 @@ use request::{FileData, Listed, Listing, NodeKind, NodeStatus, Path};
 use std::alloc::Global;
 
 impl<D: Drive> Lookup<'_, '_, D> {
-    /// The bytes of a file.
+    /// The bytes of a file. `NotFound` if the path leads to nothing, `IsDirectory` if it leads to a directory.
     pub fn get(&mut self, path: &Path) -> Result<FileData, StoreFault>
         ensures told { Tells D.Drive self.old self.new (runs.Query.Get path.now) runs.Answer.Data result }
         ensures looks { Looks D.Drive (devices result) self.old self.new }
@@ -38,7 +38,8 @@ impl<D: Drive> Lookup<'_, '_, D> {
         self.file_data(node.address)
     }
 
-    /// The names in a directory, in their stored order.
+    /// The names in a directory, in their stored order. `NotFound` if the path leads to nothing, `NotDirectory` if it
+    /// leads to a file.
     pub fn list(&mut self, path: &Path) -> Result<Listing, StoreFault>
         ensures told { Tells D.Drive self.old self.new (runs.Query.List_ path.now) (λ listing. runs.Answer.Names (said_names listing)) result }
         ensures looks { Looks D.Drive (devices result) self.old self.new }
@@ -53,7 +54,7 @@ impl<D: Drive> Lookup<'_, '_, D> {
         Ok(listing)
     }
 
-    /// What is known of a file or a directory.
+    /// The kind, moment and size of a file or a directory. `NotFound` if the path leads to nothing.
     pub fn stat(&mut self, path: &Path) -> Result<NodeStatus, StoreFault>
         ensures told { (tree : Tree) → Once (D.journal self.old.drive.now) → Sees D.Drive self.old self.new tree → IfOk result (λ status. runs.told tree (runs.Query.Stat path.now) ≡ said_status status) }
         ensures refused { (tree : Tree) → Sees D.Drive self.old self.new tree → IfErr result (IsQueryRefused (runs.told tree (runs.Query.Stat path.now))) }
@@ -76,7 +77,7 @@ impl<D: Drive> Lookup<'_, '_, D> {
         })
     }
 
-    /// The node that a path leads to.
+    /// The node that a path leads to. `NotFound` if it leads to nothing.
     fn node(&mut self, path: &Path) -> Result<Node, StoreFault>
         ensures found { (tree : Tree) → Sees D.Drive self.old self.new tree → IfOk result (IsNodeAt (graph_seen D.Drive self.old) path.now) }
         ensures missing { (tree : Tree) → Sees D.Drive self.old self.new tree → IfErr result (IsMissing tree path.now) }
@@ -99,7 +100,7 @@ impl<D: Drive> Lookup<'_, '_, D> {
         Ok(count)
     }
 
-    /// The moment of a node, in microseconds, and the bytes of its data.
+    /// The moment of a node, in microseconds from 1970-01-01 UTC, and how many bytes its data have.
     fn moment_and_size(&mut self, address: u32) -> Result<(u64, u32), StoreFault>
         ensures read { OfNode D.Drive self.old self.new address (λ s. Answers result (IsMomentAndSize (D.journal self.old.drive.now) s)) }
         ensures looks { Looks D.Drive (devices result) self.old self.new }
@@ -111,7 +112,7 @@ impl<D: Drive> Lookup<'_, '_, D> {
         }
     }
 
-    /// The bytes of the file whose entry has a virtual address.
+    /// The bytes of the file at a virtual address.
     fn file_data(&mut self, address: u32) -> Result<FileData, StoreFault>
         ensures read { OfNode D.Drive self.old self.new address (λ s. is_directory s ≡ false → Answers result (λ bytes. s.body ≡ Bytes bytes)) }
         ensures looks { Looks D.Drive (devices result) self.old self.new }

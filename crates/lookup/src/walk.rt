@@ -1,4 +1,4 @@
-//! The walk: from the root of a state's tree by names, and down to its leaves.
+//! The walk from the root of a state's tree by names, and down to its leaves.
 
 ghost use Rattle.std.specs.Prelude.{◌≤◌, [], ◌∷◌, ◌++◌, IfOk};
 ghost use Rattle.model.specs.Tree.{Path, Tree};
@@ -16,7 +16,7 @@ use osta::Name;
 use recover::{Node, ROOT, StoreFault, read_directory};
 
 impl<D: Drive> Lookup<'_, '_, D> {
-    /// The directory at a virtual address, which is not kept any longer, and where it lies.
+    /// Takes the directory at a virtual address out of the cache, or reads it. Returns where it is, and the directory.
     pub fn open(&mut self, address: u32) -> Result<(Placed, Content), StoreFault>
         ensures opened { OfDirectory D.Drive self.old self.new address (λ s. Answers result (λ read. MatchesStored s read.0 read.1)) }
         ensures lies { IfOk result (λ read. OpensDirectory D.Drive self.old self.new read.0 read.1) }
@@ -31,14 +31,14 @@ impl<D: Drive> Lookup<'_, '_, D> {
         Ok((placed, Content::of(self.alloc, dir)))
     }
 
-    /// Keeps the directory that lies there, if there is memory for it.
+    /// Keeps the directory at this place, if there is memory for it.
     pub fn keep(&mut self, placed: Placed, content: Content)
         ensures { KeepsToo D.Drive placed content self.old self.new }
     {
         self.cache.keep(placed, content);
     }
 
-    /// The node that a directory has under a name.
+    /// The node that a directory has under a name, if any.
     pub fn child(&mut self, directory: u32, name: &Name) -> Result<Option<Node>, StoreFault>
         ensures found { (tree : Tree) (path : Path) → SeesDirectory D.Drive self.old self.new tree path directory → Answers result (IsFound (graph_seen D.Drive self.old) tree (path ++ name.now ∷ [])) }
         ensures looks { Looks D.Drive (devices result) self.old self.new }
@@ -56,7 +56,7 @@ impl<D: Drive> Lookup<'_, '_, D> {
         }
     }
 
-    /// The node that a path leads to.
+    /// The node that a path leads to, if any.
     pub fn find(&mut self, names: &[Name]) -> Result<Option<Node>, StoreFault>
         ensures found { (tree : Tree) → Sees D.Drive self.old self.new tree → Answers result (IsFound (graph_seen D.Drive self.old) tree names.now) }
         ensures looks { Looks D.Drive (devices result) self.old self.new }
@@ -74,7 +74,7 @@ impl<D: Drive> Lookup<'_, '_, D> {
         Ok(Some(node))
     }
 
-    /// The directory that a path leads to.
+    /// The directory that a path leads to. `None` if it leads to a file, or to nothing.
     pub fn find_directory(&mut self, names: &[Name]) -> Result<Option<Node>, StoreFault>
         ensures found { (tree : Tree) → Sees D.Drive self.old self.new tree → Answers result (IsFoundDirectory (graph_seen D.Drive self.old) tree names.now) }
         ensures looks { Looks D.Drive (devices result) self.old self.new }

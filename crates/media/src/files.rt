@@ -1,4 +1,4 @@
-//! Images that are files. What a file holds no clause can know, so what is held is a record.
+//! Images that are files. No clause can know what a file holds, so clauses speak of a record instead.
 ghost use Rattle.std.specs.Prelude.{◌≡◌, ◌==◌, ◌<◌, List, [], ℕ, true, Some, IsTrue};
 ghost use Rattle.drive.specs.FileDrive.{BeginsWith, capacity_of, journal_of};
 ghost use Rattle.drive.specs.Journal.{Event};
@@ -90,7 +90,7 @@ impl<'a, R: Files<File = File>> Media for FileMedia<'a, R> {
     }
 }
 
-/// A drive over the image at this path, which was just opened, is taken to have the blocks that are held there.
+/// Assumes that a drive over the image at this path, which was just opened, has the blocks that are held there.
 fn found(seen: &mut Seen, path: &[u8], mut drive: FileDrive) -> FileDrive
     requires { (image : List (List ℕ)) × BeginsWith image drive }
     ensures image { (image : List (List ℕ)) × BeginsWith image result }

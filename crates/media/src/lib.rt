@@ -1,12 +1,12 @@
-//! Images by their paths, which are lent to a command.
+//! Images by their paths, which a command borrows.
 //!
-//! A drive is taken out of a medium, worked on, and put back. So what each path holds has a name before the
-//! command and after it, and a contract can say what became of it.
+//! A drive is taken out of the media, worked on, and put back. So contracts can name what each path holds before the
+//! command and after it, and say what became of it.
 //!
-//! What is found is what is held under one premise, that the medium is honest: what lies at a path is what the
-//! last drive left that was put back there, and no read gave other bytes. In memory it holds. Of files it is a
-//! premise, since no code can know. It is lost only where an image has another count of blocks than is held, or where a
-//! read gave other bytes.
+//! What is found is what is held, under one premise, that the media are honest: a path has what the last drive left
+//! that was put back there, and no read gave other bytes. In memory this holds. For files it stays a premise, since no
+//! code can know it. It is lost only if an image has another count of blocks than is held, or if a read gave other
+//! bytes.
 #![tactic(auto)]
 
 ghost use Rattle.limits.specs.declared.TheConstants.{BLOCK_BYTES};
@@ -24,23 +24,24 @@ pub use memory::MemMedia;
 
 /// Images by their paths.
 pub trait Media {
+    /// The drive over an image.
     type Drive: Drive;
 
-    /// The journal of the image at a path, where there is one. While its drive is out nothing is said of it.
+    /// The journal of the image at a path, if there is one. While its drive is out, nothing is said about it.
     ghost held: { Self → List ℕ → Option (List Event) };
 
-    /// What was found so far was what is held, and no read of a drive that was put back gave other bytes.
+    /// Whether all that was found so far was what is held, and no read of a drive that was put back gave other bytes.
     ghost honest: { Self → Bool };
 
-    /// What the last call of `part` found after the last whole block of the image at a path, and nothing before the
-    /// first call.
+    /// What the last call of `part` found after the last whole block of the image at a path. `None` before the first
+    /// call.
     ghost looked: { Self → List ℕ → Option (List ℕ) };
 
-    /// A drive may be put back at this path.
+    /// Whether a drive may be put back at this path.
     ghost takes_back: { Self → List ℕ → Bool };
 
-    /// Takes out the image at this path, to read it. One that is missing, cannot be read, or is longer than the
-    /// capacity is a fault.
+    /// Takes out the image at this path, to read it. It is a fault if the image is missing, cannot be read, or is
+    /// longer than the capacity.
     fn open_to_read(&mut self, path: &str, capacity: u32) -> Result<Self::Drive, DriveFault>
         ensures opened { IfOk result (λ d. IsTrue (honest self.new) → held self.old path.now ≡ Some (Self.Drive.journal d)) }
         ensures agreed { IfOk result (λ d. held self.old path.now ≡ Some (Self.Drive.journal d) → honest self.new ≡ honest self.old) }
@@ -55,7 +56,7 @@ pub trait Media {
         ensures looked { looked self.new ≡ looked self.old }
         ensures honest { IsTrue (honest self.new) → IsTrue (honest self.old) };
 
-    /// Takes out the image at this path, to write it. Else as `open_to_read`.
+    /// Takes out the image at this path, to write it. Otherwise as `open_to_read`.
     fn open(&mut self, path: &str, capacity: u32) -> Result<Self::Drive, DriveFault>
         ensures opened { IfOk result (λ d. IsTrue (honest self.new) → held self.old path.now ≡ Some (Self.Drive.journal d)) }
         ensures agreed { IfOk result (λ d. held self.old path.now ≡ Some (Self.Drive.journal d) → honest self.new ≡ honest self.old) }
@@ -70,8 +71,8 @@ pub trait Media {
         ensures looked { looked self.new ≡ looked self.old }
         ensures honest { IsTrue (honest self.new) → IsTrue (honest self.old) };
 
-    /// Takes out the image at this path, to write it, which is made, of no blocks, where it is missing. Where it
-    /// fails, the image may have been made.
+    /// Takes out the image at this path, to write it. If it is missing, it is made, with no blocks. If this fails, the
+    /// image may have been made.
     fn create(&mut self, path: &str, capacity: u32) -> Result<Self::Drive, DriveFault>
         ensures opened { IfOk result (λ d. IsTrue (honest self.new) → initial_journal (held self.old path.now) ≡ Self.Drive.journal d) }
         ensures agreed { IfOk result (λ d. initial_journal (held self.old path.now) ≡ Self.Drive.journal d → honest self.new ≡ honest self.old) }
@@ -86,7 +87,7 @@ pub trait Media {
         ensures looked { looked self.new ≡ looked self.old }
         ensures honest { IsTrue (honest self.new) → IsTrue (honest self.old) };
 
-    /// Puts a drive back, which is what the path holds from then on.
+    /// Puts a drive back. The path holds it from then on.
     fn put_back(&mut self, path: &str, drive: Self::Drive)
         requires { IsTrue (takes_back self.old path.now) }
         ensures held { held self.new path.now ≡ Some (Self.Drive.journal drive) }
@@ -97,8 +98,8 @@ pub trait Media {
         ensures looked { looked self.new ≡ looked self.old }
         ensures honest { IsTrue (honest self.new) → IsTrue (honest self.old) };
 
-    /// The bytes of the image at this path after its last whole block, which no address counts, at the beginning of
-    /// `into`: how many they are, at most 2,047. Its drive is out.
+    /// Reads the bytes of the image at this path after its last whole block, which have no address, to the beginning of
+    /// `into`. Returns how many there are, at most 2,047. The image's drive is out: it is `drive`.
     fn part(
         &mut self,
         path: &str,

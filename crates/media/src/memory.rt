@@ -1,4 +1,4 @@
-//! Images in memory. Such a medium is always honest.
+//! Images in memory. Such media are always honest.
 ghost use Rattle.std.specs.Prelude.{◌≡◌, ◌++◌, ◌∷◌, ◌<◌, ◌↔◌, List, ℕ, [], true, false, None, Some, length, IsTrue, IfOk, IfNone, IfSome, OnErr, OnOk};
 ghost use Rattle.drive.specs.Journal.{Event, InOrder};
 ghost use Rattle.drive.specs.MemDrive.{journal_of, capacity_of, failures_of, writes_of};
@@ -9,7 +9,7 @@ use crate::Media;
 use drive::{Block, Drive, DriveFault, MemDrive};
 use std::alloc::Global;
 
-/// An image at its path. There is no drive while it is out.
+/// An image at its path. The drive is `None` while it is out.
 #[derive(Drop)]
 struct Slot {
     path: Vec<u8>,
@@ -36,7 +36,7 @@ impl MemMedia {
         }
     }
 
-    /// The drive of the image in the slot of this path.
+    /// Takes out the drive of the image at this path.
     fn take_out(&mut self, path: &[u8], capacity: u32) -> Result<MemDrive, DriveFault>
         ensures opened { IfOk result (λ d. held_by self.old path.now ≡ Some (journal_of d)) }
         ensures size { IfOk result (λ d. capacity_of d ≡ capacity) }
@@ -56,7 +56,7 @@ impl MemMedia {
         take_drive(&mut self.slots[place], capacity)
     }
 
-    /// The drive of a new image of no blocks at this path, of which there is no slot yet.
+    /// Makes an image of no blocks at this path, which has no slot yet, and takes out its drive.
     fn add(&mut self, path: &[u8], capacity: u32) -> Result<MemDrive, DriveFault>
         requires { AreOthers self.old.slots.items path.now (length self.old.slots.items) }
         ensures blank { IfOk result (λ d. journal_of d ≡ []) }
@@ -90,7 +90,7 @@ impl Media for MemMedia {
 
     ghost honest = { λ _. true };
 
-    // A drive in memory has whole blocks alone.
+    // A drive in memory has only whole blocks.
     ghost looked = { λ _ _. Some [] };
 
     ghost takes_back = { is_out };
@@ -190,7 +190,7 @@ fn place_of(slots: &[Slot], path: &[u8]) -> Option<usize>
     None
 }
 
-/// Takes the drive out of a slot, if it is fit.
+/// Takes the drive out of a slot, if it is there and fits the capacity.
 fn take_drive(slot: &mut Slot, capacity: u32) -> Result<MemDrive, DriveFault>
     ensures path { slot.new.path ≡ slot.old.path }
     ensures opened { IfOk result (λ d. journal_in slot.old ≡ Some (journal_of d)) }
@@ -212,7 +212,7 @@ fn take_drive(slot: &mut Slot, capacity: u32) -> Result<MemDrive, DriveFault>
     Err(DriveFault)
 }
 
-/// Whether the blocks were each written once, in order, and are no more than the capacity.
+/// Whether each block was written once, in order, and there are no more blocks than the capacity.
 fn is_fit(events: &[(u32, Block)], capacity: u32) -> bool
     ensures { IsTrue result ↔ IsFit capacity events.now }
 {

@@ -1,4 +1,4 @@
-//! What image files are taken to hold, which only clauses read.
+//! What image files are assumed to hold. Only clauses read this.
 ghost use Rattle.std.specs.Prelude.{◌≡◌, ◌+◌, ◌∷◌, [], ℕ};
 ghost use Rattle.std.specs.Borrow.{ftrue};
 ghost use Rattle.drive.specs.FileDrive.{journal_of, misreads_of};
@@ -7,7 +7,7 @@ ghost use Rattle.media.specs.Seen.{ImageJournals, LookLog, held_blocks, lookup, 
 use drive::{FileDrive, HeldBlocks, Look};
 use std::marker::Model;
 
-/// It takes no memory, and its functions do nothing when they run.
+/// What was found and looked at. It takes no memory, and its functions do nothing when they run.
 #[derive(Drop)]
 pub(crate) struct Seen {
     pub ghost images: { ImageJournals },
@@ -28,7 +28,7 @@ impl Seen {
         Seen {}
     }
 
-    /// What the image at this path is taken to hold.
+    /// The blocks that the image at this path is assumed to hold.
     pub(crate) fn blocks(_seen: &Seen, _path: &[u8]) -> HeldBlocks
         ensures { result.blocks ≡ held_blocks (lookup _seen.now.images _path.now) }
     {

@@ -1,6 +1,6 @@
 //! The definitions of this crate as a plain, slow program: a list of paths and nodes, and a list of clients' records.
-//! It keeps the whole tree in memory and looks through all of it at each step, so that it can be read beside the
-//! definitions. A store is tested against it, request by request.
+//! It keeps the whole tree in memory and searches all of it at each step, so that it can be compared with the
+//! definitions line by line. A store is tested against it, request by request.
 
 ghost use Rattle.std.specs.Prelude.{◌≡◌};
 ghost use Rattle.model.specs.Session.{draws_identity};
@@ -29,7 +29,7 @@ pub enum Operation {
 }
 
 impl Operation {
-    /// Whether a new node is made, which takes the next unique ID.
+    /// Whether the operation makes a node, which takes the next unique ID.
     pub fn draws_identity(&self) -> bool
         ensures { result ≡ draws_identity (operation_in self.now) }
     {

@@ -1,3 +1,5 @@
+//! Dstrings: texts in fields of a fixed size (ECMA-167 1/7.2.12).
+
 ghost use Rattle.std.specs.Prelude.{◌≡◌, ◌≤◌, ◌<◌, ◌-◌, ◌==◌, Some, ℕ, List, length, OnOk, OnErr, IfOk, IfErr, MatchResult, string_bytes};
 ghost use Rattle.std.specs.Result.{result_err};
 ghost use Rattle.std.specs.List.{list_all};
@@ -11,9 +13,9 @@ use crate::reading::{check_encoding, expand_checked};
 use crate::writing::{compressed_len, is_spellable, write_encoding};
 use std::alloc::Global;
 
-/// Writes a text into a field of 1 to 256 bytes (ECMA-167 1/7.2.12): its spelling, zeros, and how
-/// many bytes the spelling has. A refusal, `Wide` or `Long`, leaves the field as it is. It takes no
-/// memory.
+/// Writes a text into a field of 1 to 256 bytes (ECMA-167 1/7.2.12): its spelling, zeros, and how many bytes the
+/// spelling has. `Wide` if a character has no spelling, `Long` if the spelling does not fit: the field then stays as it
+/// was. It takes no memory.
 pub fn dstring_write(text: &str, field: &mut [u8]) -> Result<(), NameFault>
     requires some { 1 ≤ length field.old }
     requires few { length field.old ≤ 256 }
@@ -30,7 +32,7 @@ pub fn dstring_write(text: &str, field: &mut [u8]) -> Result<(), NameFault>
     Ok(())
 }
 
-/// The text of a field of 1 to 256 bytes, or the first fault of the field.
+/// The text of a field of 1 to 256 bytes (ECMA-167 1/7.2.12), or the first fault of the field.
 pub fn dstring_read(alloc: Global, field: &[u8]) -> Result<String, OstaFault>
     requires some { 1 ≤ length field.now }
     requires few { length field.now ≤ 256 }
@@ -44,7 +46,7 @@ pub fn dstring_read(alloc: Global, field: &[u8]) -> Result<String, OstaFault>
     Ok(expand_checked(alloc, spelling_of(field))?)
 }
 
-/// The count of bytes of a text's spelling, which may be at most `room`, or the first fault.
+/// How many bytes the spelling of a text takes. `Wide` if it has none, `Long` if it takes more than `room`.
 pub(crate) fn check_room(text: &str, room: usize) -> Result<usize, NameFault>
     ensures fault { result_err result ≡ first_text_fault (writing_faults room text.now) }
     ensures count { IfOk result (λ count. count ≡ length (compressed text.now)) }
@@ -71,7 +73,7 @@ pub(crate) fn put_spelling(spelling: &[u8], field: &mut [u8])
     field[last] = spelling.len() as u8;
 }
 
-/// Whether a field is a dstring, or the first fault of it.
+/// Checks that a field is a dstring, or returns its first fault.
 pub(crate) fn check_dstring(field: &[u8]) -> Result<(), OstaFault>
     requires { 1 ≤ length field.now }
     ensures fault { result_err result ≡ first_text_fault (spec.dstring_faults field.now) }

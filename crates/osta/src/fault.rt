@@ -1,3 +1,5 @@
+//! Why a text cannot be written, and why bytes are no text.
+
 ghost use Rattle.std.specs.Prelude.{◌≡◌};
 ghost use Rattle.osta.specs.Fault.{name_number, osta_number};
 ghost use Rattle.osta.specs.declared.fault.NameFault.TheVariants as name;
@@ -9,14 +11,17 @@ use std::alloc::AllocError;
 /// reported. Each has a number, which causes of refusals show.
 #[derive(Clone, Copy, Debug, PartialEq, Eq)]
 pub enum NameFault {
+    /// The text is empty.
     Empty = 1,
-    /// It is `.` or `..`, which mean directories.
+    /// It is `.` or `..`, which mean the directory itself and the one above.
     Dot = 2,
+    /// It has a slash.
     Slash = 3,
+    /// It has a NUL.
     Nul = 4,
     /// A character has no spelling.
     Wide = 5,
-    /// The spelling has more bytes than there is room for.
+    /// The spelling takes more bytes than there is room for.
     Long = 6,
     /// There is no memory for a copy.
     Memory = 7,
@@ -39,11 +44,11 @@ impl From<AllocError> for NameFault {
     }
 }
 
-/// Why bytes are the spelling of no text, in the order in which the faults are reported. Each has a
-/// number, which causes of refusals show.
+/// Why bytes are the spelling of no text. The faults of a spelling, `CompId` to `Surrogate`, are reported in their
+/// order. Of a dstring, `Count` and `Tail` are reported before these. Each has a number, which causes of refusals show.
 #[derive(Clone, Copy, Debug, PartialEq, Eq)]
 pub enum OstaFault {
-    /// There is no memory for the text. it is reported last.
+    /// There is no memory for the text. This is reported last.
     Memory = 7,
     /// The first byte is neither 8 nor 16.
     CompId = 11,
@@ -53,7 +58,7 @@ pub enum OstaFault {
     NotShortest = 13,
     /// Two bytes are a surrogate, U+FEFF or U+FFFE.
     Surrogate = 14,
-    /// The last byte of a dstring counts more bytes than lie before it.
+    /// The last byte of a dstring counts more bytes than there are before it.
     Count = 15,
     /// A byte of a dstring after its text is not zero.
     Tail = 16,

@@ -1,3 +1,5 @@
+//! Labels of volumes.
+
 ghost use Rattle.std.specs.Prelude.{◌≡◌, ◌+◌, ◌<◌, ◌≤◌, ◌∷◌, ◌++◌, ℕ, List, length, IfOk, IfSome, IsAscii, Some, string_bytes, nat_eq};
 ghost use Rattle.std.specs.Result.{result_err};
 ghost use Rattle.std.specs.Cmp.Lexicographic.{pointwise, nat_list_eq_equiv};
@@ -14,11 +16,11 @@ use crate::writing::{NARROW, WIDE, widen};
 use std::alloc::{AllocError, Global};
 use std::marker::Model;
 
-/// The most bytes of a label's spelling.
+/// The most bytes that the spelling of a label takes.
 const LABEL_ROOM: usize = 31;
 
-/// The label of a volume: a text of 2 to 31 bytes on the medium that has no NUL, kept as its dstring
-/// of 32 bytes. A contract sees it as its text.
+/// The label of a volume: a text without NUL that takes 2 to 31 bytes on the medium. It is kept as its dstring of 32
+/// bytes. Contracts see it as its text.
 #[derive(Clone, Copy, Debug)]
 pub struct Label {
     field: [u8; 32],
@@ -59,7 +61,7 @@ impl Label {
         Ok(Label { field })
     }
 
-    /// The label whose dstring of 32 or of 128 bytes these are. It takes no memory.
+    /// The label whose dstring of 32 or of 128 bytes this is. `None` if there is no such label. It takes no memory.
     pub fn of(field: &[u8]) -> Option<Label>
         ensures some { IfSome result (λ label. IsLabelDstring label field.now) }
         ensures only { (text : List ℕ) → IsLabelDstring text field.now → result ≡ Some text }
@@ -97,7 +99,7 @@ impl Label {
         wide
     }
 
-    /// The dstring of 128 bytes whose text is 16 ASCII characters and the label after them.
+    /// The dstring of 128 bytes whose text is 16 ASCII characters and then the label.
     pub fn dstring_128_after(self, front: &[u8; 16]) -> [u8; 128]
         requires { IsAscii front.now }
         ensures value { result ≡ dstring 128 (front.now ++ self) }

@@ -1,10 +1,9 @@
 //! Text on a UDF volume: compressed Unicode, dstrings, names and labels (UDF 2.01 2.1).
 //!
-//! A text has at most one spelling on the medium, and a reader takes no other: what is written is
-//! read back exactly, and two texts never have the same bytes. What is no spelling is refused by
-//! the first fault that it has.
+//! A text has at most one spelling on the medium, and no other is read. So what is written is read back exactly, and
+//! two texts never have the same bytes. Bytes that are no spelling are refused with their first fault.
 //!
-//! Case folding and normal forms are left to nobody: texts are equal where their characters are.
+//! There is no case folding, and there are no normal forms: texts are equal if their characters are.
 #![tactic(auto)]
 
 mod dstring;

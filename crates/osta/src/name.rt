@@ -1,3 +1,5 @@
+//! Names of files and directories.
+
 ghost use Rattle.std.specs.Prelude.{◌≡◌, ◌==◌, ◌↔◌, ◌<◌, ◌≤◌, ℕ, List, IsTrue, IsAscii, IfOk, IfErr, IfSome, IfNone, ◌≢◌, MatchOption, ◌∷◌, length, nat_eq, None, bytes_eq, codes, string_bytes};
 ghost use Rattle.std.specs.Result.{result_err};
 ghost use Rattle.std.specs.List.{list_any};
@@ -19,16 +21,16 @@ use std::alloc::{AllocError, Global};
 use std::hash::{Hash, Hasher};
 use std::marker::Model;
 
-/// The most bytes of a name's spelling.
+/// The most bytes that the spelling of a name takes.
 const NAME_ROOM: usize = 255;
 
-/// The name of a file or a directory: a text of 1 to 255 bytes on the medium that is neither `.` nor
-/// `..` and has no slash and no NUL. A contract sees it as its text.
+/// The name of a file or a directory: a text that takes 2 to 255 bytes on the medium, is neither `.` nor `..`, and has
+/// no slash and no NUL. Contracts see it as its text.
 #[derive(Debug, Drop)]
 pub struct Name {
-    /// The text after the compression identifier of characters of one byte, which is the spelling of ASCII.
+    /// The compression identifier of characters of one byte, and then the text. If that is ASCII, this is the spelling.
     spelled: String,
-    /// The spelling of a text that is no ASCII, and else nothing.
+    /// The spelling of a text that is not ASCII, and otherwise nothing.
     other: Vec<u8>,
 }
 
@@ -44,7 +46,7 @@ impl Model for Name {
 }
 
 impl Name {
-    /// Whether a text is a name, or its first fault. It takes no memory, and never reports `Memory`.
+    /// Checks that a text is a name, or returns its first fault. It takes no memory, and never reports `Memory`.
     pub fn check(text: &str) -> Result<(), NameFault>
         ensures { result_err result ≡ first_text_fault (name_faults text.now) }
     {
@@ -62,7 +64,7 @@ impl Name {
         Ok(())
     }
 
-    /// A copy of a text that is a name, or the first fault of it.
+    /// A text as a name, or its first fault.
     pub fn read(alloc: Global, text: &str) -> Result<Name, NameFault>
         ensures name { IfOk result (λ name. (name ≡ text.now) × IsName text.now) }
         ensures fault { IfErr result (λ fault. text_fault fault ≡ first_text_fault (name_faults text.now)) }
@@ -77,7 +79,7 @@ impl Name {
         Ok(Name { spelled, other })
     }
 
-    /// The name whose spelling the bytes are, if they are one's.
+    /// The name whose spelling the bytes are. `None` if they are that of no name.
     pub fn of(alloc: Global, bytes: &[u8]) -> Result<Option<Name>, AllocError>
         ensures { IfOk result (λ found. MatchOption found ((text : List ℕ) → IsName text → ¬ (Named text bytes.now)) (λ name. IsName name × Named name bytes.now)) }
     {
@@ -99,7 +101,7 @@ impl Name {
         Ok(Some(Name { spelled, other }))
     }
 
-    /// The name that a text of ASCII is.
+    /// A text of ASCII as a name.
     fn of_ascii(alloc: Global, text: &str) -> Result<Name, AllocError>
         requires ascii { IsAscii text.now }
         requires name { IsName text.now }
@@ -121,7 +123,7 @@ impl Name {
         text
     }
 
-    /// The 1 to 255 bytes that the name takes on the medium. Names are equal exactly where these are.
+    /// The 2 to 255 bytes that the name takes on the medium. Names are equal exactly if these are.
     pub fn compressed(&self) -> &[u8]
         ensures value { result.now ≡ compressed self.now }
         ensures name { Named self.now result.now }
@@ -137,7 +139,8 @@ impl Name {
     }
 }
 
-/// Whether a text of ASCII is a name, or its first fault. Its characters are bytes, and its spelling has one byte more.
+/// Checks that a text of ASCII is a name, or returns its first fault. Its characters are bytes, and its spelling takes
+/// one more byte.
 fn check_ascii(text: &str) -> Result<(), NameFault>
     requires { IsAscii text.now }
     ensures { result_err result ≡ first_text_fault (name_faults text.now) }
@@ -156,7 +159,7 @@ fn check_ascii(text: &str) -> Result<(), NameFault>
     Ok(())
 }
 
-/// Refuses no text at all, and those of a directory itself and of the one above.
+/// Refuses the empty text, `.` and `..`.
 fn check_dots(text: &str) -> Result<(), NameFault>
     ensures { result_err result ≡ first_text_fault (dots_faults text.now) }
 {
@@ -169,7 +172,7 @@ fn check_dots(text: &str) -> Result<(), NameFault>
     Ok(())
 }
 
-/// The text of ASCII whose spelling the bytes are, if they are one's.
+/// The text of ASCII whose spelling the bytes are, if there is one.
 fn ascii_of(bytes: &[u8]) -> Option<&str>
     ensures some { IfSome result (λ text. IsAscii text.now × (bytes.now ≡ 8 ∷ text.now)) }
     ensures none { IfNone result ((text : List ℕ) → IsAscii text → bytes.now ≢ 8 ∷ text) }
@@ -195,7 +198,7 @@ fn after_identifier(alloc: Global, text: &str) -> Result<String, AllocError>
 pub(crate) fn has_character(text: &str, wanted: char) -> bool
     ensures { result ≡ has_character wanted text.now }
 {
-    // In ASCII a byte is a character, so that none has to be put together.
+    // In ASCII each byte is a character, so none has to be decoded.
     if text.is_ascii() {
         has_byte(text.as_bytes(), wanted)
     } else {

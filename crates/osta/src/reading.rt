@@ -1,3 +1,5 @@
+//! Reading texts in compressed Unicode (UDF 2.01 2.1.1).
+
 ghost use Rattle.std.specs.Prelude.{◌≡◌, ◌==◌, List, ℕ, Some, IsTrue, IfOk, IfErr, MatchResult, None, string_bytes, encode_utf8_all};
 ghost use Rattle.std.specs.Result.{result_err};
 ghost use Rattle.std.specs.List.{list_all, list_any};
@@ -11,7 +13,7 @@ use crate::writing::{NARROW, WIDE, has_spelling};
 use byteorder::{BigEndian, ByteOrder};
 use std::alloc::{AllocError, Global};
 
-/// Whether bytes are the spelling of a text, or the first fault of them. It takes no memory.
+/// Checks that bytes are the spelling of a text (UDF 2.01 2.1.1), or returns their first fault. It takes no memory.
 pub fn check_encoding(bytes: &[u8]) -> Result<(), OstaFault>
     ensures fault { result_err result ≡ first_text_fault (spec.spelling_faults bytes.now) }
     ensures reported { IfErr result (λ fault. bytes_fault fault ≡ Some fault) }
@@ -26,7 +28,7 @@ pub fn check_encoding(bytes: &[u8]) -> Result<(), OstaFault>
     }
 }
 
-/// The text whose spelling the bytes are, or the first fault of them.
+/// The text whose spelling the bytes are (UDF 2.01 2.1.1), or their first fault.
 pub fn expand(alloc: Global, bytes: &[u8]) -> Result<String, OstaFault>
     // What is read is the text that the bytes spell.
     ensures found { IfOk result (λ text. spec.Named (string_bytes text) bytes.now) }
@@ -58,7 +60,7 @@ pub(crate) fn expand_checked(alloc: Global, bytes: &[u8]) -> Result<String, Allo
 fn text_of_bytes(alloc: Global, bytes: &[u8]) -> Result<String, AllocError>
     ensures { IfOk result (λ text. string_bytes text ≡ encode_utf8_all bytes.now) }
 {
-    // ASCII is in UTF-8 what it is here.
+    // ASCII is the same in UTF-8 as here.
     if bytes.is_ascii() {
         if let Ok(text) = str::from_utf8(bytes) {
             return String::from_str(alloc, text);
@@ -90,7 +92,7 @@ pub(crate) fn has_zero(bytes: &[u8]) -> bool
     }
 }
 
-/// The faults of the bytes after a compression identifier 8.
+/// The first fault of the bytes after the compression identifier 8.
 fn check_narrow(rest: &[u8]) -> Result<(), OstaFault>
     ensures fault { result_err result ≡ first_text_fault (spec.narrow_faults rest.now) }
     ensures reported { IfErr result (λ fault. bytes_fault fault ≡ Some fault) }
@@ -102,7 +104,7 @@ fn check_narrow(rest: &[u8]) -> Result<(), OstaFault>
     }
 }
 
-/// The faults of the bytes after a compression identifier 16.
+/// The first fault of the bytes after the compression identifier 16.
 fn check_wide(rest: &[u8]) -> Result<(), OstaFault>
     ensures fault { result_err result ≡ first_text_fault (spec.wide_faults rest.now) }
     ensures reported { IfErr result (λ fault. bytes_fault fault ≡ Some fault) }
@@ -119,7 +121,7 @@ fn check_wide(rest: &[u8]) -> Result<(), OstaFault>
     Ok(())
 }
 
-/// Whether each character of two bytes would fit one.
+/// Whether each character of two bytes would fit in one.
 fn are_narrow(bytes: &[u8]) -> bool
     ensures { result ≡ list_all spec.is_narrow (spec.units bytes.now) }
 {
@@ -147,7 +149,7 @@ fn is_unit(unit: u16) -> bool
     char::from_u32(u32::from(unit)).is_some_and(has_spelling)
 }
 
-/// The character of this number. A surrogate is none, and gives the replacement character.
+/// The character of this number. A surrogate is no character, and gives the replacement character.
 #[tactic(auto, unfolding(crate::specs::Compressed::unit_character))]
 fn character(unit: u16) -> char
     ensures { result ≡ spec.unit_character unit }

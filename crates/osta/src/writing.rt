@@ -1,3 +1,5 @@
+//! Writing texts in compressed Unicode (UDF 2.01 2.1.1).
+
 ghost use Rattle.std.specs.Prelude.{◌≡◌, ℕ, List, ◌+◌, ◌*◌, ◌≤◌, ◌<◌, ◌++◌, ◌∷◌, length, IsTrue, IsAscii, IfErr, OnOk, OnErr, None, Some, Err, vec_len, vec_capacity, if◌then◌else◌};
 ghost use Rattle.std.specs.List.{list_all, flat_map};
 ghost use Rattle.std.specs.Str.{chars};
@@ -13,8 +15,8 @@ pub(crate) const NARROW: u8 = 8;
 /// The compression identifier of characters of two bytes.
 pub(crate) const WIDE: u8 = 16;
 
-/// Appends the spelling of a text (UDF 2.01 2.1.1). The vector stays as it is where a character
-/// has none (`Wide`) or memory is short.
+/// Appends the spelling of a text (UDF 2.01 2.1.1). `Wide` if a character has none, `Memory` if memory is short: the
+/// vector then stays as it was.
 pub fn compress(text: &str, out: &mut Vec<u8>) -> Result<(), NameFault>
     ensures ok { OnOk result (out.new.items ≡ out.old.items ++ spec.compressed text.now) }
     ensures spelled { OnOk result (spec.Named text.now (spec.compressed text.now)) }
@@ -33,7 +35,7 @@ pub fn compress(text: &str, out: &mut Vec<u8>) -> Result<(), NameFault>
     Ok(())
 }
 
-/// A text has one spelling at most, and no other text has it.
+/// A text has at most one spelling, and no other text has it.
 pub fn one_spelling()
     ensures bytes { (text bytes other : List ℕ) → spec.Named text bytes → spec.Named text other → bytes ≡ other }
     ensures text { (text other bytes : List ℕ) → spec.Named text bytes → spec.Named other bytes → text ≡ other }
@@ -47,14 +49,14 @@ pub(crate) fn is_spellable(text: &str) -> bool
     text.is_ascii() || text.chars().all(has_spelling)
 }
 
-/// Whether a character has a spelling: it has 16 bits and is no byte order mark, read either way.
+/// Whether a character has a spelling: it has 16 bits, and is not the byte order mark in either byte order.
 pub(crate) fn has_spelling(c: char) -> bool
     ensures { result ≡ spec.has_spelling c }
 {
     c <= '\u{FFFF}' && c != '\u{FEFF}' && c != '\u{FFFE}'
 }
 
-/// Whether each character of a text fits one byte.
+/// Whether each character of a text fits in one byte.
 #[tactic(auto, using(crate::proofs::Ascii::ascii_narrow))]
 fn is_narrow(text: &str) -> bool
     ensures { result ≡ list_all spec.is_narrow (chars text.now) }
@@ -62,7 +64,7 @@ fn is_narrow(text: &str) -> bool
     text.is_ascii() || text.chars().all(|c| c <= '\u{FF}')
 }
 
-/// The count of a text's characters.
+/// How many characters a text has.
 #[tactic(auto, using(crate::proofs::Ascii::ascii_count))]
 fn char_count(text: &str) -> usize
     ensures count { result ≡ length (chars text.now) }
@@ -75,7 +77,7 @@ fn char_count(text: &str) -> usize
     }
 }
 
-/// The count of bytes that the spelling of a text takes.
+/// How many bytes the spelling of a text takes.
 pub(crate) fn compressed_len(text: &str) -> usize
     ensures { result ≡ length (spec.compressed text.now) }
 {
@@ -105,7 +107,7 @@ pub(crate) fn write_encoding(text: &str, into: &mut [u8])
     }
 }
 
-/// Fills a slice with the spelling of characters that fit one byte each.
+/// Fills a slice with the spelling of characters that each fit in one byte.
 fn write_narrow(text: &str, into: &mut [u8])
     requires narrow { IsTrue (list_all spec.is_narrow (chars text.now)) }
     requires room { length into.old ≡ length (chars text.now) + 1 }

@@ -1,4 +1,4 @@
-//! What a request changes of the state before it. Each directory on its paths is looked up once.
+//! What a request changes in the state before it. Each directory on its paths is looked up once.
 
 ghost use Rattle.std.specs.Prelude.{◌≡◌, ℕ, IsTrue, IfOk, IfErr, [], length, nat_lt};
 ghost use Rattle.std.specs.FinMap.{len};
@@ -40,7 +40,8 @@ struct StateBefore<'s, 'n, D: Drive> {
 }
 
 impl LastTable<'_> {
-    /// What a request does to the state whose table this is. Directories that were used last are lent.
+    /// What a request does to the state whose table this is. `cache` has the directories that were used last. The fault
+    /// is `Device`, `Memory` or `Damaged`: a request that the tree refuses gives a change with the code.
     pub fn change<'r, D: Drive>(
         &self,
         alloc: Global,
@@ -88,14 +89,14 @@ impl<D: Drive> StateBefore<'_, '_, D> {
         }
     }
 
-    /// Nothing is done.
+    /// A change that does nothing, with the code that says why.
     fn refused<'r>(&self, code: Code) -> Change<'r>
         ensures { IsChangeRefused code result }
     {
         Change::refused(self.lookup.alloc(), code)
     }
 
-    /// A new file or a new directory.
+    /// Adds a new file or a new directory.
     fn add<'r>(
         &mut self,
         names: &[Name],
@@ -138,7 +139,7 @@ impl<D: Drive> StateBefore<'_, '_, D> {
         Ok(change)
     }
 
-    /// Other bytes for a file.
+    /// Gives a file other bytes.
     fn replace<'r>(
         &mut self,
         names: &[Name],
@@ -165,7 +166,7 @@ impl<D: Drive> StateBefore<'_, '_, D> {
         Ok(change)
     }
 
-    /// A file or an empty directory goes.
+    /// Removes a file or an empty directory.
     fn remove<'r>(&mut self, names: &[Name], moment: Timestamp) -> Result<Change<'r>, StoreFault>
         ensures does { (tree : Tree) (identity : ℕ) → Sees D.Drive self.old.lookup self.new.lookup tree → Answers result (IsChangeSeen D.Drive self.old.lookup tree (Remove names.now) moment identity) }
         ensures looks { Looks D.Drive (devices result) self.old.lookup self.new.lookup }
@@ -190,7 +191,7 @@ impl<D: Drive> StateBefore<'_, '_, D> {
         Ok(change)
     }
 
-    /// Another path for a node and all below it.
+    /// Gives a node, and all below it, another path.
     fn rename<'r>(
         &mut self,
         from: &[Name],
@@ -232,7 +233,7 @@ impl<D: Drive> StateBefore<'_, '_, D> {
         self.move_to(node, (source_dir, old_name), (target_dir, new_name), moment)
     }
 
-    /// Whether the paths of what is moved would have too many names.
+    /// Whether the move would give some path more than `PATH_NAMES` names: that of the node, or of one below it.
     fn is_too_deep(
         &mut self,
         node: Node,
@@ -257,7 +258,7 @@ impl<D: Drive> StateBefore<'_, '_, D> {
         Ok(names_after + height as usize > PATH_NAMES)
     }
 
-    /// Another name in the same directory, after all others.
+    /// Gives a node another name in the same directory. The name goes after all others.
     fn rename_within<'r>(
         &mut self,
         parent: Node,
@@ -278,7 +279,7 @@ impl<D: Drive> StateBefore<'_, '_, D> {
         Ok(change)
     }
 
-    /// From one directory to another.
+    /// Moves a node from one directory to another.
     fn move_to<'r>(
         &mut self,
         node: Node,
@@ -310,7 +311,8 @@ impl<D: Drive> StateBefore<'_, '_, D> {
         Ok(change)
     }
 
-    /// Writes a directory that is moved with its new parent. Its moment stays. A file has none.
+    /// Writes a moved directory again, with its new parent and its old moment. Does nothing for a file, whose entry
+    /// names no parent.
     fn set_parent<'r>(
         &mut self,
         node: Node,
@@ -333,7 +335,7 @@ impl<D: Drive> StateBefore<'_, '_, D> {
         Ok(())
     }
 
-    /// Whether a node is a directory that has names.
+    /// Whether a node is a directory that is not empty.
     fn has_names(&mut self, node: Node) -> Result<bool, StoreFault>
         ensures has { OfStoredNode D.Drive self.old.lookup self.new.lookup node (λ s. Answers result (λ has. has ≡ nat_lt 0 (length (entries_of s)))) }
         ensures looks { Looks D.Drive (devices result) self.old.lookup self.new.lookup }

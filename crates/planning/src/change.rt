@@ -43,7 +43,7 @@ pub struct NewDirectory {
     pub content: Content,
 }
 
-/// What a request does to the nodes. With another code than `Done` it does nothing.
+/// What a request does to the nodes. It does nothing unless the code is `Done`.
 #[derive(Drop)]
 pub struct Change<'r> {
     pub code: Code,
@@ -79,7 +79,7 @@ impl<'r> Change<'r> {
         }
     }
 
-    /// Nothing is done.
+    /// A change that does nothing, with the code that says why.
     pub(crate) fn refused(alloc: Global, code: Code) -> Change<'r>
         ensures { IsChangeRefused code result }
     {
@@ -92,7 +92,7 @@ impl<'r> Change<'r> {
         }
     }
 
-    /// Puts the node that is made among what is written, and says of what kind it is.
+    /// Adds the new node to what is written, and returns its kind.
     pub(crate) fn put_new(
         &mut self,
         alloc: Global,
@@ -102,7 +102,7 @@ impl<'r> Change<'r> {
         thing: NewContent<'r>,
         moment: Timestamp,
     ) -> Result<Kind, StoreFault>
-        // The node comes first, where nothing is written yet.
+        // If nothing is written yet, the node comes first.
         ensures put { IfOk result (λ kind. self.old.file ≡ None → self.old.directories.items ≡ [] → change_writings moment self.new ≡ new_writing address unique moment parent.address thing.entry ∷ []) }
         ensures kind { IfOk result (λ kind. names_directory kind ≡ has_names (content_of_thing thing.entry)) }
         ensures made { IfOk result (λ kind. (path : Path) → self.new.made ≡ made_by (addition path thing.entry) address) }
@@ -139,7 +139,7 @@ impl<'r> Change<'r> {
     }
 }
 
-/// Whether a name can be added to a directory.
+/// `Done` if a name can be added to a directory, and otherwise the code that says why not.
 pub(crate) fn code_of_addition(node_count: u32, content: &Content, name: &Name) -> Code
     ensures code { code_number result ≡ code_by_names (is_some (lookup (pointwise nat_eq name.now) content.now.dir.entries.entries)) (length content.now.dir.entries.entries) node_count }
     ensures room { result ≡ Done → length content.now.dir.entries.entries < DIRECTORY_NAMES }
@@ -156,7 +156,7 @@ pub(crate) fn code_of_addition(node_count: u32, content: &Content, name: &Name) 
     Code::Done
 }
 
-/// Whether a path goes on after another.
+/// Whether `path` begins with `front` and is longer.
 pub(crate) fn is_below(path: &[Name], front: &[Name]) -> bool
     ensures { result ≡ (nat_lt (length front.now) (length path.now) && begins_with path.now front.now) }
 {
@@ -166,7 +166,7 @@ pub(crate) fn is_below(path: &[Name], front: &[Name]) -> bool
     path.starts_with(front)
 }
 
-/// A directory with other names.
+/// The directory of this node, written again with this moment and content.
 pub(crate) fn written(node: Node, moment: Timestamp, content: Content) -> NewDirectory
     ensures address { result.address ≡ node.address }
     ensures unique { result.unique ≡ node.unique }

@@ -13,10 +13,10 @@ use vat::Vat;
 #[derive(Drop)]
 pub struct PlacedFile<'r> {
     pub file: NewFile<'r>,
-    /// The blocks of zeros before its bytes, where they are outside the entry.
+    /// How many blocks of zeros are before its bytes, if these are outside the entry.
     pub gap: u32,
     pub entry: PlannedEntry<'r>,
-    /// The number of its entry.
+    /// The block number of its entry.
     pub number: u32,
 }
 
@@ -32,7 +32,7 @@ pub struct PlacedDirectory {
 }
 
 impl PlacedDirectory {
-    /// Where it is and lies, once it is written.
+    /// Where its entry and its data are, once they are written.
     pub fn placed(&self) -> Placed
         ensures { result ≡ record { at = record { number = self.now.number; address = self.now.directory.address }; extent = self.now.extent; moment = self.now.directory.moment } }
     {
@@ -50,12 +50,12 @@ impl PlacedDirectory {
 /// A table with its place.
 #[derive(Drop)]
 pub struct PlacedTable {
-    /// As it is kept when it is written.
+    /// The table, which is kept in memory once it is written.
     pub vat: Vat,
     pub bytes: Vec<u8>,
-    /// The number of the first block of its bytes.
+    /// The block number at which its bytes begin.
     pub first: u32,
-    /// The blocks of zeros before them.
+    /// How many blocks of zeros are before them.
     pub gap: u32,
     pub entry: PlannedEntry<'static>,
     /// The address of its entry.

@@ -1,4 +1,4 @@
-//! Where the blocks of a commit lie.
+//! The places of the blocks of a commit.
 
 ghost use Rattle.limits.specs.declared.TheConstants.{BLOCK_BYTES, FILE_BYTES, PARTITION_BLOCKS};
 ghost use Rattle.std.specs.Prelude.{◌≡◌, ℕ, ◌+◌, ◌*◌, ◌<◌, ◌≤◌, List, [], ◌∷◌, ◌++◌, length, Some};
@@ -22,7 +22,7 @@ use icb::{FileEntry, Kind, Place, PlannedEntry};
 use recover::{Extent, block_count};
 use vat::clear_start;
 
-/// The most bytes of a file that are inside its entry.
+/// The most bytes of a file that its entry takes.
 pub(crate) const INSIDE_BYTES: usize = limits::INSIDE_BYTES as usize;
 
 /// The block numbers that a commit gives out, one after another.
@@ -30,14 +30,14 @@ pub(crate) const INSIDE_BYTES: usize = limits::INSIDE_BYTES as usize;
 pub(crate) struct Numbers {
     /// The next number.
     next: u32,
-    /// How many blocks the partition has.
+    /// How many blocks the partition has: no number from this one on is given out.
     end: u32,
     ghost within: { next ≤ end },
     ghost partition: { end ≤ PARTITION_BLOCKS },
 }
 
 impl Numbers {
-    /// The numbers from one on. The partition has so many blocks.
+    /// The block numbers from `next` on, of a partition of `end` blocks.
     pub(crate) fn new(next: u32, end: u32) -> Numbers
         requires within { next ≤ end }
         requires partition { end ≤ PARTITION_BLOCKS }
@@ -56,7 +56,7 @@ impl Numbers {
         self.next
     }
 
-    /// Gives out so many numbers, for which there is room.
+    /// Gives out the next `count` numbers, for which there is room.
     pub(crate) fn take(&mut self, count: u32)
         requires room { self.old.next + count ≤ self.old.end }
         ensures next { self.new.next ≡ self.old.next + count }
@@ -65,7 +65,8 @@ impl Numbers {
         self.next += count;
     }
 
-    /// Places bytes at the least clear start, and says where it is.
+    /// Places bytes at the next clear start, and returns its block number. The gap before it is at most as long as the
+    /// bytes.
     pub(crate) fn place_bytes(&mut self, bytes: &[u8]) -> u32
         requires few { length bytes.now ≤ FILE_BYTES }
         requires room { self.old.next + 2 * div_ceil (length bytes.now) BLOCK_BYTES ≤ self.old.end }
@@ -80,7 +81,7 @@ impl Numbers {
         first
     }
 
-    /// Places a file: its bytes, where they are outside its entry, and the entry, of this moment.
+    /// Places a file: its bytes, if they are outside its entry, and then the entry, with this moment.
     pub(crate) fn place_file<'r>(&mut self, file: NewFile<'r>, moment: Timestamp) -> PlacedFile<'r>
         requires room { self.old.next + needs.file_need (Some file) ≤ self.old.end }
         ensures address { result.file.address ≡ file.entry.address }
@@ -133,7 +134,7 @@ impl Numbers {
     }
 }
 
-/// The entry of a file whose bytes, where they are outside of it, begin at the block of this number.
+/// The entry of a file. If its bytes are outside the entry, they begin at block number `first`.
 fn file_entry<'r>(file: &NewFile<'r>, moment: Timestamp, first: u32) -> PlannedEntry<'r>
     requires { first + div_ceil (length (outside file.now.bytes.now)) BLOCK_BYTES ≤ PARTITION_BLOCKS }
     ensures { (from : ℕ) (blocks : List (List ℕ)) → IsPlaced udf (outside file.now.bytes.now) from first blocks → WritesNode udf (file_writing moment file.now) from (blocks ++ result ∷ []) (from + length blocks) }
@@ -150,7 +151,7 @@ fn file_entry<'r>(file: &NewFile<'r>, moment: Timestamp, first: u32) -> PlannedE
     PlannedEntry::new(&entry, file.address)
 }
 
-/// The entry of a directory whose data lie there.
+/// The entry of a directory whose data are at `extent`.
 fn directory_entry(directory: &NewDirectory, extent: Extent) -> PlannedEntry<'static>
     requires proper { IsProper directory.now.content.dir }
     requires size { extent.size ≡ directory_size directory.now.content.dir }
@@ -162,7 +163,7 @@ fn directory_entry(directory: &NewDirectory, extent: Extent) -> PlannedEntry<'st
     ensures written { WritesNode udf (directory_writing directory.now) extent.first (directory_blocks directory.now.content.dir extent.first ++ result ∷ []) (extent.first + div_ceil extent.size BLOCK_BYTES) }
 {
     let content = &directory.content;
-    // Read so that the proof has that it is of 32 bits.
+    // Unused: it gives the proof that the parent's address has 32 bits.
     let _parent = content.dir.parent;
     let entry = FileEntry {
         kind: Kind::Directory,
@@ -175,7 +176,7 @@ fn directory_entry(directory: &NewDirectory, extent: Extent) -> PlannedEntry<'st
     PlannedEntry::new(&entry, directory.address)
 }
 
-/// The bytes of a file that lie outside its entry: all or none.
+/// The bytes of a file that are outside its entry: all or none.
 pub(crate) fn outside_of(bytes: &[u8]) -> &[u8]
     ensures { result.now ≡ outside bytes.now }
 {
@@ -186,7 +187,7 @@ pub(crate) fn outside_of(bytes: &[u8]) -> &[u8]
     }
 }
 
-/// Where the bytes of a file are, the first block of those outside its entry having this number.
+/// Where the bytes of a file are. If they are outside the entry, they begin at block number `first`.
 fn place_of_bytes(bytes: &[u8], first: u32) -> Place<'_>
     requires { first + div_ceil (length (outside bytes.now)) BLOCK_BYTES ≤ PARTITION_BLOCKS }
     ensures fits { FitsPlace File (length bytes.now) (place_of result) }

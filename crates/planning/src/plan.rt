@@ -1,4 +1,4 @@
-//! A commit, planned whole: which blocks it writes, and where; and the writes.
+//! The plan of a whole commit, that is which blocks it writes and where, and the writes.
 
 ghost use Rattle.limits.specs.declared.TheConstants.{BLOCK_BYTES, FILE_BYTES, PARTITION_BLOCKS, PARTITION_START};
 ghost use Rattle.std.specs.Prelude.{min, ◌≡◌, ◌+◌, ◌-◌, ◌*◌, ◌<◌, ◌≤◌, ◌^◌, ◌++◌, [], ◌∷◌, Some, IfOk, IfErr, OnOk, OnErr, IfSome, All, Err, false, is_err, length, ◌⊎◌};
@@ -44,7 +44,7 @@ use vat::{Vat, encode_vat};
 #[derive(Drop)]
 pub struct Plan<'r> {
     pub reply: Reply,
-    /// Of the request. No code reads it: what is planned is said by it.
+    /// The moment of the request. No code reads it: contracts describe the plan by it.
     pub moment: Timestamp,
     pub file: Option<PlacedFile<'r>>,
     pub directories: Vec<PlacedDirectory>,
@@ -53,7 +53,7 @@ pub struct Plan<'r> {
 }
 
 impl Plan<'_> {
-    /// Writes all that is planned, in order.
+    /// Writes all that is planned, in order. If the drive fails, a prefix of it was written.
     pub fn write<D: Drive>(&mut self, drive: &mut D) -> Result<(), DriveFault>
         requires plan { IsPlan (next_of (D.journal drive.old)) (D.capacity drive.old) self.old }
         ensures ok { OnOk result (D.journal drive.new ≡ D.journal drive.old ++ written (next_of (D.journal drive.old)) (plan_blocks self.old)) }
@@ -71,7 +71,7 @@ impl Plan<'_> {
         Ok(())
     }
 
-    /// How many blocks are held encoded all the while: the table's bytes.
+    /// How many encoded blocks are held during all writes: those of the table's data.
     fn held(&self) -> usize {
         let bytes = self.table.bytes.len();
         bytes.div_ceil(BLOCK_SIZE)
@@ -85,7 +85,7 @@ impl Plan<'_> {
     }
 }
 
-/// A file's bytes, where they are outside its entry, and the entry. No file takes no block.
+/// Writes a file's bytes, if they are outside its entry, and the entry. Without a file nothing is written.
 fn write_file<'r, D: Drive>(
     writer: &mut Writer<'r>,
     drive: &mut D,
@@ -106,7 +106,7 @@ fn write_file<'r, D: Drive>(
     Ok(())
 }
 
-/// A directory's data, and its entry.
+/// Writes a directory's data, and its entry.
 fn write_directory<D: Drive>(
     writer: &mut Writer<'_>,
     drive: &mut D,
@@ -124,7 +124,7 @@ fn write_directory<D: Drive>(
     Ok(())
 }
 
-/// The directories in order.
+/// Writes the directories in order.
 fn write_directories<D: Drive>(
     writer: &mut Writer<'_>,
     drive: &mut D,
@@ -142,8 +142,9 @@ fn write_directories<D: Drive>(
     Ok(())
 }
 
-/// The table's bytes, and its entry, with which the commit takes effect. The entry waits for a write of its own, after the
-/// finished writes of all else: whatever part of a write a power loss leaves, it is valid only where all that it leads to is.
+/// Writes the table's bytes, and puts its VAT ICB, with which the commit takes effect. The VAT ICB waits for a write of
+/// its own, after all other writes have finished. So whatever part of a write a power loss leaves, the VAT ICB is on
+/// the medium only if all that it leads to is.
 fn write_table<D: Drive>(
     writer: &mut Writer<'_>,
     drive: &mut D,
@@ -166,15 +167,15 @@ fn write_table<D: Drive>(
 /// The last table of a volume, after which a commit is planned.
 #[derive(Clone, Copy, Debug)]
 pub struct LastTable<'s> {
-    /// The address of its entry.
+    /// The address of its VAT ICB.
     pub vat_icb_address: u32,
-    /// Of the volume, in blocks.
+    /// How many blocks the volume has.
     pub capacity: u32,
     pub vat: &'s Vat,
 }
 
 impl LastTable<'_> {
-    /// Plans a commit. All memory that it needs is taken here.
+    /// Plans a commit, and takes all memory that its writes need. `Full` if there may be no room for it.
     pub fn plan<'r, D: Drive>(
         &self,
         alloc: Global,
@@ -189,7 +190,7 @@ impl LastTable<'_> {
         ensures makes { IfOk result (IsPlanAfter self.now request.now change.entry moment) }
         ensures room { OnOk result (next_of (D.journal drive.old) + need_of self.now request.now change.entry ≤ self.now.capacity) }
         ensures full { result ≡ Err Full → self.now.capacity < next_of (D.journal drive.old) + need_of self.now request.now change.entry }
-        // Where the table takes each change, nothing else is refused.
+        // If the table takes each change, nothing else is refused.
         ensures refused { IsTakenBy moment change.entry (table_committed self.now request.now change.entry) → IfErr result (λ fault. IsShortage fault ⊎ (fault ≡ Full)) }
         ensures reads { ReadsOnly D.Drive (devices result) drive.old drive.new }
     {
@@ -232,7 +233,7 @@ impl LastTable<'_> {
         })
     }
 
-    /// The table of the next commit, with the request's reply and the node that is made, which is placed later.
+    /// The table of the next commit, with the request's reply and the new node, if any, which is placed later.
     fn next_table(
         &self,
         alloc: Global,
@@ -263,7 +264,7 @@ impl LastTable<'_> {
     }
 }
 
-/// The most blocks that a commit may take, from sizes alone.
+/// The most blocks that a commit may take, computed from sizes alone.
 fn need(change: &Change<'_>, vat: &Vat) -> u64
     requires { FitsTable (view vat.now) }
     ensures value { result ≡ min (needs.change_need change.now (view vat.now)) (2 ^ 64 - 1) }
@@ -273,7 +274,7 @@ fn need(change: &Change<'_>, vat: &Vat) -> u64
     nodes.saturating_add(file_need(&change.file) + table_need(vat))
 }
 
-/// The most blocks for a table.
+/// The most blocks for a table: its data, a gap before them that is at most as long, and the VAT ICB.
 fn table_need(vat: &Vat) -> u64
     requires { FitsTable (view vat.now) }
     ensures value { result ≡ needs.table_need (view vat.now) }
@@ -285,7 +286,8 @@ fn table_need(vat: &Vat) -> u64
     2 * bytes.div_ceil(BLOCK_SIZE) as u64 + 1
 }
 
-/// The most blocks for a file, if one is written.
+/// The most blocks for a file, if one is written: its bytes outside the entry, a gap before them that is at most as
+/// long, and the entry.
 fn file_need(file: &Option<NewFile<'_>>) -> u64
     ensures value { result ≡ needs.file_need file.now }
     ensures few { result ≤ 1_025 }
@@ -297,7 +299,8 @@ fn file_need(file: &Option<NewFile<'_>>) -> u64
     2 * u64::from(block_count(outside.len() as u32)) + 1
 }
 
-/// The most blocks for directories.
+/// The most blocks for directories. Each one has its entry and a last block of data. In each other block of data the
+/// identifiers fill at least `LEAST_FILLED_BYTES`.
 fn directories_need(directories: &[NewDirectory]) -> u64
     ensures value { result ≡ min (needs.directories_need directories.now) (2 ^ 64 - 1) }
     ensures proper { All (λ d. IsProper d.content.dir) directories.now }
@@ -310,18 +313,18 @@ fn directories_need(directories: &[NewDirectory]) -> u64
     blocks
 }
 
-/// The bytes of a directory's identifiers, none of them lengthened.
+/// The size of a directory's identifiers if none is lengthened: 40 bytes for its parent's, and those of its names.
 fn identifiers_size(content: &Content) -> u64
     ensures size { result ≡ 40 + plain_sizes (name_sizes content.now.dir.entries.entries) }
     ensures proper { IsProper content.now.dir }
 {
-    // Unused: brings into the proof that no name is there twice.
+    // Unused: it gives the proof that no name occurs twice.
     let _many = content.dir.entries.len();
     40 + content.identifiers.plain_size(&content.dir) as u64
 }
 
-/// Places a file, if one is written, at this moment, and enters it in the table. The table of the state before is at
-/// `at`.
+/// Places a file, if one is written, with this moment, and enters it in the table. A refusal names `at`, the address of
+/// the VAT ICB of the state before.
 fn enter_file<'r>(
     vat: &mut Vat,
     numbers: &mut Numbers,
@@ -348,8 +351,8 @@ fn enter_file<'r>(
     Ok(Some(placed))
 }
 
-/// Places the directories that are written, in order, and enters them in the table. The table of the state before is at
-/// `at`.
+/// Places the directories that are written, in order, and enters them in the table. A refusal names `at`, the address
+/// of the VAT ICB of the state before.
 fn enter_directories(
     alloc: Global,
     vat: &mut Vat,
@@ -378,7 +381,8 @@ fn enter_directories(
     Ok(all)
 }
 
-/// Takes a node away, if one goes. The table of the state before is at `at`.
+/// Removes a node from the table, if one is removed. A refusal names `at`, the address of the VAT ICB of the state
+/// before.
 fn take_away(vat: &mut Vat, removed: Option<Node>, at: u32) -> Result<(), StoreFault>
     requires fits { FitsTable (view vat.old) }
     ensures gone { OnOk result (TakesAway removed vat.old vat.new) }
@@ -394,7 +398,7 @@ fn take_away(vat: &mut Vat, removed: Option<Node>, at: u32) -> Result<(), StoreF
     Ok(())
 }
 
-/// Places the table, after all that it leads to. Its entry has this moment.
+/// Places the table, after all that it leads to. Its VAT ICB has this moment.
 fn place_table(
     alloc: Global,
     vat: Vat,
@@ -426,7 +430,7 @@ fn place_table(
     })
 }
 
-/// The VAT ICB of so many bytes, which begin at the block of a number, for the block of another.
+/// The VAT ICB, for block `number`, of a table of `size` bytes that begin at block number `first`.
 fn table_entry(size: u32, first: u32, number: u32, moment: Timestamp) -> PlannedEntry<'static>
     requires some { 0 < size }
     requires few { size ≤ FILE_BYTES }

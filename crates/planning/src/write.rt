@@ -25,13 +25,13 @@ const ZEROS: Block = [0; BLOCK_SIZE];
 #[derive(Drop)]
 pub(crate) struct Writer<'b> {
     packets: PacketWriter<'b>,
-    /// The blocks beside these that are held all the while.
+    /// How many other blocks are held all the time.
     held: usize,
     most_held: usize,
 }
 
 impl<'b> Writer<'b> {
-    /// A writer of blocks from this address on. No later call takes memory.
+    /// A writer of blocks from this address on. No later call allocates memory.
     pub(crate) fn new(alloc: Global, at: u32) -> Result<Writer<'b>, AllocError>
         ensures { IfOk result (λ w. w.packets ≡ record { at = at; blocks = [] }) }
     {
@@ -42,7 +42,7 @@ impl<'b> Writer<'b> {
         })
     }
 
-    /// Counts so many blocks among those that are held, beside the ones that it is given.
+    /// Sets how many blocks are held besides those that the writer is given.
     pub(crate) fn hold(&mut self, blocks: usize)
         ensures { self.new.packets ≡ self.old.packets }
     {
@@ -56,6 +56,7 @@ impl<'b> Writer<'b> {
         self.most_held
     }
 
+    /// Puts one block.
     pub(crate) fn put<D: Drive>(&mut self, drive: &mut D, block: &Block) -> Result<(), DriveFault>
         requires begins { self.old.packets.at ≤ next_of (D.journal drive.old) }
         requires fits { next_address self.old.packets < D.capacity drive.old }
@@ -69,7 +70,7 @@ impl<'b> Writer<'b> {
         self.packets.put(drive, block)
     }
 
-    /// An entry, which is made here.
+    /// Puts an entry, which is encoded here.
     pub(crate) fn put_entry<D: Drive>(
         &mut self,
         drive: &mut D,
@@ -87,7 +88,7 @@ impl<'b> Writer<'b> {
         self.put(drive, &made)
     }
 
-    /// So many blocks of zeros.
+    /// Puts `count` blocks of zeros.
     fn put_zeros<D: Drive>(&mut self, drive: &mut D, count: u32) -> Result<(), DriveFault>
         requires begins { self.old.packets.at ≤ next_of (D.journal drive.old) }
         requires fits { next_address self.old.packets + count ≤ D.capacity drive.old }
@@ -101,7 +102,7 @@ impl<'b> Writer<'b> {
         Ok(())
     }
 
-    /// The blocks in order.
+    /// Puts the blocks in order.
     fn put_all<D: Drive>(&mut self, drive: &mut D, blocks: &[Block]) -> Result<(), DriveFault>
         requires begins { self.old.packets.at ≤ next_of (D.journal drive.old) }
         requires fits { next_address self.old.packets + length blocks.now ≤ D.capacity drive.old }
@@ -115,7 +116,7 @@ impl<'b> Writer<'b> {
         self.packets.put_all(drive, blocks)
     }
 
-    /// The blocks in order, which go out as they lie: they are not copied, and not held.
+    /// Puts the blocks in order, from where they are in memory: they are neither copied nor held.
     fn lend<D: Drive>(&mut self, drive: &mut D, blocks: &'b [Block]) -> Result<(), DriveFault>
         requires begins { self.old.packets.at ≤ next_of (D.journal drive.old) }
         requires fits { next_address self.old.packets + length blocks.now ≤ D.capacity drive.old }
@@ -126,7 +127,7 @@ impl<'b> Writer<'b> {
         self.packets.lend(drive, blocks)
     }
 
-    /// Bytes, with zeros after them in the last block.
+    /// Puts bytes, with zeros after them in the last block.
     fn put_data<D: Drive>(&mut self, drive: &mut D, bytes: &[u8]) -> Result<(), DriveFault>
         requires begins { self.old.packets.at ≤ next_of (D.journal drive.old) }
         requires size { length bytes.now < 2 ^ 32 }
@@ -141,7 +142,7 @@ impl<'b> Writer<'b> {
         Ok(())
     }
 
-    /// Bytes, with zeros after them in the last block. Their whole blocks are lent.
+    /// Puts bytes, with zeros after them in the last block. Their whole blocks are not copied.
     fn lend_data<D: Drive>(&mut self, drive: &mut D, bytes: &'b [u8]) -> Result<(), DriveFault>
         requires begins { self.old.packets.at ≤ next_of (D.journal drive.old) }
         requires size { length bytes.now < 2 ^ 32 }
@@ -156,7 +157,7 @@ impl<'b> Writer<'b> {
         Ok(())
     }
 
-    /// Less than a block of bytes, with zeros after them. No bytes take no block.
+    /// Puts less than a block of bytes, with zeros after them. No bytes take no block.
     fn put_text<D: Drive>(&mut self, drive: &mut D, text: &[u8]) -> Result<(), DriveFault>
         requires begins { self.old.packets.at ≤ next_of (D.journal drive.old) }
         requires size { length text.now < BLOCK_BYTES }
@@ -171,7 +172,7 @@ impl<'b> Writer<'b> {
         self.put(drive, &block_of(text))
     }
 
-    /// Blocks of zeros, and then bytes.
+    /// Puts `gap` blocks of zeros, and then bytes.
     pub(crate) fn put_bytes<D: Drive>(
         &mut self,
         drive: &mut D,
@@ -190,7 +191,7 @@ impl<'b> Writer<'b> {
         Ok(())
     }
 
-    /// Blocks of zeros, and then bytes whose whole blocks are lent.
+    /// Puts `gap` blocks of zeros, and then bytes whose whole blocks are not copied.
     pub(crate) fn lend_bytes<D: Drive>(
         &mut self,
         drive: &mut D,
@@ -209,7 +210,7 @@ impl<'b> Writer<'b> {
         Ok(())
     }
 
-    /// The data of a directory, from a block number on.
+    /// Puts the data of a directory, from block number `first` on.
     pub(crate) fn put_directory<D: Drive>(
         &mut self,
         drive: &mut D,
@@ -231,7 +232,7 @@ impl<'b> Writer<'b> {
         Ok(())
     }
 
-    /// Writes the blocks that wait, as one run. None waits then, and the next block begins a write of its own.
+    /// Writes the blocks that wait, as one run. Afterwards none waits, and the next block begins a write of its own.
     pub(crate) fn finish<D: Drive>(&mut self, drive: &mut D) -> Result<(), DriveFault>
         requires begins { self.old.packets.at ≤ next_of (D.journal drive.old) }
         requires fits { next_address self.old.packets ≤ D.capacity drive.old }
@@ -258,7 +259,7 @@ impl<'b> Writer<'b> {
     }
 }
 
-/// A block that begins with a text, and has zeros after it.
+/// A block that begins with these bytes, and has zeros after them.
 fn block_of(text: &[u8]) -> Block
     requires { length text.now ≤ BLOCK_BYTES }
     ensures { result ≡ padded text.now }

@@ -1,4 +1,4 @@
-//! Programs that are run, and what they reported.
+//! Running the programs, and what they report.
 
 use media::{FileMedia, Media};
 use programs::{Sockets, command_on, daemon_on};
@@ -10,7 +10,7 @@ use std::test::Fail;
 pub(crate) const CREATE: [u8; 42] =
     *b"\x26\0\0\0\x01\x07\0\0\0\0\0\0\0\x01\0\0\0\0\0\0\0\0\0\0\0\0\0\0\0\x01\x01\0a\x05\0\0\0hello";
 
-/// Its answer: it is the first commit.
+/// Its answer: done, in commit 1.
 pub(crate) const CREATED: [u8; 10] = [6, 0, 0, 0, 0, 0, 1, 0, 0, 0];
 
 /// A request to make the directory `/d`, of client 7 under number 2.
@@ -71,7 +71,7 @@ pub(crate) fn reports_on<M: Media>(
 /// Words and input of `udfburn`, and its status, output and error.
 pub(crate) type Row<'a> = (&'a [&'a str], &'a [u8], u8, &'a [u8], &'a [u8]);
 
-/// The index of the first row that reports something else, where the rows run one after another over the same media.
+/// Runs the rows one after another over the same media. Returns the index of the first that reports something else.
 pub(crate) fn failing_on<M: Media>(
     rt: &HostRuntime,
     media: &mut M,
@@ -120,7 +120,7 @@ pub(crate) fn size_of(rt: &HostRuntime, path: &str) -> Result<usize, Fail> {
     Ok(fs::read(rt, path)?.len())
 }
 
-/// A new image of 3,000 blocks at this path, in the place of one that is there.
+/// Makes a new image of 3,000 blocks at this path, in place of one that may be there.
 pub(crate) fn formatted(rt: &HostRuntime, image: &str) -> Result<(), Fail> {
     let _ = fs::remove_file(rt, image);
     let words = ["format", image, "DISC", "0", "3000"];

@@ -46,7 +46,7 @@ fn a_volume_in_memory(rt: HostRuntime) {
     assert_eq!(rt; failing(&rt, &IN_MEMORY), None);
 }
 
-/// A path is looked at before the image.
+/// A path is checked before the image is opened.
 const MISSING: [Row<'static>; 9] = [
     (
         &["apply", "missing.img"],
@@ -150,7 +150,7 @@ const FORMATS: [Row<'static>; 4] = [
     ),
 ];
 
-/// An image that is longer than the capacity is a fault before all others.
+/// An image that is longer than the capacity is reported before any other fault.
 const LONG: [Row<'static>; 1] = [(
     &["format", "formats.img", "", "0", "512"],
     b"",
@@ -159,7 +159,7 @@ const LONG: [Row<'static>; 1] = [(
     b"udfburn: 64 Device\n",
 )];
 
-/// Makes a file of so many zeros.
+/// Makes a file of `size` zeros.
 fn fill(rt: &HostRuntime, path: &str, size: usize) -> Result<(), Fail> {
     let zeros = vec![in rt.alloc(); 0u8; size]?;
     fs::write(rt, path, zeros.as_slice())?;
@@ -186,7 +186,7 @@ const NO_LABEL: [Row<'static>; 1] = [(
     b"udfburn: 62 Label\n",
 )];
 
-/// What needs the store is answered 39.
+/// A message that needs the store is answered with 39.
 const NOT_FORMATTED: [Row<'static>; 3] = [
     (
         &["ls", "label.img", "/"],
@@ -276,7 +276,8 @@ fn refuses(rt: &HostRuntime, words: &[&str], bytes: &[u8]) -> Result<bool, Fail>
     Ok(is_refused && holds(rt, "part.img", bytes)?)
 }
 
-/// Whether a part of a block of another format is refused, and then gone over by a format with the same words.
+/// Whether a format with other words refuses an image with a part of a block, and one with the same words overwrites
+/// the part.
 fn finishes_its_own(rt: &HostRuntime, whole: &[u8]) -> Result<bool, Fail> {
     let part = whole.get(..34 * 2048 + 900).ok_or("a short image")?;
     let is_refused = refuses(rt, &SMALLER, part)?;
@@ -288,7 +289,7 @@ fn finishes_its_own(rt: &HostRuntime, whole: &[u8]) -> Result<bool, Fail> {
 fn a_file_that_begins_no_format(rt: HostRuntime) -> Result<(), Fail> {
     formatted(&rt, "part.img")?;
     let mut whole = fs::read(&rt, "part.img")?;
-    // Bytes of a user's.
+    // Bytes of the user's own.
     assert!(rt; refuses(&rt, &AGAIN, b"notes")?);
     assert!(rt; finishes_its_own(&rt, &whole)?);
     // A volume with something after it is no beginning of a format.

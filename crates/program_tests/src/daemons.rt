@@ -1,4 +1,4 @@
-//! The daemon, and a client's calls beside it.
+//! The daemon, and the calls of its clients.
 
 ghost use Rattle.engine.specs.Situation.{IsReady, seen_on};
 
@@ -24,7 +24,7 @@ fn words_of_the_daemon(rt: HostRuntime) -> Result<(), Fail> {
     Ok(())
 }
 
-/// Whether an image that is missing, or a socket that cannot be had, is refused.
+/// Whether a missing image, and sockets that cannot be bound, are refused.
 fn refuses(rt: &HostRuntime, image: &str) -> Result<bool, Fail> {
     let _ = fs::remove_file(rt, image);
     let words = ["udfburnd", image, "missing/daemon.socket"];

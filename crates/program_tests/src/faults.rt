@@ -1,4 +1,4 @@
-//! The lines of faults, beside what the crates below show of theirs.
+//! The lines of faults, compared with what the crates below show of theirs.
 
 use engine::ServeFault;
 use programs::{Fault, report};

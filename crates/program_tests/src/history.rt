@@ -1,4 +1,4 @@
-//! The commits of an image, and what is found of damaged ones.
+//! The commits of an image, and what is reported of damaged ones.
 
 use crate::asking::{CREATE, CREATED, formatted, reports};
 use std::fs::{self, File, OpenOptions};
@@ -14,7 +14,7 @@ fn create(rt: &HostRuntime, image: &str) -> Result<(), Fail> {
     }
 }
 
-/// Puts one byte of an image in the place of another.
+/// Changes one byte of an image.
 fn damage(rt: &HostRuntime, image: &str, at: u64) -> Result<(), Fail> {
     let mut file: File = OpenOptions::new().write(true).open(rt, image)?;
     file.seek(SeekFrom::Start(at))?;

@@ -9,7 +9,7 @@ const MADE: [u8; 10] = [6, 0, 0, 0, 0, 0, 2, 0, 0, 0];
 
 const REMOVED: [u8; 10] = [6, 0, 0, 0, 0, 0, 3, 0, 0, 0];
 
-/// Images in memory, of which this one has a new volume.
+/// Images in memory, with a new volume on this one.
 fn formatted(rt: &HostRuntime, image: &str) -> Result<MemMedia, Fail> {
     let mut media = MemMedia::new(rt.alloc());
     let words = ["format", image, "DISC", "0", "3000"];

@@ -1,5 +1,5 @@
 //! Tests of the programs on words, streams, images and sockets. They are in a crate of their own, so that `programs` is
-//! proved once; they use what is public.
+//! proved once. They use only what is public.
 #![tactic(auto)]
 
 #[cfg(test)]

@@ -26,7 +26,7 @@ impl Read for Single<'_> {
     }
 }
 
-/// A reader that gives so many of its bytes at once.
+/// A reader that gives at most `size` of its bytes at once.
 #[derive(Drop)]
 struct Pieces<'a> {
     bytes: &'a [u8],
@@ -53,7 +53,7 @@ fn an_input_that_fails(rt: HostRuntime) -> Result<(), Fail> {
     Ok(())
 }
 
-/// Whether a command fails whose output has room for so many bytes, and has written them.
+/// Whether a command fails whose output has room for `left` bytes, and has written them.
 fn fails_after(rt: &HostRuntime, words: &[&str], input: &[u8], left: usize) -> bool {
     let mut reader = input;
     let mut errors = Vec::new(rt.alloc());
@@ -80,7 +80,7 @@ fn an_output_that_fails(rt: HostRuntime) -> Result<(), Fail> {
     formatted(&rt, image)?;
     for (words, input, left) in rows {
         assert!(rt; fails_after(&rt, words, input, left));
-        // The request was committed once, though its answer was not reported.
+        // The request was committed once, though its answer was not written.
         assert_eq!(rt; fs::read(&rt, image)?.len(), 267 * 2048);
     }
     fs::remove_file(&rt, image)?;
@@ -104,14 +104,15 @@ fn an_image_that_is_cut(rt: HostRuntime) -> Result<(), Fail> {
     Ok(())
 }
 
-/// Whether the volume is sound, and has no file.
+/// Whether the volume can be read, and has no file.
 fn has_lost_its_file(rt: &HostRuntime, image: &str) -> bool {
     let missing: &[u8] = b"udfburn: 96 NotFound\n";
     reports(rt, &["ls", image, "/"], b"", (0, b"", b""))
         && reports(rt, &["get", image, "/a"], b"", (1, b"", missing))
 }
 
-/// Whether the volume has its file, and this size, after the request came once and once more.
+/// Whether the volume has its file, and the image this size, after the request was sent once, and after it was sent
+/// again.
 fn gets_it_once(rt: &HostRuntime, image: &str, size: usize) -> Result<bool, Fail> {
     for _ in 0..2 {
         let is_done = reports(rt, &["apply", image], &CREATE, (0, &CREATED, b""));
@@ -122,7 +123,7 @@ fn gets_it_once(rt: &HostRuntime, image: &str, size: usize) -> Result<bool, Fail
     Ok(reports(rt, &["get", image, "/a"], b"", (0, b"hello", b"")))
 }
 
-/// Whether bytes that are sent in pieces come as they are, and so many frames end in them.
+/// Whether bytes that are sent in pieces arrive unchanged, and `count` frames end in them.
 fn has_frames(rt: &HostRuntime, bytes: &[u8], size: usize, count: u64) -> Result<bool, Fail> {
     let (mut near, mut far) = UnixStream::pair(rt)?;
     let sent = send_frames(rt.alloc(), &mut near, &mut Pieces { bytes, size })?;

@@ -19,8 +19,8 @@ use media::Media;
 use std::io::{Read, Write};
 use std::net::Net;
 
-/// Does what the words ask for, over media, from the input to the output. It answers the status, and says on
-/// `errors` why it was refused.
+/// Does what the words ask for, over media, from the input to the output. Returns the status, and reports on `errors`
+/// why it was refused.
 #[tactic(auto, using(crate::proofs::Statuses::asked, crate::proofs::Statuses::in_range, crate::proofs::Ending::ends))]
 pub fn command_on<M, R, I, O, E>(
     rt: &R,
@@ -36,17 +36,17 @@ where
     I: Read,
     O: Write,
     E: Write,
-    // The status is 2 exactly where the words are those of no command.
+    // The status is 2 exactly if the words are those of no command.
     ensures usage { (result ≡ 2) ↔ ((asked : _) → Asks (map (λ w. w.now) words.now) asked → ⊥) }
     ensures status { result ≤ 2 }
     ensures asks { result ≤ 1 → (asked : _) × Asks (map (λ w. w.now) words.now) asked }
-    // Why it was refused is all that is said.
+    // Nothing is reported except why it was refused.
     ensures reports { ReportsOutcome (codes "udfburn") result (E.contents errors.old) (E.contents errors.new) }
-    // Of other words nothing is read, nothing is written, and no image is changed.
+    // For other words nothing is read, nothing is written, and no image is changed.
     ensures unread { result ≡ 2 → I.remaining input.new ≡ I.remaining input.old }
     ensures unwritten { result ≡ 2 → O.contents output.new ≡ O.contents output.old }
     ensures untouched { result ≡ 2 → AreUntouched (images_on M.Media media.old) (images_on M.Media media.new) }
-    // A command that writes to no image leaves what is held, where the media are honest.
+    // On honest media, a command that writes to no image leaves what they hold as it was.
     ensures unchanged { (asked : _) → Asks (map (λ w. w.now) words.now) asked → IsReading (task_of asked) → IsTrue (M.honest media.new) → Same (M.held media.old) (M.held media.new) }
     // What they ask for was done, or refused.
     ensures does { (asked : _) → Asks (map (λ w. w.now) words.now) asked → Ends (task_of asked) result (images_on M.Media media.old) (images_on M.Media media.new) (I.remaining input.old) (I.remaining input.new) (O.contents output.old) (O.contents output.new) (E.contents errors.old) (E.contents errors.new) }

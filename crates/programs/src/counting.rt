@@ -5,11 +5,11 @@ ghost use Rattle.programs.specs.Counting.{IsCountOf};
 
 use request::PAYLOAD_BYTES;
 
-/// How many bytes have the length of a frame's payload.
+/// How many bytes the length of a frame's payload takes.
 const LENGTH_BYTES: usize = 4;
 
-/// Counts the frames that end in the bytes that it is given, in pieces of any size: those with a whole payload, and one whose
-/// length is above the limit, which is the last.
+/// Counts the frames that end in the bytes that it is given, in pieces of any size: those with a complete payload, and
+/// one whose length is above the limit, which is the last.
 #[derive(Drop)]
 pub(crate) struct FrameCount {
     length: [u8; LENGTH_BYTES],

@@ -24,14 +24,15 @@ use std::thread;
 use std::time::{Clock, Duration};
 use store::StoreFault;
 
-/// The name under which the daemon's lines are.
+/// The name at the beginning of the daemon's lines.
 const NAME: &str = "udfburnd";
 
-/// How long the daemon waits where it could not have a connection, in milliseconds.
+/// How long the daemon waits after it failed to accept a connection, in milliseconds.
 const PAUSE: u64 = 100;
 
-/// Serves an image of the media on a socket, one connection of a listener after another. It answers the status, and says on
-/// `errors` why it was refused and why a connection was left. The first of the words is the program's own name.
+/// Serves an image of the media on a socket, one connection of a listener after another. Returns the status, and
+/// reports on `errors` why it was refused and why a connection was left. The first of the words is the program's own
+/// name.
 pub fn daemon_on<M, L, R, E>(
     rt: &R,
     media: &mut M,
@@ -45,12 +46,12 @@ where
     R: Clock + AllocGlobal,
     E: Write,
     ensures status { result ≤ 2 }
-    // Where it ends by itself, its words are those of a daemon, and so many connections as they say were served on the image
+    // If it ends by itself, its words are those of a daemon. As many connections as they say were served on the image
     // that they name, one after another, as one run.
     ensures run { result ≡ 0 → OnAsked (map (λ w. w.now) words.now) (λ asked. ServesEach (unwrap_or asked.connections (2 ^ 64 - 1)) (heard_on L.Listener listener.old) (heard_on L.Listener listener.new)) (images_on M.Media media.old) (images_on M.Media media.new) }
-    // What it said then is why connections could not be had, or were left.
+    // It then reported only why connections could not be accepted, or were left.
     ensures described { result ≡ 0 → ReportsFaults (E.contents errors.old) (E.contents errors.new) }
-    // Where it was refused, it said why, and nothing else, and asked for no connection.
+    // If it was refused, it reported why, and nothing else, and asked for no connection.
     ensures reports { 1 ≤ result → ReportsRefusal (map (λ w. w.now) words.now) result (images_on M.Media media.old) (images_on M.Media media.new) (E.contents errors.old) (E.contents errors.new) }
     ensures unheard { 1 ≤ result → heard_on L.Listener listener.new ≡ heard_on L.Listener listener.old }
 {
@@ -58,7 +59,7 @@ where
     report(NAME, outcome, errors)
 }
 
-/// Serves what the words say, if they are those of a daemon.
+/// Serves what the words name, if they are those of a daemon.
 fn serve_words<M, L, R, E>(
     rt: &R,
     media: &mut M,
@@ -83,8 +84,8 @@ where
     }
 }
 
-/// Serves connections on an image, until as many came as the words say. The image comes first: where the socket cannot be had,
-/// it was opened, and nothing was done to it.
+/// Serves as many connections on an image as the words say. The image is opened before the socket: if the socket fails,
+/// nothing was done to the image.
 fn serve_image<M, L, R, E>(
     rt: &R,
     media: &mut M,
@@ -108,7 +109,7 @@ where
     served
 }
 
-/// Serves connections on a drive, if the socket can be had.
+/// Serves connections on a drive. `Socket` if it cannot listen there.
 fn serve_all<L, R, D, E>(
     rt: &R,
     listener: &mut L,
@@ -145,7 +146,7 @@ fn listen<L: Listener>(listener: &mut L, socket: &str) -> Result<(), Fault>
     }
 }
 
-/// Serves so many connections, each from where the one before it left the engine and the drive.
+/// Serves this many connections, each from where the one before it left the engine and the drive.
 fn serve_each<L, R, D, E>(rt: &R, listener: &mut L, drive: &mut D, connections: u64, errors: &mut E)
 where
     L: Listener,
@@ -162,21 +163,21 @@ where
     while left > 0 && tries < u64::MAX {
         tries += 1;
         let Ok((input, output)) = listener.accept(rt.alloc()) else {
-            // It goes on failing while descriptors are short, so it is reported once, and waited out.
+            // Accepting keeps failing while descriptors are short. So it is reported once, and the daemon waits.
             tell_once(is_told, errors);
             is_told = true;
             thread::sleep(rt, Duration::from_millis(PAUSE));
             continue;
         };
         let served = serve_one(rt.alloc(), listener, input, output, &mut engine, drive);
-        // Keep serving: `report` has already said all that there is to say of this fault.
+        // The fault of one connection does not end the daemon, so the status is ignored.
         report(NAME, served, errors);
         left -= 1;
         is_told = false;
     }
 }
 
-/// Says that a connection could not be had, where that is not reported already.
+/// Reports that a connection could not be accepted, unless that is reported already.
 fn tell_once<E: Write>(is_told: bool, errors: &mut E)
     ensures { ReportsFaults (E.contents errors.old) (E.contents errors.new) }
 {
@@ -186,8 +187,8 @@ fn tell_once<E: Write>(is_told: bool, errors: &mut E)
     report(NAME, Err(Fault::Socket), errors);
 }
 
-/// Answers the messages of a connection that was just given, and ends it. A client that neither sends a byte nor takes one for
-/// a minute is left, so that it keeps nobody waiting.
+/// Answers the messages of a connection that was just accepted, and ends it. A client that neither sends nor takes a
+/// byte for a minute is left, so that it keeps nobody waiting.
 pub fn serve_one<L: Listener, D: Drive>(
     alloc: Global,
     listener: &mut L,
@@ -201,10 +202,10 @@ pub fn serve_one<L: Listener, D: Drive>(
     ensures lent { ReadsAndWrites D.Drive 0 drive.old drive.new }
     // Messages were answered, and nothing else was done.
     ensures goes { ServesMessages (seen_on D.Drive engine.old drive.old) (seen_on D.Drive engine.new drive.new) }
-    // Or nothing was, by the fault that it is left with.
+    // Or nothing was done, as the fault shows.
     ensures left { IfErr result (λ fault. LeavesConnection fault (seen_on D.Drive engine.old drive.old) (seen_on D.Drive engine.new drive.new)) }
     ensures refusal { IfErr result IsRefusal }
-    // Where the bytes are known, they determine which messages, and what was written of the answers.
+    // If the bytes are known, they determine which messages were answered, and what was written of the answers.
     ensures ends { IsBlank (L.Output.contents output) → EndsOne result (L.Input.remaining input) (heard_on L.Listener listener.old) (heard_on L.Listener listener.new) (seen_on D.Drive engine.old drive.old) (seen_on D.Drive engine.new drive.new) }
 {
     if listener.limit(&input).is_err() {
@@ -222,8 +223,8 @@ pub fn serve_one<L: Listener, D: Drive>(
     }
 }
 
-/// Answers the messages of the input on an output that is written many bytes at a time. It answers how that ended and the
-/// output, but for one that was let go for lack of memory.
+/// Answers the messages of the input on an output, through a buffer. Returns how that ended, and the output, or `None`
+/// if it was dropped for lack of memory.
 fn serve_stream<I, O, D>(
     alloc: Global,
     input: &mut I,
@@ -240,12 +241,12 @@ where
     ensures lent { ReadsAndWrites D.Drive 0 drive.old drive.new }
     ensures goes { ServesMessages (seen_on D.Drive engine.old drive.old) (seen_on D.Drive engine.new drive.new) }
     ensures refusal { IfErr result.0 IsRefusal }
-    // Where it ended well, all messages of the input were answered, and each answer is written.
+    // If it ended well, all messages of the input were answered, and each answer is written.
     ensures all { OnOk result.0 (IsSomeAnd result.1 (λ written. ServesAll (seen_on D.Drive engine.old drive.old) (seen_on D.Drive engine.new drive.new) (I.remaining input.old) (I.remaining input.new) (O.contents output) (O.contents written))) }
-    // Else the first of them were, as far as the fault says, and a prefix of their answers is written.
+    // Otherwise the first of them were answered, as far as the fault says, and a prefix of their answers is written.
     ensures front { IfErr result.0 (λ fault. IfSome result.1 (λ written. LeavesStream fault (seen_on D.Drive engine.old drive.old) (seen_on D.Drive engine.new drive.new) (I.remaining input.old) (I.remaining input.new) (O.contents output) (O.contents written))) }
     ensures left { IfErr result.0 (λ fault. LeavesConnection fault (seen_on D.Drive engine.old drive.old) (seen_on D.Drive engine.new drive.new)) }
-    // Where the output was let go nothing was done.
+    // If the output was dropped, nothing was done.
     ensures let_go { IfNone result.1 (LetsGo result.0 (seen_on D.Drive engine.old drive.old) (seen_on D.Drive engine.new drive.new)) }
     ensures unread { IfNone result.1 (I.remaining input.new ≡ I.remaining input.old) }
 {
@@ -260,7 +261,7 @@ where
             Ok(()) => (Ok(()), Some(output)),
             Err(fault) => (Err(Fault::Stream(fault)), Some(output)),
         },
-        // What waits would wait once more for who takes nothing.
+        // The client takes nothing: writing the rest would wait for it once more.
         Err(ServeFault::Write) => (Err(Fault::Stream(ServeFault::Write)), Some(output)),
         Err(fault) => {
             let _ = put_all(&mut output, &rest);

@@ -1,4 +1,4 @@
-//! Why a program ended without what it was asked for, and how it says so.
+//! Why a program did not do what it was asked for, and how it reports that.
 
 ghost use Rattle.std.specs.Prelude.{◌≡◌, OnOk, OnErr};
 ghost use Rattle.std.specs.Io.KnownBytes.{Appends};
@@ -26,16 +26,16 @@ const REFUSED: u8 = 1;
 /// The status of a program whose words are not those of a command.
 const USAGE: u8 = 2;
 
-/// Why a program ended without what it was asked for. It is shown as its number and its name.
+/// Why a program did not do what it was asked for. It is shown as its number and its name.
 #[derive(Clone, Copy, Debug, PartialEq, Eq)]
 pub enum Fault {
     /// The words are not those of a command.
     Usage,
     /// The text is no path.
     Path,
-    /// The socket cannot be had.
+    /// The socket cannot be reached or listened on, or a connection could not be accepted or limited.
     Socket,
-    /// The volume or its drive.
+    /// A call on the volume or its drive was refused.
     Store(StoreFault),
     /// A stream was left before its end.
     Stream(ServeFault),
@@ -45,7 +45,7 @@ impl Fault {
     ghost use Rattle.std.specs.Prelude.{◌≡◌};
     ghost use Rattle.programs.specs.FaultLines.{fault_damage, fault_name};
 
-    /// The number and the name under which it is said.
+    /// The number and the name under which it is shown.
     fn name(self) -> &'static str
         ensures { result.now ≡ fault_name self }
     {
@@ -138,8 +138,8 @@ impl From<WordsFault> for Fault {
     }
 }
 
-/// The status of a program with this name, which says on `errors` why it was refused. That `errors` takes no more is not
-/// reported.
+/// Reports on `errors` why the program of this name was refused, and returns its status. A failure to write to `errors`
+/// is ignored.
 pub fn report<E: Write>(name: &str, outcome: Result<(), Fault>, errors: &mut E) -> u8
     ensures status { result ≡ status_of outcome }
     ensures describes { Reports name.now outcome (E.contents errors.old) (E.contents errors.new) }
@@ -156,7 +156,7 @@ pub fn report<E: Write>(name: &str, outcome: Result<(), Fault>, errors: &mut E) 
     }
 }
 
-/// Says a fault in a line.
+/// Writes the line of a fault.
 fn say<E: Write>(name: &str, fault: Fault, errors: &mut E) -> Result<(), ServeFault>
     ensures ok { OnOk result (Appends (E.contents errors.old) (E.contents errors.new) (fault_line name.now fault)) }
     ensures err { OnErr result (PutsPrefix (E.contents errors.old) (E.contents errors.new) (fault_line name.now fault)) }
@@ -168,7 +168,7 @@ fn say<E: Write>(name: &str, fault: Fault, errors: &mut E) -> Result<(), ServeFa
     put_all(errors, b"\n")
 }
 
-/// Says what is damaged, and how.
+/// Writes what is damaged, and how.
 fn say_damage<E: Write>(damage: Option<(u32, u8)>, errors: &mut E) -> Result<(), ServeFault>
     ensures ok { OnOk result (Appends (E.contents errors.old) (E.contents errors.new) (damage_text damage)) }
     ensures err { OnErr result (PutsPrefix (E.contents errors.old) (E.contents errors.new) (damage_text damage)) }

@@ -1,4 +1,4 @@
-//! The images of the media on which volumes lie.
+//! The images of the media, on which the volumes are.
 
 ghost use Rattle.limits.specs.declared.TheConstants.{GREATEST_CAPACITY};
 ghost use Rattle.std.specs.Prelude.{◌≡◌, IfErr, IfOk, IsTrue, OnErr, OnOk};
@@ -35,7 +35,7 @@ pub(crate) fn read_image<M: Media>(media: &mut M, path: &str) -> Result<M::Drive
     }
 }
 
-/// Takes out the image at this path, to write it, of at most so many blocks, which is made where it is missing.
+/// Takes out the image at this path, of at most `capacity` blocks, to write it. If it is missing, it is made.
 pub(crate) fn create_image<M: Media>(
     media: &mut M,
     path: &str,

@@ -3,13 +3,13 @@
 ghost use Rattle.programs.specs.Counting.{FramesAreMessages};
 ghost use Rattle.programs.specs.Processes.{ProcessesAreRuns};
 
-/// A stream has as many frames as what serves it takes messages of it, and so gives answers.
+/// A stream has as many frames as it has messages when it is served, and so as many as there are answers.
 pub fn frames_are_messages()
     ensures { FramesAreMessages }
 {}
 
-/// Any commands and daemons of any processes, one after another over the same media, are runs on each image: each begins on
-/// what the one before it left, and the state after all that they committed is in the end.
+/// Any commands and daemons of any processes, one after another over the same media, are runs on each image. Each
+/// begins on what the one before it left. At the end each image has the state after all that they committed.
 pub fn processes_are_runs()
     ensures { ProcessesAreRuns }
 {}

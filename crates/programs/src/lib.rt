@@ -1,7 +1,8 @@
 //! What the two programs do with their words, streams and files.
 //!
-//! `command_on` is the program `udfburn` and `daemon_on` is `udfburnd`, but for the process itself: each is given its words, its
-//! streams and the media on which its images are, and answers a status. Statuses and lines are those of docs/OPERATIONS.md.
+//! `command_on` is the program `udfburn`, and `daemon_on` is `udfburnd`, without the process itself. Each is given its
+//! words, its streams and the media on which its images are, and returns a status. Statuses and lines are those of
+//! docs/OPERATIONS.md.
 //! What a volume holds and how it changes is left to the crates below.
 #![tactic(auto)]
 

@@ -12,7 +12,7 @@ use std::alloc::{AllocError, Global};
 use std::io::Write;
 use store::Commit;
 
-/// Names, each in a line after a letter that says its kind.
+/// Names, each on a line of its own, after a letter for its kind.
 pub(crate) fn name_lines(alloc: Global, names: &[Listed]) -> Result<String, AllocError>
     ensures { IfOk result (λ text. string_bytes text ≡ names_text (said_names names.now)) }
 {
@@ -34,8 +34,8 @@ fn push_name(text: &mut String, listed: &Listed) -> Result<(), AllocError>
     writeln!(text, "{letter} {name}")
 }
 
-/// Commits, each in a line: its number, the address of its VAT ICB, and how many files and directories the tree had
-/// after it.
+/// Commits, each on a line of its own: its number, the address of its VAT ICB, and how many files and directories the
+/// tree had after it.
 pub(crate) fn commit_lines(alloc: Global, commits: &[Commit]) -> Result<String, AllocError>
     ensures { IfOk result (λ text. string_bytes text ≡ commits_text commits.now) }
 {
@@ -58,14 +58,14 @@ fn push_commit(text: &mut String, told: Commit) -> Result<(), AllocError>
     writeln!(text, "{commit} {at} {files} {directories}")
 }
 
-/// How many commits there are, where all is sound.
+/// The line for a sound volume, with its count of commits.
 pub(crate) fn sound_line(alloc: Global, commits: u32) -> Result<String, AllocError>
     ensures { IfOk result (λ text. string_bytes text ≡ sound_text commits) }
 {
     format!(in alloc; "sound {commits}\n")
 }
 
-/// Writes the bytes, and all that waits in a buffer.
+/// Writes the bytes, and flushes the output.
 pub(crate) fn put<O: Write>(output: &mut O, bytes: &[u8]) -> Result<(), Fault>
     ensures refusal { IfErr result IsRefusal }
     ensures puts { PutsBytes result (O.contents output.old) (O.contents output.new) bytes.now }

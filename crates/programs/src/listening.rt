@@ -7,27 +7,27 @@ ghost use Rattle.programs.specs.Outputs.{IsBlank, known};
 use std::alloc::Global;
 use std::io::{Read, Write};
 
-/// A connection, or the place at which clients connect, cannot be had.
+/// A connection could not be accepted, or the place at which clients connect could not be made.
 #[derive(Clone, Copy, Debug, PartialEq, Eq)]
 pub struct NoConnection;
 
 /// A place at which clients connect, one after another.
 pub trait Listener {
-    /// What a client sends.
+    /// The half of a connection from which the client's bytes are read.
     type Input: Read + Drop;
-    /// What it is answered on.
+    /// The half on which the client is answered.
     type Output: Write + Drop;
 
-    /// What the clients of its connections send, in order, each where its bytes are known.
+    /// What the clients of its connections send, in order, as far as their bytes are known.
     ghost given: { Self → List (Option (List ℕ)) };
 
-    /// What was written on the connections that were ended, in order, where the bytes are known.
+    /// What was written on the connections that were ended, in order, as far as the bytes are known.
     ghost ended: { Self → List (List ℕ) };
 
     /// How many times it had no connection to give. It stops at 2^64 - 1.
     ghost missed: { Self → ℕ };
 
-    /// Listens at this path, where nothing may be yet.
+    /// Listens at this path. Nothing may be there yet.
     fn listen(&mut self, path: &str) -> Result<(), NoConnection>
         ensures given { given self.new ≡ given self.old }
         ensures ended { ended self.new ≡ ended self.old }
@@ -42,10 +42,10 @@ pub trait Listener {
         ensures missed { OnErr result (missed self.new ≡ counted true (missed self.old)) }
         ensures ended { ended self.new ≡ ended self.old };
 
-    /// Has a connection given up whose client neither sends nor takes a byte for a minute.
+    /// Sets the limit of a connection: it fails once its client has neither sent nor taken a byte for a minute.
     fn limit(&self, input: &Self::Input) -> Result<(), NoConnection>;
 
-    /// Ends a connection on which this is the output.
+    /// Ends the connection of this output.
     fn end(&mut self, output: Self::Output)
         ensures ended { ended self.new ≡ ended self.old ++ known (Self.Output.contents output) }
         ensures given { given self.new ≡ given self.old }

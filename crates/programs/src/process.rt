@@ -24,10 +24,11 @@ use std::os::fd::{AsRawFd, IntoRawFd};
 use std::time::Clock;
 use store::StoreFault;
 
-/// The name under which the lines of `udfburn` are.
+/// The name at the beginning of the lines of `udfburn`.
 const COMMAND_NAME: &str = "udfburn";
 
-/// `udfburn` on the words of the process and these streams. It answers the status, and the output where that was not let go.
+/// Runs `udfburn` on the words of the process and these streams. Returns the status, and the output, or `None` if it
+/// was dropped for lack of memory.
 #[tactic(auto, using(crate::proofs::Telling::refused_not))]
 pub fn run_command<M, R, I, O, E>(
     rt: &R,
@@ -43,15 +44,15 @@ where
     O: Write + Drop,
     E: Write,
     ensures reports { ReportsOutcome (codes "udfburn") result.0 (E.contents errors.old) (E.contents errors.new) }
-    // At status 0 there are words of a command, and all is written that was done of what they ask for.
+    // At status 0 the words are those of a command, and the whole output of what was done is written.
     ensures done { result.0 ≡ 0 → IsSomeAnd result.1 (λ written. IsWhollyDone (images_on M.Media media.old) (images_on M.Media media.new) (I.remaining input.old) (I.remaining input.new) (O.contents output) (O.contents written) (E.contents errors.old) (E.contents errors.new)) }
-    // At status 1 there are such words too where the output was not let go, and a prefix is written.
+    // At status 1 they are too, unless the output was dropped, and a prefix is written.
     ensures begun { result.0 ≤ 1 → IfSome result.1 (λ written. IsPartlyDone result.0 (images_on M.Media media.old) (images_on M.Media media.new) (I.remaining input.old) (I.remaining input.new) (O.contents output) (O.contents written) (E.contents errors.old) (E.contents errors.new)) }
-    // Of other words nothing is read, and nothing is written.
+    // For other words nothing is read and nothing is written.
     ensures unread { result.0 ≡ 2 → I.remaining input.new ≡ I.remaining input.old }
     ensures unwritten { result.0 ≡ 2 → IfSome result.1 (λ written. IsPrefixOf (O.contents output) (O.contents written)) }
     ensures untouched { result.0 ≡ 2 → AreUntouched (images_on M.Media media.old) (images_on M.Media media.new) }
-    // Where the output was let go nothing was read and no image changed, and it says why nothing was begun.
+    // If the output was dropped, nothing was read, no image changed, and it reports why nothing was begun.
     ensures let_go { IfNone result.1 (I.remaining input.new ≡ I.remaining input.old) }
     ensures left { IfNone result.1 (AreUntouched (images_on M.Media media.old) (images_on M.Media media.new)) }
     ensures early { IfNone result.1 (ReportsEarly (codes "udfburn") result.0 (E.contents errors.old) (E.contents errors.new)) }
@@ -62,7 +63,7 @@ where
     }
 }
 
-/// `udfburnd` on the words of the process. It answers the status.
+/// Runs `udfburnd` on the words of the process. Returns the status.
 #[tactic(auto, using(crate::proofs::Telling::refused_not))]
 pub fn run_daemon<M, L, R, E>(rt: &R, media: &mut M, listener: &mut L, errors: &mut E) -> u8
 where
@@ -71,12 +72,12 @@ where
     R: Files<File = File> + Clock + Env + AllocGlobal,
     E: Write,
     ensures status { result ≤ 2 }
-    // Where it ends by itself, there are words of a daemon, and as many connections as they say were served on the image that
-    // they name, as one run.
+    // If it ends by itself, the words are those of a daemon. As many connections as they say were served on the image
+    // that they name, as one run.
     ensures run { result ≡ 0 → (words : _) × OnAsked words (λ asked. ServesEach (unwrap_or asked.connections (2 ^ 64 - 1)) (heard_on L.Listener listener.old) (heard_on L.Listener listener.new)) (images_on M.Media media.old) (images_on M.Media media.new) }
-    // What it said then is why connections could not be had, or were left.
+    // It then reported only why connections could not be accepted, or were left.
     ensures described { result ≡ 0 → ReportsFaults (E.contents errors.old) (E.contents errors.new) }
-    // Where it was refused, it said why, and nothing else, and asked for no connection.
+    // If it was refused, it reported why, and nothing else, and asked for no connection.
     ensures unheard { 1 ≤ result → heard_on L.Listener listener.new ≡ heard_on L.Listener listener.old }
     ensures reports { 1 ≤ result → IsDaemonReported result (images_on M.Media media.old) (images_on M.Media media.new) (E.contents errors.old) (E.contents errors.new) }
 {
@@ -119,8 +120,8 @@ where
     Ok(gathered(rt, media, after_program_name(&texts), input, output, errors))
 }
 
-/// `command_on` with an output that is written many bytes at a time. What waits in the end is written then. It answers the status
-/// and the output, but for one that was let go for lack of memory.
+/// `command_on` with a buffer before the output, whose rest is written at the end. Returns the status, and the output,
+/// or `None` if it was dropped for lack of memory.
 fn gathered<M, R, I, O, E>(
     rt: &R,
     media: &mut M,
@@ -138,13 +139,13 @@ where
     ensures reports { ReportsOutcome (codes "udfburn") result.0 (E.contents errors.old) (E.contents errors.new) }
     ensures asks { result.0 ≤ 1 → IfSome result.1 (λ _. (asked : _) × Asks (map (λ w. w.now) words.now) asked) }
     ensures kept { result.0 ≡ 0 → IsSomeAnd result.1 (λ _. (asked : _) × Asks (map (λ w. w.now) words.now) asked) }
-    // At status 0 all is written that was done, and else a prefix of it.
+    // At status 0 the whole output is written, and otherwise a prefix of it.
     ensures all { (asked : _) → Asks (map (λ w. w.now) words.now) asked → result.0 ≡ 0 → IsSomeAnd result.1 (λ written. Ends (task_of asked) 0 (images_on M.Media media.old) (images_on M.Media media.new) (I.remaining input.old) (I.remaining input.new) (O.contents output) (O.contents written) (E.contents errors.old) (E.contents errors.new)) }
-    // Of other words nothing is read, and nothing is written.
+    // For other words nothing is read and nothing is written.
     ensures unread { result.0 ≡ 2 → I.remaining input.new ≡ I.remaining input.old }
     ensures unwritten { result.0 ≡ 2 → IfSome result.1 (λ written. IsPrefixOf (O.contents output) (O.contents written)) }
     ensures untouched { result.0 ≡ 2 → AreUntouched (images_on M.Media media.old) (images_on M.Media media.new) }
-    // Where the output was let go nothing is read and no image changed, since memory is short.
+    // If the output was dropped, nothing is read and no image changed, since memory is short.
     ensures let_go { IfNone result.1 (I.remaining input.new ≡ I.remaining input.old) }
     ensures left { IfNone result.1 (AreUntouched (images_on M.Media media.old) (images_on M.Media media.new)) }
     ensures early { IfNone result.1 (ReportsEarly (codes "udfburn") result.0 (E.contents errors.old) (E.contents errors.new)) }
@@ -161,7 +162,7 @@ where
     let (mut output, rest) = writer.into_parts();
     match put_all(&mut output, &rest) {
         Ok(()) => (status, Some(output)),
-        // Why is reported already.
+        // The reason is reported already.
         Err(_) if status > 0 => (status, Some(output)),
         Err(fault) => {
             let refused = Err(Fault::Stream(fault));
@@ -197,8 +198,8 @@ where
     Ok(daemon_on(rt, media, listener, &texts, errors))
 }
 
-/// Puts a descriptor of the root folder in the place of each standard stream that is closed. So no file that is opened later
-/// gets its number, and is read or written in its place: to read or to write a folder fails, as it does on what is closed.
+/// Opens the root folder under the number of each standard stream that is closed. So no file that is opened later gets
+/// that number and is read or written by mistake: reading or writing a folder fails, as on a closed descriptor.
 fn hold_standard_streams<R: Files<File = File>>(rt: &R) -> Result<(), Fault>
     ensures { IfErr result IsEarly }
 {
@@ -216,7 +217,7 @@ fn hold_standard_streams<R: Files<File = File>>(rt: &R) -> Result<(), Fault>
     Ok(())
 }
 
-/// The words of the process, of which the first is its name. Words that are no text are not those of a command.
+/// The words of the process, of which the first is its name. `Usage` if one is not UTF-8.
 fn own_words<R: Env + AllocGlobal>(rt: &R) -> Result<Vec<String>, Fault>
     ensures { IfErr result IsEarly }
 {

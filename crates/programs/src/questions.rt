@@ -1,4 +1,4 @@
-//! What is printed of the volume on an image. Nothing is written to it.
+//! What is printed about the volume on an image. Nothing is written to the image.
 
 ghost use Rattle.std.specs.Prelude.{◌≡◌, IfErr, IsTrue};
 ghost use Rattle.programs.specs.Images.{images_on};
@@ -16,7 +16,7 @@ use std::alloc::Global;
 use std::io::Write;
 use store::{Store, check_volume};
 
-/// The names in a directory of the volume on an image.
+/// Prints the names in a directory of the volume on an image.
 pub(crate) fn list_image<M: Media, O: Write>(
     alloc: Global,
     media: &mut M,
@@ -34,7 +34,7 @@ pub(crate) fn list_image<M: Media, O: Write>(
     shown
 }
 
-/// The bytes of a file of the volume on an image.
+/// Prints the bytes of a file of the volume on an image.
 pub(crate) fn get_image<M: Media, O: Write>(
     alloc: Global,
     media: &mut M,
@@ -52,7 +52,7 @@ pub(crate) fn get_image<M: Media, O: Write>(
     shown
 }
 
-/// The commits of the volume on an image.
+/// Prints the commits of the volume on an image.
 pub(crate) fn log_image<M: Media, O: Write>(
     alloc: Global,
     media: &mut M,
@@ -68,7 +68,7 @@ pub(crate) fn log_image<M: Media, O: Write>(
     shown
 }
 
-/// Whether the state after each commit is recovered, on an image.
+/// Checks that the state after each commit on an image is recovered, and prints how many commits there are.
 pub(crate) fn check_image<M: Media, O: Write>(
     alloc: Global,
     media: &mut M,
@@ -84,7 +84,7 @@ pub(crate) fn check_image<M: Media, O: Write>(
     shown
 }
 
-/// The names in a directory, each in a line after a letter that says its kind.
+/// Prints the names in a directory, each on a line of its own, after a letter for its kind.
 fn list<D: Drive, O: Write>(
     alloc: Global,
     drive: &mut D,
@@ -103,7 +103,7 @@ fn list<D: Drive, O: Write>(
     put(output, lines.as_bytes())
 }
 
-/// The bytes of a file.
+/// Prints the bytes of a file.
 fn get<D: Drive, O: Write>(
     alloc: Global,
     drive: &mut D,
@@ -121,8 +121,8 @@ fn get<D: Drive, O: Write>(
     put(output, data.as_slice())
 }
 
-/// The commits, the newest first, each in a line: its number, the address of its VAT ICB, and how many files and
-/// directories the tree had after it.
+/// Prints the commits, the newest first, each on a line of its own: its number, the address of its VAT ICB, and how
+/// many files and directories the tree had after it.
 fn log<D: Drive, O: Write>(alloc: Global, drive: &mut D, output: &mut O) -> Result<(), Fault>
     ensures refusal { IfErr result IsRefusal }
     ensures prints { PrintsAnswer Commits result (D.capacity drive.old) (D.journal drive.old) (D.honest drive.new) (O.contents output.old) (O.contents output.new) }
@@ -136,7 +136,7 @@ fn log<D: Drive, O: Write>(alloc: Global, drive: &mut D, output: &mut O) -> Resu
     put(output, lines.as_bytes())
 }
 
-/// How many commits there are, where the state after each of them is recovered.
+/// Checks that the state after each commit is recovered, and prints how many commits there are.
 fn check<D: Drive, O: Write>(alloc: Global, drive: &mut D, output: &mut O) -> Result<(), Fault>
     ensures refusal { IfErr result IsRefusal }
     ensures prints { PrintsAnswer Soundness result (D.capacity drive.old) (D.journal drive.old) (D.honest drive.new) (O.contents output.old) (O.contents output.new) }

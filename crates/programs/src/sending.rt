@@ -16,8 +16,8 @@ use store::StoreFault;
 /// How many bytes are copied at once.
 const PIECE_BYTES: usize = 65_536;
 
-/// Sends the input to the daemon at this socket, and copies its answers to the output. Each frame gets an answer: where fewer
-/// came back, the stream was left before its end.
+/// Sends the input to the daemon at this socket, and copies its answers to the output. Each frame gets an answer: if
+/// fewer come back, the daemon left the stream before its end, and the fault is `91 Read`.
 pub(crate) fn send<R: Net + AllocGlobal, I: Read, O: Write>(
     rt: &R,
     socket: &str,
@@ -32,12 +32,12 @@ pub(crate) fn send<R: Net + AllocGlobal, I: Read, O: Write>(
         Err(_) => return Err(Fault::Socket),
     };
     let sent = send_frames(rt.alloc(), &mut stream, input);
-    // What was sent is answered also where the rest was not.
+    // What was sent is answered, even if the rest was not sent.
     let answered = copy_answers(rt.alloc(), &mut stream, output)?;
     want_answers(sent?, answered)
 }
 
-/// Each frame has an answer, or the stream was left before its end.
+/// The fault `91 Read` if there are fewer answers than frames.
 fn want_answers(frames: u64, answers: u64) -> Result<(), Fault>
     ensures ok { OnOk result (frames ≤ answers) }
     ensures err { IfErr result (λ fault. (fault ≡ Fault.Stream ServeFault.Read) × (answers < frames)) }
@@ -48,8 +48,8 @@ fn want_answers(frames: u64, answers: u64) -> Result<(), Fault>
     Ok(())
 }
 
-/// Sends what the reader has, and ends the sending half of the stream. It answers how many frames ended in what was sent, up
-/// to one that is too long.
+/// Sends what the reader has, and ends the sending half of the stream. Returns how many frames ended in what was sent,
+/// up to one that is too long.
 pub fn send_frames<I: Read>(
     alloc: Global,
     stream: &mut UnixStream,
@@ -57,7 +57,7 @@ pub fn send_frames<I: Read>(
 ) -> Result<u64, Fault>
     ensures refusal { IfErr result IsRefusal }
     ensures all { IfOk result (λ count. CopiesFrames count (I.remaining reader.old) (I.remaining reader.new) (⟦<UnixStream as Write>⟧.contents stream.old) (⟦<UnixStream as Write>⟧.contents stream.new)) }
-    // Which fault it is shows how far that went.
+    // The fault shows how far that went.
     ensures until { IfErr result (λ fault. SendsUntil fault (I.remaining reader.old) (I.remaining reader.new) (⟦<UnixStream as Write>⟧.contents stream.old) (⟦<UnixStream as Write>⟧.contents stream.new)) }
 {
     let copied = copy(alloc, reader, stream);
@@ -69,7 +69,7 @@ pub fn send_frames<I: Read>(
     }
 }
 
-/// Copies what comes back, up to the end of the stream. It answers how many answers came whole.
+/// Copies what comes back, up to the end of the stream. Returns how many answers came whole.
 pub fn copy_answers<O: Write>(
     alloc: Global,
     stream: &mut UnixStream,
@@ -82,7 +82,7 @@ pub fn copy_answers<O: Write>(
     copy(alloc, stream, writer)
 }
 
-/// Copies what the reader has, in pieces. It answers how many frames ended in it.
+/// Copies what the reader has, in pieces. Returns how many frames ended in it.
 fn copy<I: Read, O: Write>(alloc: Global, reader: &mut I, writer: &mut O) -> Result<u64, Fault>
     ensures refusal { IfErr result IsRefusal }
     ensures ok { IfOk result (λ count. CopiesFrames count (I.remaining reader.old) (I.remaining reader.new) (O.contents writer.old) (O.contents writer.new)) }

@@ -17,7 +17,7 @@ const PATIENCE: u64 = 60;
 /// How many bytes of an answer are given to a socket at once.
 const PIECE_BYTES: usize = 8192;
 
-/// A socket of the system, at most one.
+/// The connections of one Unix socket, once it listens.
 #[derive(Drop)]
 pub struct Sockets<'a, R: Files<File = File> + Net> {
     rt: &'a R,
@@ -27,7 +27,7 @@ pub struct Sockets<'a, R: Files<File = File> + Net> {
 }
 
 impl<'a, R: Files<File = File> + Net> Sockets<'a, R> {
-    /// One that does not listen yet.
+    /// A socket that does not listen yet.
     pub fn new(rt: &'a R) -> Sockets<'a, R> {
         Sockets {
             rt,
@@ -37,7 +37,7 @@ impl<'a, R: Files<File = File> + Net> Sockets<'a, R> {
         }
     }
 
-    /// The next connection, and the number of connections with it.
+    /// The next connection, and how many connections there are with it.
     fn next(&self, alloc: Global) -> Option<(u64, Incoming, Pieces<Outgoing>)>
         ensures { IfSome result (λ next. next.0 ≡ self.now.given + 1) }
     {
@@ -63,7 +63,7 @@ impl<'a, R: Files<File = File> + Net> Listener for Sockets<'a, R> {
 
     ghost missed = { λ s. s.missed };
 
-    // No path is an address that no client could name.
+    // With an empty path the socket would get an address that no client can name.
     fn listen(&mut self, path: &str) -> Result<(), NoConnection> {
         if path.is_empty() {
             return Err(NoConnection);
@@ -102,13 +102,14 @@ impl<'a, R: Files<File = File> + Net> Listener for Sockets<'a, R> {
         stream.set_write_timeout(patience).map_err(|_| NoConnection)
     }
 
-    // Its stream is closed with the last half of it.
+    // The stream is closed when the last of its halves is dropped.
     fn end(&mut self, output: Pieces<Outgoing>) {
         drop(output);
     }
 }
 
-/// The reading half of a connection. Without memory for what both halves share, the connection is closed and they fail.
+/// The reading half of a connection. If there was no memory for what both halves share, the connection is closed, and
+/// every read fails.
 #[derive(Drop)]
 pub struct Incoming(Option<Rc<UnixStream>>);
 
@@ -122,7 +123,7 @@ impl Read for Incoming {
     }
 }
 
-/// The writing half.
+/// The writing half of a connection. If there was no memory for what both halves share, every write fails.
 #[derive(Drop)]
 pub struct Outgoing(Option<Rc<UnixStream>>);
 
@@ -140,8 +141,8 @@ impl Write for Outgoing {
     }
 }
 
-/// An output that is written a piece at a time. A socket takes a piece whole or not at all, so that no call waits behind a
-/// part that was taken.
+/// An output that is written a piece at a time. A socket takes a piece whole or not at all, so no call waits after a
+/// part of its bytes was taken.
 #[derive(Drop)]
 pub struct Pieces<W: Write + Drop>(W);
 

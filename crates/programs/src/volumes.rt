@@ -20,8 +20,8 @@ use std::alloc::Global;
 use std::io::Write;
 use store::{StoreFault, format};
 
-/// Makes a volume on an image, which is made where it is missing, or finishes one that the same words began. Then it says
-/// so.
+/// Makes a volume on an image, or finishes one that a format with the same words began. A missing image is made. Prints
+/// `formatted`.
 pub(crate) fn format_image<M: Media, O: Write>(
     alloc: Global,
     media: &mut M,
@@ -41,7 +41,8 @@ pub(crate) fn format_image<M: Media, O: Write>(
     made
 }
 
-/// Makes a volume on the drive of the image at this path, where no other bytes are left after its last whole block.
+/// Makes a volume on the drive of the image at this path, or finishes one. It is refused if the bytes after its last
+/// whole block do not begin the next one.
 fn make_or_finish<M: Media, O: Write>(
     alloc: Global,
     media: &mut M,
@@ -61,7 +62,7 @@ fn make_or_finish<M: Media, O: Write>(
     make(alloc, drive, label, moment, output)
 }
 
-/// Makes a volume on a drive, and says so.
+/// Makes a volume on a drive, and prints `formatted`.
 fn make<D: Drive, O: Write>(
     alloc: Global,
     drive: &mut D,

@@ -3,20 +3,20 @@
 use crate::places::grow;
 use std::alloc::Global;
 
-/// A file as it was found under a name. What is in a block stays, so that it is the same file for every table that
-/// leads to that block.
+/// A file as it was found under a name. A block never changes, so it is the same file for every table that leads to
+/// that block.
 #[derive(Clone, Copy, Debug)]
 pub(crate) struct CheckedFile {
     /// The virtual address of its entry.
     pub address: u32,
     pub unique: u32,
-    /// The number of the block that its entry is in.
+    /// The block number of its entry.
     pub number: u32,
-    /// An address that its entry and its bytes lie below.
+    /// An address above its entry and its bytes.
     pub top: u32,
 }
 
-/// The files of a directory that were found, each at the place of its name.
+/// The files of a directory that were found, each at the index of its name.
 #[derive(Drop)]
 pub(crate) struct CheckedFiles {
     files: Vec<Option<CheckedFile>>,
@@ -27,7 +27,7 @@ impl CheckedFiles {
     ghost use Rattle.dir.specs.declared.entry.Entry.{Entry};
     ghost use Rattle.recover.specs.Seen.{AreSeen, IsNameSeen};
 
-    /// None yet.
+    /// No file yet.
     pub(crate) fn new(alloc: Global) -> CheckedFiles
         ensures { (medium : List (List ℕ)) (entries : List (List ℕ × Entry)) → AreSeen medium entries result }
     {
@@ -36,7 +36,7 @@ impl CheckedFiles {
         }
     }
 
-    /// The file under the name at this place, if it was found.
+    /// The file under the name at this index, if it was found.
     #[inline]
     pub(crate) fn find(&self, index: usize) -> Option<CheckedFile>
         ensures named { (medium : List (List ℕ)) (entries : List (List ℕ × Entry)) → AreSeen medium entries self.now → IfSome result (IsNameSeen medium entries index) }
@@ -48,7 +48,7 @@ impl CheckedFiles {
         }
     }
 
-    /// Keeps what was found under the name at this place, of so many, if there is memory for it.
+    /// Keeps the file that was found under the name at `index` of `count` names, if there is memory for it.
     pub(crate) fn keep(&mut self, count: usize, index: usize, file: CheckedFile)
         ensures { (medium : List (List ℕ)) (entries : List (List ℕ × Entry)) → IsNameSeen medium entries index file → AreSeen medium entries self.old → AreSeen medium entries self.new }
     {

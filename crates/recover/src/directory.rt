@@ -17,14 +17,14 @@ use drive::Drive;
 use limits::{DIRECTORY_NAMES, PARTITION_BLOCKS, PARTITION_START};
 use std::alloc::Global;
 
-/// Where the bytes of a node lie: the number of their first block, and how many there are.
+/// Where the bytes of a node are: the number of their first block, and how many bytes there are.
 #[derive(Clone, Copy, Debug, PartialEq, Eq, Hash)]
 pub struct Extent {
     pub first: u32,
     pub size: u32,
 }
 
-/// The directory whose bytes lie there.
+/// Reads the directory whose bytes are at `extent`.
 pub fn read_directory<D: Drive>(
     alloc: Global,
     drive: &mut D,
@@ -46,7 +46,7 @@ pub fn read_directory<D: Drive>(
     }
 }
 
-/// The links of a directory: one, and one for each directory in it.
+/// The link count of a directory: one, and one for each directory in it.
 pub(crate) fn link_count(directory: &Dir) -> u16
     requires few { length directory.now.entries.entries ≤ DIRECTORY_NAMES }
     ensures { result ≡ links_of directory.now.entries.entries }

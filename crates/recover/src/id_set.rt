@@ -1,4 +1,4 @@
-//! A set of numbers, those that sound volumes have without a hash.
+//! A set of numbers. Those that occur in sound volumes need no hash.
 
 ghost use Rattle.std.specs.Prelude.{◌≡◌, ◌<◌, ◌^◌, IsTrue, IfOk, false, true, get_or, nat_eq};
 ghost use Rattle.std.specs.HashSet.{contains};
@@ -8,8 +8,8 @@ use crate::places::reach;
 use std::alloc::{AllocError, Global};
 use std::collections::HashSet;
 
-/// Numbers below this have a place in the table. A volume has fewer commits, and so fewer unique IDs, and fewer virtual
-/// addresses; only a damaged one names greater numbers.
+/// Numbers below this have a place in the table. A volume has fewer commits, so fewer unique IDs, and fewer virtual
+/// addresses. Only a damaged volume names greater numbers.
 const NEAR: u32 = 262_144;
 
 /// A set of numbers.
@@ -17,7 +17,7 @@ const NEAR: u32 = 262_144;
 pub(crate) struct IdSet {
     /// Whether each number is in the set, as far as the table goes.
     near: Vec<bool>,
-    /// Those that have no place in the table.
+    /// The numbers in the set that have no place in the table.
     far: HashSet<u32>,
 }
 
@@ -26,7 +26,7 @@ impl IdSet {
     ghost use Rattle.recover.specs.Forest.{InsertsNumber};
     ghost use Rattle.recover.specs.IdSet.{marked};
 
-    /// None yet.
+    /// The empty set.
     pub(crate) fn new(alloc: Global) -> IdSet
         ensures { (n : ℕ) → marked result n ≡ false }
     {
@@ -36,7 +36,7 @@ impl IdSet {
         }
     }
 
-    /// Whether the number is not in the set and has a place in the table as it is.
+    /// Whether the number is not in the set, and has a place in the table without growing it.
     #[inline]
     pub(crate) fn has_place(&self, number: u32) -> bool
         ensures near { IsTrue result → number < NEAR }
@@ -47,7 +47,7 @@ impl IdSet {
         number < NEAR && place < self.near.len() && !self.near[place]
     }
 
-    /// Puts in a number that has a place in the table and is not in the set.
+    /// Inserts a number that has a place in the table and is not in the set.
     #[inline]
     pub(crate) fn put(&mut self, number: u32)
         requires near { number < NEAR }
@@ -58,7 +58,7 @@ impl IdSet {
         self.near[number as usize] = true;
     }
 
-    /// Puts a number in, and says whether it was not there.
+    /// Inserts a number. Returns whether it was new.
     #[inline]
     pub(crate) fn insert(&mut self, number: u32) -> Result<bool, AllocError>
         ensures put { IfOk result (λ is. IsTrue is → InsertsNumber (marked self.old) number (marked self.new)) }
@@ -72,7 +72,7 @@ impl IdSet {
     }
 }
 
-/// Puts a number in, and says whether it was not there.
+/// Inserts a number. Returns whether it was new.
 #[cold]
 fn put(numbers: &mut HashSet<u32>, number: u32) -> Result<bool, AllocError>
     ensures put { IfOk result (λ is. IsTrue is → InsertsNumber (contains nat_eq numbers.old) number (contains nat_eq numbers.new)) }
@@ -81,7 +81,7 @@ fn put(numbers: &mut HashSet<u32>, number: u32) -> Result<bool, AllocError>
     Ok(numbers.insert(number)?)
 }
 
-/// Marks the flag at this place, and says whether it was not marked.
+/// Sets the flag at this place. Returns whether it was not set before.
 #[inline]
 fn mark(flags: &mut Vec<bool>, place: usize) -> Result<bool, AllocError>
     requires { place < 2 ^ 32 }

@@ -1,4 +1,4 @@
-//! Nodes as they were read, by where they lie.
+//! Nodes as they were read, by where they are.
 
 ghost use Rattle.limits.specs.declared.TheConstants.{BLOCK_BYTES, DIRECTORY_NAMES, PARTITION_BLOCKS, PARTITION_START};
 ghost use Rattle.std.specs.Prelude.{◌≡◌, ◌<◌, ◌≤◌, IfSome, length};
@@ -17,7 +17,7 @@ use limits::BLOCK_SIZE;
 use std::alloc::Global;
 use std::collections::HashMap;
 
-/// Which entry is meant: that of the node with this virtual address, in the block at this address.
+/// The place of an entry: the address of its block, and the virtual address of its node.
 #[derive(Clone, Copy, Debug, PartialEq, Eq, Hash)]
 pub(crate) struct EntryPlace {
     pub at: u32,
@@ -45,7 +45,7 @@ impl NodeEntry {
     ghost use Rattle.recover.specs.Walk.{extent_in};
 
     /// Reads the entry that is there.
-    // (Apart from the way of an entry that is kept, which needs no room for a block.)
+    // (Not inlined, so that finding a kept entry takes no room for a block on the stack.)
     #[inline(never)]
     pub(crate) fn read<D: Drive>(drive: &mut D, place: EntryPlace) -> Result<NodeEntry, StoreFault>
         requires { place.at < next_of (D.journal drive.old) }
@@ -66,7 +66,7 @@ impl NodeEntry {
         }
     }
 
-    /// Where the bytes of a node lie, if blocks hold them.
+    /// Where the bytes of a node are, if blocks hold them.
     fn extent_of(entry: &FileEntry<'_>) -> Option<Extent>
         ensures { result ≡ extent_in entry.now.size (place_of entry.now.place) }
     {
@@ -85,7 +85,7 @@ impl NodeEntry {
 #[derive(Drop)]
 pub(crate) struct Names {
     pub dir: Dir,
-    /// The links that it has, which are counted once.
+    /// Its link count, which is computed once.
     pub links: u16,
     /// Those of its files that were found under their names.
     pub files: CheckedFiles,
@@ -102,7 +102,7 @@ impl Names {
     ghost use Rattle.recover.specs.ReadCache.{IsCachedListing};
     ghost use Rattle.recover.specs.Nodes.{IsDirectoryRefused, data_of};
 
-    /// Reads the directory whose bytes lie there.
+    /// Reads the directory whose bytes are at `extent`.
     #[inline(never)]
     pub(crate) fn read<D: Drive>(
         alloc: Global,
@@ -125,7 +125,8 @@ impl Names {
     }
 }
 
-/// Entries are kept for virtual addresses below this. A sound tree has no other, since a new node takes the least that is free.
+/// Entries are kept for virtual addresses below this. A sound tree has no others, since a new node takes the least free
+/// one.
 const KEPT_ADDRESSES: usize = 8_192;
 
 /// An entry that is kept.
@@ -146,7 +147,7 @@ impl Entries {
     ghost use Rattle.std.specs.Prelude.{◌<◌, ◌≤◌, ℕ, List, IfSome, vec_len};
     ghost use Rattle.recover.specs.ReadCache.{AreCachedEntries, IsEntrySaid};
 
-    /// None yet.
+    /// No entry yet.
     pub(crate) fn new(alloc: Global) -> Entries
         ensures { (medium : List (List ℕ)) → AreCachedEntries medium result }
     {
@@ -155,7 +156,7 @@ impl Entries {
         }
     }
 
-    /// What the entry there says, if it is kept.
+    /// The entry at this place, if it is kept.
     pub(crate) fn find(&self, place: EntryPlace) -> Option<NodeEntry>
         ensures { (medium : List (List ℕ)) → AreCachedEntries medium self.now → IfSome result (IsEntrySaid medium place) }
     {
@@ -169,7 +170,8 @@ impl Entries {
         }
     }
 
-    /// Keeps what the entry there says in place of the one that was kept for its virtual address, if there is memory for it.
+    /// Keeps the entry at this place, instead of the one that was kept for its virtual address, if there is memory for
+    /// it.
     pub(crate) fn keep(&mut self, place: EntryPlace, entry: NodeEntry)
         ensures { (medium : List (List ℕ)) → IsEntrySaid medium place entry → AreCachedEntries medium self.old → AreCachedEntries medium self.new }
     {
@@ -187,7 +189,7 @@ impl Entries {
     }
 }
 
-/// Directories that are kept, by the extents that they lie in.
+/// Directories that are kept, by their extents.
 #[derive(Drop)]
 pub(crate) struct Directories {
     kept: HashMap<Extent, Names>,
@@ -197,7 +199,7 @@ impl Directories {
     ghost use Rattle.std.specs.Prelude.{ℕ, List, IfSome};
     ghost use Rattle.recover.specs.ReadCache.{AreCachedDirectories, IsCachedListing};
 
-    /// None yet.
+    /// No directory yet.
     pub(crate) fn new(alloc: Global) -> Directories
         ensures { (medium : List (List ℕ)) → AreCachedDirectories medium result }
     {
@@ -211,14 +213,14 @@ impl Directories {
         self.kept.is_empty()
     }
 
-    /// Keeps none any longer, and the room that they took for the next ones.
+    /// Drops all directories, and keeps the room of the map for the next ones.
     pub(crate) fn clear(&mut self)
         ensures { (medium : List (List ℕ)) → AreCachedDirectories medium self.new }
     {
         self.kept.clear();
     }
 
-    /// The directory that lies there, which is not kept any longer.
+    /// Takes out the directory at this extent, if it is kept.
     pub(crate) fn take(&mut self, extent: Extent) -> Option<Names>
         ensures named { (medium : List (List ℕ)) → AreCachedDirectories medium self.old → IfSome result (IsCachedListing medium extent) }
         ensures kept { (medium : List (List ℕ)) → AreCachedDirectories medium self.old → AreCachedDirectories medium self.new }
@@ -226,7 +228,7 @@ impl Directories {
         self.kept.remove(&extent)
     }
 
-    /// Keeps the directory that lies there, if there is memory for it.
+    /// Keeps the directory at this extent, if there is memory for it.
     pub(crate) fn keep(&mut self, extent: Extent, names: Names)
         ensures { (medium : List (List ℕ)) → IsCachedListing medium extent names → AreCachedDirectories medium self.old → AreCachedDirectories medium self.new }
     {

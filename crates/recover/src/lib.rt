@@ -1,16 +1,16 @@
-//! What lies on a medium, read back: the last table, the tables before it, and the state to which a VAT ICB leads.
+//! Reading a medium back: the last table, the tables before it, and the state to which a VAT ICB leads.
 //!
-//! Promised: each call reads alone, so that the drive's journal stays as it was; each refusal is one of `StoreFault`, and one
-//! of the drive is reported only where the drive counted a failure. On a drive whose reads are honest `last` finds the last entry
-//! of a table, from the end, and what is read is what the medium has. `state_at` looks at every node that a table leads to,
-//! and what it gives is the state that the blocks below the VAT ICB hold, to which the medium recovers where that entry is
-//! the last. Where it reports damage there is no such state. `state_sharing` gives the same, and reads no node again that
-//! the state had for which it was called before; of a file that is where it was found under its name it asks no more than
+//! Promised: each call only reads, so the drive's journal stays as it was. Each refusal is one of `StoreFault`.
+//! `Device` is reported only if the drive counted a failure. On a drive whose reads are honest, `last` finds the last
+//! VAT ICB, from the end, and what is read is what the medium has. `state_at` looks at every node that a table leads
+//! to, and returns the state that the blocks below the VAT ICB hold. If that VAT ICB is the last, the medium recovers
+//! to this state. If damage is reported, there is no such state. `state_sharing` returns the same, and reads no node
+//! again that the state of the previous call had. For a file that is where it was found under its name, it checks only
 //! where the table leads.
 //!
-//! Here stands too what the crates above share of reading: `Node` and `ROOT`, as directories name nodes; `Extent`, which
-//! `read_directory` is asked for; and `StoreFault`, the refusals of every call on a volume, since the lowest calls that are
-//! refused so are these reads.
+//! The crate also has what the crates above share for reading: `Node` and `ROOT`, as directories name nodes; `Extent`,
+//! by which `read_directory` finds a directory; and `StoreFault`, the refusals of every call on a volume, since these
+//! reads are the lowest calls that are refused in this way.
 //!
 //! Left to others: whatever is written, and what is asked of a state.
 #![tactic(auto)]

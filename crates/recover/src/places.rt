@@ -4,10 +4,10 @@ ghost use Rattle.std.specs.Prelude.{◌≡◌, ◌<◌, ◌≤◌, ◌^◌, ℕ,
 
 use std::alloc::AllocError;
 
-/// How many places a table gets beyond the one that it has to reach, so that it is not grown for each.
+/// How many more places a table gets than it needs, so that it does not grow for each new one.
 const SPARE: usize = 1_024;
 
-/// Makes the table reach this place, with what stands for none in the places that are new.
+/// Grows the table to include this place, with `none` in the new places. If there is no memory, it stays as it was.
 #[inline]
 pub(crate) fn reach<T: Copy>(table: &mut Vec<T>, place: usize, none: T) -> Result<(), AllocError>
     requires { place < 2 ^ 32 }
@@ -21,7 +21,7 @@ pub(crate) fn reach<T: Copy>(table: &mut Vec<T>, place: usize, none: T) -> Resul
     grow(table, place + SPARE, none)
 }
 
-/// Makes the table so long.
+/// Grows the table to `len` places, with `none` in the new ones. If there is no memory, it stays as it was.
 #[cold]
 pub(crate) fn grow<T: Copy>(table: &mut Vec<T>, len: usize, none: T) -> Result<(), AllocError>
     requires { vec_len table.old ≤ len }

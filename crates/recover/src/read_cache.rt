@@ -1,4 +1,4 @@
-//! What was read of a medium while states were looked at one after another, and is not read again.
+//! What was read of a medium for one state, and is not read again for the next one.
 
 ghost use Rattle.limits.specs.declared.TheConstants.{BLOCK_BYTES, GREATEST_CAPACITY, LEAST_CAPACITY, PARTITION_BLOCKS, PARTITION_START};
 ghost use Rattle.std.specs.Prelude.{◌≤◌, IfSome};
@@ -13,15 +13,15 @@ use std::alloc::Global;
 use std::mem;
 use volume::Front;
 
-/// The volume header, an entry for each virtual address, and the directories of the state that was looked at last and of the one
-/// that is looked at. A node that both have is read once. No more is kept than that, however many states are looked at.
+/// The volume header, an entry for each virtual address, and the directories of the current state and of the previous
+/// one. A node that both states have is read once. No more is kept than that, however many states are looked at.
 #[derive(Drop)]
 pub struct ReadCache {
     front: Option<Front>,
     keeps_nodes: bool,
-    /// The entries that were met last.
+    /// For each virtual address, the entry that was read last.
     entries: Entries,
-    /// The directories of the state before, but for those of this one.
+    /// The directories of the previous state that were not met in this one so far.
     before: Directories,
     /// The directories of this state that were met so far.
     met: Directories,
@@ -39,7 +39,7 @@ impl ReadCache {
     ghost use Rattle.recover.specs.Nodes.{IsDirectoryRefused, data_of};
     ghost use Rattle.recover.specs.State.{IsFrontRefused};
 
-    /// Nothing is known yet, and what is read is kept.
+    /// An empty cache, which keeps what is read.
     pub fn new(alloc: Global) -> ReadCache
         ensures { (medium : List (List ℕ)) → IsKnown medium result }
     {
@@ -52,7 +52,7 @@ impl ReadCache {
         }
     }
 
-    /// Nothing is known yet, and no node is kept.
+    /// An empty cache that keeps the volume header, but no nodes.
     pub(crate) fn of_no_nodes(alloc: Global) -> ReadCache
         ensures { (medium : List (List ℕ)) → IsKnown medium result }
     {
@@ -65,12 +65,12 @@ impl ReadCache {
         }
     }
 
-    /// Whether a directory of the state before is left: of the first state, none.
+    /// Whether a directory of the previous state is left. For the first state there is none.
     pub(crate) fn has_directories(&self) -> bool {
         !self.before.is_empty()
     }
 
-    /// Goes on to the next state: of the directories, those of the state that was looked at last are kept.
+    /// Goes on to the next state. Of the directories, only those of the state that was current are kept.
     pub(crate) fn begin(&mut self)
         ensures { (medium : List (List ℕ)) → IsKnown medium self.old → IsKnown medium self.new }
     {
@@ -78,7 +78,7 @@ impl ReadCache {
         self.met.clear();
     }
 
-    /// What the front says.
+    /// What the volume header says. It is read if it is not known.
     pub(crate) fn front<D: Drive>(&mut self, drive: &mut D) -> Result<Front, StoreFault>
         requires within { PARTITION_START ≤ next_of (D.journal drive.old) }
         requires known { IsTrue (D.honest drive.old) → IsKnown (held (D.journal drive.old)) self.old }
@@ -98,7 +98,7 @@ impl ReadCache {
         }
     }
 
-    /// Keeps what the front says.
+    /// Keeps what the volume header says.
     fn keep_front(&mut self, front: &Front)
         requires low { LEAST_CAPACITY ≤ front.now.capacity }
         requires high { front.now.capacity ≤ GREATEST_CAPACITY }
@@ -107,14 +107,14 @@ impl ReadCache {
         self.front = Some(*front);
     }
 
-    /// What the entry there says, if it is known.
+    /// The entry at this place, if it is known.
     pub(crate) fn find(&self, place: EntryPlace) -> Option<NodeEntry>
         ensures { (medium : List (List ℕ)) → IsKnown medium self.now → IfSome result (IsEntrySaid medium place) }
     {
         self.entries.find(place)
     }
 
-    /// What the entry there says.
+    /// The entry at this place. It is read if it is not known.
     pub(crate) fn entry<D: Drive>(
         &mut self,
         drive: &mut D,
@@ -137,7 +137,7 @@ impl ReadCache {
         }
     }
 
-    /// Keeps what the entry there says.
+    /// Keeps the entry at this place, if nodes are kept.
     fn keep_entry(&mut self, place: EntryPlace, entry: NodeEntry)
         ensures { (medium : List (List ℕ)) → IsEntrySaid medium place entry → IsKnown medium self.old → IsKnown medium self.new }
     {
@@ -146,7 +146,7 @@ impl ReadCache {
         }
     }
 
-    /// The directory whose bytes lie there. It is not kept while its names are walked.
+    /// The directory at this extent. It is read if it is not known, and is not in the cache while its names are walked.
     pub(crate) fn directory<D: Drive>(
         &mut self,
         alloc: Global,
@@ -168,7 +168,7 @@ impl ReadCache {
         }
     }
 
-    /// Keeps the directory whose bytes lie there.
+    /// Keeps the directory at this extent, if nodes are kept.
     pub(crate) fn keep_directory(&mut self, extent: Extent, names: Names)
         ensures { (medium : List (List ℕ)) → IsCachedListing medium extent names → IsKnown medium self.old → IsKnown medium self.new }
     {

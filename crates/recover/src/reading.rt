@@ -17,7 +17,7 @@ use limits::{BLOCK_BYTES, BLOCK_SIZE};
 use std::alloc::Global;
 use udf::blocks_are_bytes;
 
-/// How many blocks so many bytes take.
+/// How many blocks `size` bytes take.
 pub fn block_count(size: u32) -> u32
     ensures { result ≡ div_ceil size BLOCK_BYTES }
 {
@@ -40,7 +40,7 @@ pub fn read_block<D: Drive>(drive: &mut D, at: u32) -> Result<Block, StoreFault>
     }
 }
 
-/// Reads the block at an address into one that is there, so that it is not moved.
+/// Reads the block at an address into the caller's, so that it is not moved.
 pub(crate) fn read_into<D: Drive>(
     drive: &mut D,
     at: u32,
@@ -62,7 +62,7 @@ pub(crate) fn read_into<D: Drive>(
     }
 }
 
-/// Reads so many blocks from an address on.
+/// Reads `count` blocks from an address on.
 pub fn read_blocks<D: Drive>(
     alloc: Global,
     drive: &mut D,
@@ -85,7 +85,7 @@ pub fn read_blocks<D: Drive>(
     Ok(blocks)
 }
 
-/// Reads so many bytes from the address of their first block on.
+/// Reads `size` bytes, which begin with the block at `at`.
 pub fn read_bytes<D: Drive>(
     alloc: Global,
     drive: &mut D,

@@ -27,34 +27,34 @@ use std::alloc::Global;
 use vat::Vat;
 use volume::{Front, VolumeFault, first_difference, front_words};
 
-/// The address of the primary volume descriptor.
+/// The address of the primary volume descriptor (ECMA-167 3/10.1).
 const PRIMARY: u32 = 32;
 
-/// The address of the partition descriptor.
+/// The address of the partition descriptor (ECMA-167 3/10.5).
 const PARTITION: u32 = 34;
 
-/// The address of the first VAT ICB, which is the last block of a format. Each commit writes two blocks at least.
+/// The address of the first VAT ICB, which is the last block of a format. Each later commit writes at least two blocks.
 const FIRST_TABLE: u64 = FORMAT_BLOCKS as u64 - 1;
 
-/// The state to which a VAT ICB leads, but for the tree.
+/// The state to which a VAT ICB leads, without the tree.
 #[derive(Drop)]
 pub struct State {
-    /// That of the request that the table committed, or of the format.
+    /// The moment of the request that the table committed, or of the format.
     pub moment: Timestamp,
-    /// Of the volume, in blocks, at least `limits::LEAST_CAPACITY` and at most `limits::GREATEST_CAPACITY`.
+    /// How many blocks the volume has, from `limits::LEAST_CAPACITY` to `limits::GREATEST_CAPACITY`.
     pub capacity: u32,
     pub label: Label,
     pub vat: Vat,
 }
 
-/// The state that the blocks up to `at` hold, where `at` has a VAT ICB. Every node is looked at, and each
-/// directory is read once and let go.
+/// The state that the blocks up to `at` hold, which is the address of a VAT ICB. Every node is looked at, and each
+/// directory is read once and dropped. `Damaged` if these blocks hold no state.
 pub fn state_at<D: Drive>(alloc: Global, drive: &mut D, at: u32) -> Result<State, StoreFault>
     requires low { PARTITION_START ≤ at }
     requires within { at < next_of (D.journal drive.old) }
     // It is the state of these blocks.
     ensures shown { IfOk result (λ state. IsTrue (D.honest drive.new) → IsShown (D.capacity drive.old) (held (D.journal drive.old)) at state) }
-    // Where it is refused they hold none, unless the drive failed or memory was short.
+    // If it is refused they hold none, unless the drive failed or memory was short.
     ensures refused { IfErr result (λ fault. IsTrue (D.honest drive.new) → IsStateRefused (D.capacity drive.old) (held (D.journal drive.old)) at fault) }
     ensures sound { IfOk result (HasSoundTable at (D.capacity drive.old)) }
     // The table that it keeps is the one of that VAT ICB.
@@ -65,8 +65,8 @@ pub fn state_at<D: Drive>(alloc: Global, drive: &mut D, at: u32) -> Result<State
     state_sharing(alloc, drive, &mut known, at)
 }
 
-/// The same state. The volume header, and the nodes that it shares with the state for which this was called before, are not
-/// read again: each is held against this state as it is known.
+/// The same state as that of [`state_at`]. The volume header, and the nodes that it shares with the state of the
+/// previous call, are not read again: what is known of them is compared with this state.
 pub fn state_sharing<D: Drive>(
     alloc: Global,
     drive: &mut D,
@@ -89,7 +89,7 @@ pub fn state_sharing<D: Drive>(
     Ok(state)
 }
 
-/// The state but for the tree, beside the address of the first block of the table's data.
+/// The state, whose tree is not looked at yet, and the address of the first block of the table's data.
 fn described<D: Drive>(
     alloc: Global,
     drive: &mut D,
@@ -125,7 +125,7 @@ fn described<D: Drive>(
     Ok((state, data_at))
 }
 
-/// Reads the volume header, block by block.
+/// Reads the volume header, and compares each block with the one that a format writes.
 #[tactic(auto, using(drive::proofs::Reading::reads_then))]
 pub(crate) fn read_front<D: Drive>(drive: &mut D) -> Result<Front, StoreFault>
     requires within { PARTITION_START ≤ next_of (D.journal drive.old) }
@@ -150,7 +150,8 @@ pub(crate) fn read_front<D: Drive>(drive: &mut D) -> Result<Front, StoreFault>
     Ok(front)
 }
 
-/// The file set descriptor is at virtual address 0, and has the label and the moment of the format.
+/// Checks that the file set descriptor (ECMA-167 4/14.1) is at virtual address 0, and has the label and the moment of
+/// the format.
 fn check_file_set<D: Drive>(
     drive: &mut D,
     front: &Front,
@@ -183,7 +184,7 @@ fn check_file_set<D: Drive>(
     Ok(())
 }
 
-/// The tree is whole, and is counted as the table says.
+/// Checks that the table leads to a tree, and that its counts are those of the tree and possible at its address.
 fn check_tree<D: Drive>(
     alloc: Global,
     drive: &mut D,

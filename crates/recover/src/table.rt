@@ -24,18 +24,18 @@ use limits::PARTITION_START;
 use std::alloc::Global;
 use vat::{Vat, VatFault, decode_vat, is_vat_icb};
 
-/// What a VAT ICB says: when its request was committed, and where its data lie.
+/// What a VAT ICB says: the moment of its request, and where its data are.
 #[derive(Clone, Copy, Debug)]
 pub struct TableEntry {
     pub moment: Timestamp,
     /// The number of the first block of its data.
     pub first: u32,
-    /// In bytes.
+    /// The size of its data, in bytes.
     pub size: u32,
 }
 
-/// The address of the last VAT ICB, from the partition's start on. It looks from the end, and reads no more
-/// blocks than lie after it.
+/// The address of the last VAT ICB in the partition, or `None` if there is none. Looks backwards from the end, and
+/// reads no block before that VAT ICB.
 pub fn last<D: Drive>(drive: &mut D) -> Result<Option<u32>, StoreFault>
     ensures last { IfOk result (λ found. IsTrue (D.honest drive.new) → IsLastVatIcb (held (D.journal drive.old)) found) }
     ensures within { IfOk result (λ found. IfSome found (λ at. (PARTITION_START ≤ at) × (at < next_of (D.journal drive.old)))) }
@@ -56,7 +56,8 @@ pub fn last<D: Drive>(drive: &mut D) -> Result<Option<u32>, StoreFault>
     Ok(None)
 }
 
-/// What a VAT ICB at an address says. Where none is there, the chain is broken.
+/// What the VAT ICB at an address says. `Damaged`, with the cause `CHAIN` if the block is no VAT ICB, and with `RANGE`
+/// if its data are not below it.
 pub fn table_entry<D: Drive>(drive: &mut D, at: u32) -> Result<TableEntry, StoreFault>
     requires low { PARTITION_START ≤ at }
     requires within { at < next_of (D.journal drive.old) }
@@ -84,7 +85,7 @@ pub fn table_entry<D: Drive>(drive: &mut D, at: u32) -> Result<TableEntry, Store
     })
 }
 
-/// The number of the first block of a table's data, where the entry is that of a table.
+/// The number of the first block of a table's data, if the entry is that of a table.
 fn data_start(entry: &FileEntry<'_>) -> Option<u32>
     requires { FitsEntry (fields_of entry.now) }
     ensures some { IfSome result (λ first. (entry.now.kind ≡ kinds.Vat) × (place_of entry.now.place ≡ Extent first)) }
@@ -100,7 +101,7 @@ fn data_start(entry: &FileEntry<'_>) -> Option<u32>
     }
 }
 
-/// The table whose VAT ICB has this address.
+/// Reads the table whose VAT ICB is at `at`, and says what `entry` has.
 pub fn read_table<D: Drive>(
     alloc: Global,
     drive: &mut D,
@@ -124,14 +125,14 @@ pub fn read_table<D: Drive>(
     }
 }
 
-/// Whether so many bytes from a block number on lie below an address.
+/// Whether `size` bytes that begin at block number `first` end below the address `at`.
 pub fn lies_below(first: u32, size: u32, at: u32) -> bool
     ensures { IsTrue result ↔ (first + PARTITION_START + div_ceil size BLOCK_BYTES ≤ at) }
 {
     u64::from(first) + u64::from(PARTITION_START) + u64::from(block_count(size)) <= u64::from(at)
 }
 
-/// The table whose VAT ICB has this address, by its entry and its data.
+/// Reads the VAT ICB at an address, and then the data of its table.
 pub fn table_at<D: Drive>(alloc: Global, drive: &mut D, at: u32) -> Result<Vat, StoreFault>
     requires low { PARTITION_START ≤ at }
     requires within { at < next_of (D.journal drive.old) }
@@ -146,8 +147,8 @@ pub fn table_at<D: Drive>(alloc: Global, drive: &mut D, at: u32) -> Result<Vat, 
     Ok(vat)
 }
 
-/// The table that a link leads to, from the table of so many commits: the one with one commit less, whose entry has this
-/// block number.
+/// Reads the table that a link leads to, whose VAT ICB is in block `number`. If it does not have one commit less than
+/// `commits`, the count of the table with the link, it is `Damaged`, with the cause `CHAIN`.
 pub fn linked<D: Drive>(
     alloc: Global,
     drive: &mut D,
@@ -171,7 +172,7 @@ pub fn linked<D: Drive>(
     Ok(vat)
 }
 
-/// The address to which a VAT ICB for a virtual address leads, if that is below `at`.
+/// The address to which a table leads for a virtual address, if that is below `at`.
 pub(crate) fn address_below(entries: &[Option<u32>], address: u32, at: u32) -> Option<u32>
     requires low { PARTITION_START ≤ at }
     ensures some { IfSome result (LeadsTo entries.now address) }
@@ -192,8 +193,7 @@ pub(crate) fn address_below(entries: &[Option<u32>], address: u32, at: u32) -> O
     Some(number + PARTITION_START)
 }
 
-/// The address of the VAT ICB before the one at `at`, by one step of the chain; none where
-/// no request was committed.
+/// The address of the VAT ICB before the one at `at`, by one step of the chain. `None` if that one is the format's.
 pub fn before<D: Drive>(alloc: Global, drive: &mut D, at: u32) -> Result<Option<u32>, StoreFault>
     requires low { PARTITION_START ≤ at }
     requires within { at < next_of (D.journal drive.old) }

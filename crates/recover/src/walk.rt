@@ -38,7 +38,7 @@ pub(crate) struct Named {
     /// The virtual address of its entry.
     address: u32,
     unique: u32,
-    /// The virtual address of the directory above; the root's own.
+    /// The virtual address of the directory above, or for the root its own.
     above: u32,
     /// The address of the first block of that directory's data.
     named_at: u32,
@@ -96,14 +96,14 @@ struct Body {
     extent: Option<Extent>,
 }
 
-/// What the walk has seen of the tree that a table leads to.
+/// A walk through the tree that a table leads to, and what it has seen.
 #[derive(Drop)]
 pub(crate) struct Walk<'a> {
-    /// The address of the VAT ICB. All that it leads to lies below.
+    /// The address of the VAT ICB. All that it leads to must be below.
     at: u32,
     entries: &'a [Option<u32>],
     next_unique: u32,
-    /// The virtual addresses that a name led to.
+    /// The virtual addresses that names have led to.
     reached: IdSet,
     uniques: IdSet,
     pub(crate) files: u32,
@@ -124,7 +124,7 @@ impl<'a> Walk<'a> {
     ghost use Rattle.recover.specs.Walk.{GoesOn, IsBodyRead, IsInPartition, LeadsTo, OnlyReaches, OnlySeesFiles, OnlySeesUniques, TakesUnique, Tallied, Visits, nodes_of, reached_in, uniques_in};
     ghost use Rattle.dir.specs.declared.entry.Kind.TheVariants.{Directory, File};
 
-    /// Nothing is seen yet of the tree of a table whose entry is at `at`.
+    /// A walk that has seen nothing yet, for the table whose VAT ICB is at `at`.
     pub(crate) fn new(
         alloc: Global,
         at: u32,
@@ -151,7 +151,7 @@ impl<'a> Walk<'a> {
         }
     }
 
-    /// Looks at a node, and at all below it. What is known is not read.
+    /// Looks at a node, and at all below it. What is known is not read again.
     pub(crate) fn visit<D: Drive>(
         &mut self,
         alloc: Global,
@@ -206,8 +206,8 @@ impl<'a> Walk<'a> {
         Ok(())
     }
 
-    /// Tells the drive that the entries under so many names from this place on are read soon. Only the walk of a first
-    /// state does so: a state before it has nearly all of its nodes, so that few of their entries are read.
+    /// Announces to the drive the entries of `count` names from index `from` on. Only the walk of the first state does
+    /// so: an earlier state shares nearly all of its nodes with the one after it, so few of its entries are read.
     fn announce<D: Drive>(&self, drive: &D, is_first: bool, dir: &Dir, from: usize, count: usize)
         requires { PARTITION_START ≤ self.now.at }
     {
@@ -219,7 +219,7 @@ impl<'a> Walk<'a> {
         }
     }
 
-    /// Tells the drive that the entry under the name at this place is read soon, if there is one.
+    /// Announces to the drive the entry of the name at this index, if there is one.
     fn announce_entry<D: Drive>(&self, drive: &D, dir: &Dir, index: usize)
         requires { PARTITION_START ≤ self.now.at }
     {
@@ -231,9 +231,9 @@ impl<'a> Walk<'a> {
         }
     }
 
-    /// Looks at the files under the names from this place on, up to the first that was not found there or that the table
-    /// does not lead to. The place of that one.
-    // (Apart from what else is done for a directory, so that it has the registers.)
+    /// Counts the files under the names from index `from` on as seen, up to the first that was not found there or that
+    /// the table does not lead to. Returns the index of that one.
+    // (Not inlined, so that this loop has the registers.)
     #[inline(never)]
     fn visit_checked(&mut self, files: &CheckedFiles, from: usize, depth: u32) -> usize
         ensures visits { WalksOn self.old self.new files.now depth from result }
@@ -247,8 +247,8 @@ impl<'a> Walk<'a> {
         index
     }
 
-    /// Takes the file under the name at this place as seen, if it was found there and the table leads to where it was.
-    /// Whether it did; else nothing is changed.
+    /// Counts the file under the name at this index as seen, if it was found there and the table leads to where it was.
+    /// Returns whether it did. If not, nothing is changed.
     #[inline]
     fn are_unchanged(&mut self, files: &CheckedFiles, index: usize, depth: u32) -> bool
         ensures visits { IsTrue result → VisitsKept self.old self.new files.now index (depth + 1) }
@@ -266,8 +266,8 @@ impl<'a> Walk<'a> {
         }
     }
 
-    /// Takes the file as seen, if the table leads to where it was found and all that it needs lies below the table. Whether
-    /// it did; else nothing is changed.
+    /// Counts the file as seen, if the table leads to where it was found and all that it needs is below the VAT ICB.
+    /// Returns whether it did. If not, nothing is changed.
     #[inline]
     fn is_unchanged(&mut self, file: &CheckedFile) -> bool
         ensures leads { IsTrue result → LeadsTo self.old.entries.now file.now.address (file.now.number + PARTITION_START) }
@@ -294,7 +294,7 @@ impl<'a> Walk<'a> {
         true
     }
 
-    /// Keeps the file that was looked at just now, at the place of its name among so many.
+    /// Keeps the file that was looked at just now, at `index`, that of its name among `count`.
     fn keep_seen(
         &self,
         known: &ReadCache,
@@ -311,7 +311,7 @@ impl<'a> Walk<'a> {
         }
     }
 
-    /// The file that was looked at just now, if its entry is known; none for a directory.
+    /// The file that was looked at just now, if its entry is known. `None` for a directory.
     fn seen_file(&self, known: &ReadCache, node: &Named) -> Option<CheckedFile>
         requires { PARTITION_START ≤ self.now.at }
         ensures kind { IfSome result (λ file. node.now.kind ≡ File) }
@@ -332,7 +332,9 @@ impl<'a> Walk<'a> {
         }
     }
 
-    /// The address of the node's entry, to which no name led before.
+    /// Marks the node as reached, and returns the address of its entry. `Damaged`, with the cause `RANGE` if the table
+    /// leads to nothing below it, with `REACHED_TWICE` if a name led to the node before, and with `TOO_DEEP` if its
+    /// path is too long.
     fn reach(&mut self, node: &Named) -> Result<u32, StoreFault>
         requires { PARTITION_START ≤ self.old.at }
         ensures below { IfOk result (λ entry_at. (PARTITION_START ≤ entry_at) × (entry_at < self.old.at)) }
@@ -356,7 +358,7 @@ impl<'a> Walk<'a> {
         Ok(entry_at)
     }
 
-    /// Holds the node's entry beside what its directory says.
+    /// Reads the node's entry, and compares it with what its directory says.
     fn read_entry<D: Drive>(
         &mut self,
         drive: &mut D,
@@ -394,7 +396,7 @@ impl<'a> Walk<'a> {
         })
     }
 
-    /// Whether the unique ID is one that the node may have, and no node before it had.
+    /// Marks the node's unique ID as seen. Returns whether the node may have it and no node before it had.
     fn is_new_unique(&mut self, node: &Named) -> Result<bool, StoreFault>
         ensures drawn { IfOk result (λ is. IsTrue is → IsAssigned self.old.next_unique node.now.address node.now.unique) }
         ensures uniques { IfOk result (λ is. IsTrue is → InsertsNumber (uniques_in self.old) node.now.unique (uniques_in self.new)) }
@@ -414,8 +416,8 @@ impl<'a> Walk<'a> {
     }
 }
 
-/// The directory whose bytes lie there, which has this directory above it and so many links. Its entry is at
-/// `entry_at`.
+/// The directory whose bytes are at `extent`, and whose entry is at `entry_at`. If its parent is not `above`, or its
+/// link count not `links`, it is `Damaged`, with the cause `IDENTITY`.
 fn read_names<D: Drive>(
     alloc: Global,
     drive: &mut D,
@@ -444,7 +446,7 @@ fn read_names<D: Drive>(
     Ok(names)
 }
 
-/// The file whose entry is there, if that is known and as its directory says.
+/// The file whose entry is at `entry_at`, if that is known and is as the directory says.
 fn seen_at(known: &ReadCache, node: &Named, entry_at: u32) -> Option<CheckedFile>
     requires low { PARTITION_START ≤ entry_at }
     requires high { entry_at + 1 < 2 ^ 32 }
@@ -471,7 +473,7 @@ fn seen_at(known: &ReadCache, node: &Named, entry_at: u32) -> Option<CheckedFile
     })
 }
 
-/// The least address that an entry which is at `entry_at` and its bytes lie below.
+/// The least address above the entry, which is at `entry_at`, and its bytes.
 fn top_of(entry: &NodeEntry, entry_at: u32) -> u32
     requires { entry_at + 1 < 2 ^ 32 }
     ensures { entry_at < result }
@@ -495,7 +497,7 @@ fn leads_to(entries: &[Option<u32>], file: &CheckedFile) -> bool
     }
 }
 
-/// Whether the node's entry is known, and is as its directory says, with bytes below `at`.
+/// Whether the node's entry is known and is as its directory says, and its bytes are below `at`.
 fn is_known(known: &ReadCache, node: &Named, entry_at: u32, at: u32) -> bool
     requires { entry_at < at }
     ensures { (medium : List (List ℕ)) → IsTrue result → IsKnown medium known.now → HasEntry (take at medium) at entry_at node.now }
@@ -519,7 +521,7 @@ fn is_known(known: &ReadCache, node: &Named, entry_at: u32, at: u32) -> bool
     is_below(entry.extent, at)
 }
 
-/// Whether an entry is of what the directory says.
+/// Whether an entry has the kind that the directory says.
 fn is_kind(named: Kind, kind: icb::Kind) -> bool
     ensures { IsTrue result ↔ (kind ≡ icb_kind named) }
 {
@@ -529,7 +531,8 @@ fn is_kind(named: Kind, kind: icb::Kind) -> bool
     }
 }
 
-/// Whether a node of this kind may have so many links, beside those of the directories in it: a file has one.
+/// Whether a node of this kind may have this link count: a file has one link, and a directory is checked against its
+/// names later.
 fn has_links(named: Kind, links: u16) -> bool
     ensures { IsTrue result ↔ (named ≡ File → links ≡ 1) }
 {
@@ -539,7 +542,7 @@ fn has_links(named: Kind, links: u16) -> bool
     }
 }
 
-/// Whether the bytes lie below an address.
+/// Whether the bytes, if any, are below an address.
 fn is_below(extent: Option<Extent>, at: u32) -> bool
     ensures { IsTrue result ↔ IfSome extent (λ e. e.first + PARTITION_START + div_ceil e.size BLOCK_BYTES ≤ at) }
 {

@@ -11,24 +11,27 @@ use std::marker::Model;
 /// How a committed request went.
 #[derive(Clone, Copy, Debug, PartialEq, Eq)]
 pub enum Code {
-    /// The tree was changed as asked. With each other code it stays as it was.
+    /// The tree was changed as asked. With any other code it stays as it was.
     Done,
-    /// The parent is no directory of the tree.
+    /// The parent is not a directory of the tree.
     NoParent,
+    /// The path leads to nothing.
     NotFound,
+    /// The path is taken.
     Exists,
+    /// A directory cannot be given bytes.
     IsDirectory,
     /// A directory that has names is not removed.
     NotEmpty,
     /// A directory is not moved below itself.
     IntoItself,
-    /// The root is neither made, replaced, moved nor removed.
+    /// The root cannot be made, replaced, moved or removed.
     Root,
     /// A path would have more than 16 names.
     TooDeep,
     /// The parent has as many names as a directory may have.
     DirectoryFull,
-    /// The tree has 4,096 nodes.
+    /// The tree has 4,096 nodes, which is the most.
     TooMany,
 }
 
@@ -80,6 +83,7 @@ impl Code {
 #[derive(Clone, Copy, Debug, PartialEq, Eq)]
 pub struct Reply {
     pub code: Code,
+    /// The number of the commit.
     pub commit: u32,
 }
 
@@ -149,26 +153,26 @@ impl Listing {
         self.names.as_slice()
     }
 
-    /// Adds a name at the end, and leaves the listing as it was where there is no memory.
+    /// Adds a name at the end. If there is no memory, the listing stays as it was.
     pub fn push(&mut self, listed: Listed) -> Result<(), AllocError>
         requires { length self.old < DIRECTORY_NAMES }
         ensures ok { OnOk result (self.new ≡ self.old ++ listed ∷ []) }
         ensures err { OnErr result (self.new ≡ self.old) }
     {
-        // By its type it is a name.
+        // Unused: it gives the proof that this is a name, by its type.
         let _text = listed.name.as_str();
         self.names.push(listed)?;
         Ok(())
     }
 }
 
-/// What is known of a file or a directory.
+/// The kind, moment and size of a file or a directory.
 #[derive(Clone, Copy, Debug, PartialEq, Eq)]
 pub struct NodeStatus {
     pub kind: NodeKind,
     /// Microseconds from 1970-01-01 UTC.
     pub moment: u64,
-    /// The bytes of a file, or the names of a directory.
+    /// How many bytes a file has, or how many names a directory has.
     pub size: u64,
 }
 
@@ -177,11 +181,11 @@ pub struct NodeStatus {
 pub enum Answer {
     /// The request is committed.
     Reply(Reply),
-    /// The request is older than those whose replies are kept. The client's latest number.
+    /// The request is older than those whose replies are kept. Holds the client's latest number.
     Stale(u64),
-    /// The request is not the client's next one. The client's latest number, or 0.
+    /// The request is not the client's next one. Holds the client's latest number, or 0 if it has none.
     Gap(u64),
-    /// No further client can be kept.
+    /// The client is new, and the volume knows as many as it may.
     ClientsFull,
     /// The medium has no room for the request.
     Full,
@@ -193,12 +197,16 @@ pub enum Answer {
     Malformed(Cause),
     /// The medium holds no volume, or a damaged one.
     Damaged,
+    /// The path leads to nothing.
     NotFound,
-    /// A file was asked for.
+    /// A file was asked for, and the path leads to a directory.
     IsDirectory,
-    /// A directory was asked for.
+    /// A directory was asked for, and the path leads to a file.
     NotDirectory,
+    /// The bytes of a file.
     Data(FileData),
+    /// The names in a directory.
     Names(Listing),
+    /// What a path leads to.
     Node(NodeStatus),
 }

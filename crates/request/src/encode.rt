@@ -14,7 +14,7 @@ use byteorder::{ByteOrder, LittleEndian};
 use osta::Name;
 use std::alloc::AllocError;
 
-/// Appends the answer's frame, or leaves the vector as it was where there is no memory.
+/// Appends the answer's frame. If there is no memory, the vector stays as it was.
 pub fn encode_answer(answer: &Answer, out: &mut Vec<u8>) -> Result<(), AllocError>
     ensures ok { OnOk result (out.new.items ≡ out.old.items ++ answer_frame answer.now) }
     ensures err { OnErr result (out.new.items ≡ out.old.items) }
@@ -64,7 +64,7 @@ fn code_of(answer: &Answer) -> u16
     }
 }
 
-/// The bytes after the answer's code.
+/// How many bytes follow the answer's code.
 fn body_len(answer: &Answer) -> usize
     ensures length { result ≡ length (answer_body answer.now) }
     ensures few { result ≤ 1048580 }

@@ -1,4 +1,4 @@
-//! Messages out of a stream of bytes that comes in pieces.
+//! Messages from a stream of bytes that comes in pieces.
 
 ghost use Rattle.std.specs.Prelude.{◌≡◌, ◌≤◌, ◌<◌, ◌-◌, ◌+◌, vec_len, length, drop, take, ℕ, List, Option, [], Some, None, IfOk, IfErr, OnOk, OnErr, IfSome, IfNone, MatchOption, is_none};
 ghost use Rattle.std.specs.Io.KnownBytes.{Keeps, ReadConsumes};
@@ -22,19 +22,19 @@ pub const PAYLOAD_BYTES: usize = 1_114_112;
 pub enum FeedFault {
     /// There was no memory for them.
     Memory,
-    /// The stream gave an error.
+    /// The stream reported an error.
     Read,
 }
 
-/// A reader of frames. It holds the bytes that were fed and not yet taken. A contract sees them, or `None`
-/// once a frame was longer than any payload can be: nothing after it is read.
+/// A reader of frames. It holds the bytes that were fed and not yet taken. Contracts see these bytes, or `None` after a
+/// frame whose length no payload can have: nothing after it is read.
 #[derive(Debug, Drop)]
 pub struct Frames {
     /// The bytes that are held, and after them room for more.
     bytes: Vec<u8>,
-    /// How many bytes at the beginning were taken already.
+    /// How many bytes at the beginning were taken.
     taken: usize,
-    /// How many bytes are before the room.
+    /// Where the room begins.
     end: usize,
     failed: bool,
 }
@@ -62,7 +62,7 @@ impl Frames {
         }
     }
 
-    /// Takes the next bytes of the stream. Where there is no memory for them the reader stays as it was.
+    /// Takes the next bytes of the stream. If there is no memory for them, the reader stays as it was.
     pub fn feed(&mut self, piece: &[u8]) -> Result<(), AllocError>
         ensures ok { OnOk result (self.new ≡ fed self.old piece.now) }
         ensures err { OnErr result (self.new ≡ self.old) }
@@ -77,14 +77,14 @@ impl Frames {
         Ok(())
     }
 
-    /// Reads the next bytes of a stream, at most so many, and takes them as `feed` does. It says how many they are: none at
-    /// the end of the stream alone. A read that a signal interrupts is tried again.
+    /// Reads at most `most` of the next bytes of a stream, and takes them as `feed` does. Returns how many: 0 only at
+    /// the end of the stream. A read that a signal interrupts is tried again.
     pub fn read_from<R: Read>(&mut self, reader: &mut R, most: usize) -> Result<usize, FeedFault>
         requires { 0 < most }
         ensures bound { IfOk result (λ count. count ≤ most) }
         ensures ok { IfOk result (λ count. ReadsPiece count (R.remaining reader.old) (R.remaining reader.new) self.old self.new) }
         ensures err { OnErr result ((self.new ≡ self.old) × Keeps (R.remaining reader.old) (R.remaining reader.new)) }
-        // Where there is no memory nothing is asked of the stream.
+        // If there is no memory, the stream is not read.
         ensures unasked { IfErr result (λ fault. fault ≡ FeedFault.Memory → reader.new ≡ reader.old) }
     {
         self.close_up();
@@ -100,15 +100,15 @@ impl Frames {
         }
     }
 
-    /// Whether a frame was longer than any payload can be, so that nothing more is read.
+    /// Whether a frame had a length that no payload can have, so that nothing more is read.
     pub fn is_over(&self) -> bool
         ensures { result ≡ is_none self.now }
     {
         self.failed
     }
 
-    /// The next message, once its frame is whole: it is read where it is held, and stays so until `skip`. A frame that is
-    /// longer than any payload is reported as soon as its length is there.
+    /// The next message, once its frame is complete. It borrows the bytes that the reader holds, and stays the next one
+    /// until `skip`. A frame whose length no payload can have is reported as soon as its length is there.
     #[tactic(auto, using(crate::proofs::FrameLaws::is_first))]
     pub fn first(&self) -> Option<Message<'_>>
         ensures some { IfSome result (IsFirstMessage self.now) }
@@ -121,8 +121,8 @@ impl Frames {
         }
     }
 
-    /// Releases the frame of the next message. Nothing comes after one that is longer than any payload. Where no frame is whole the
-    /// reader stays as it was.
+    /// Releases the frame of the next message. Nothing comes after a frame whose length no payload can have. If no
+    /// frame is complete, the reader stays as it was.
     pub fn skip(&mut self)
         ensures taken { (message : Message) (after : Option (List ℕ)) → TakesMessage self.old message after → self.new ≡ after }
         ensures idle { IsIdle self.old → self.new ≡ self.old }
@@ -137,7 +137,7 @@ impl Frames {
         }
     }
 
-    /// What is held, and nothing after a frame that was longer than any payload.
+    /// The bytes that are held, and none after a frame whose length no payload can have.
     fn waiting(&self) -> &[u8]
         ensures { MatchOption self.now (result.now ≡ []) (λ bytes. result.now ≡ bytes) }
     {
@@ -149,7 +149,8 @@ impl Frames {
         waiting
     }
 
-    /// Moves what is held to the beginning, where each byte that is moved is paid for by one that was taken.
+    /// Moves what is held to the beginning, if at least as many bytes were taken. So all moves together cost no more
+    /// than the bytes that were taken.
     fn close_up(&mut self)
         ensures { self.new ≡ self.old }
     {
@@ -188,7 +189,7 @@ fn first_frame(bytes: &[u8]) -> FirstFrame<'_>
     FirstFrame::Whole(payload)
 }
 
-/// The length with which a frame begins, once its four bytes are there.
+/// The length at the beginning of a frame, once its four bytes are there.
 fn frame_length(bytes: &[u8]) -> Option<usize>
     ensures { MatchOption result (length bytes.now < 4) (λ n. (4 ≤ length bytes.now) × (n ≡ length_at bytes.now)) }
 {
@@ -199,8 +200,8 @@ fn frame_length(bytes: &[u8]) -> Option<usize>
     Some(u32::from_le_bytes([front[0], front[1], front[2], front[3]]) as usize)
 }
 
-/// Moves the bytes between the two numbers to the beginning. They are no more than those before them, so that they are copied as one:
-/// `copy_within` moves them one by one.
+/// Moves the bytes from `taken` to `end` to the beginning. There are no more of them than bytes before them, so they
+/// are copied as one: `copy_within` would move them one by one.
 fn forget(bytes: &mut Vec<u8>, taken: usize, end: usize)
     requires from { taken ≤ end }
     requires to { end ≤ vec_len bytes.old }
@@ -213,7 +214,7 @@ fn forget(bytes: &mut Vec<u8>, taken: usize, end: usize)
     front[..count].copy_from_slice(&rest[..count]);
 }
 
-/// Makes room for so many bytes after the first ones. Zeros are written only where there was none.
+/// Makes room for `most` bytes after the first `end`. Zeros are written only where there was no room.
 fn make_room(bytes: &mut Vec<u8>, end: usize, most: usize) -> Result<(), AllocError>
     requires { end ≤ vec_len bytes.old }
     ensures held { take end bytes.new.items ≡ take end bytes.old.items }
@@ -229,7 +230,7 @@ fn make_room(bytes: &mut Vec<u8>, end: usize, most: usize) -> Result<(), AllocEr
     Ok(())
 }
 
-/// Reads at most so many bytes after the first ones.
+/// Reads at most `most` bytes to the place after the first `end`.
 fn fill<R: Read>(reader: &mut R, bytes: &mut Vec<u8>, end: usize, most: usize) -> io::Result<usize>
     requires room { end + most ≤ vec_len bytes.old }
     ensures held { take end bytes.new.items ≡ take end bytes.old.items }

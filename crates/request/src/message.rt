@@ -22,7 +22,7 @@ impl Model for FileData {
 }
 
 impl FileData {
-    /// The bytes of a file, without copying them.
+    /// Takes the bytes of a file, without copying them.
     pub fn new(bytes: Vec<u8>) -> FileData
         requires { vec_len bytes ≤ FILE_BYTES }
         ensures { result ≡ bytes.items }
@@ -39,7 +39,7 @@ impl FileData {
     }
 }
 
-/// The bytes that a request gives a file, at most `limits::FILE_BYTES`, where its payload has them.
+/// The bytes that a request gives a file, at most `limits::FILE_BYTES`, borrowed from its payload.
 #[derive(Debug, Drop)]
 pub struct FileSlice<'a> {
     bytes: &'a [u8],
@@ -54,7 +54,7 @@ impl<'a> Model for FileSlice<'a> {
 }
 
 impl<'a> FileSlice<'a> {
-    /// The bytes of a file, where they are.
+    /// Borrows the bytes of a file.
     pub fn new(bytes: &'a [u8]) -> FileSlice<'a>
         requires { length bytes.now ≤ FILE_BYTES }
         ensures { result ≡ bytes.now }
@@ -82,11 +82,11 @@ pub enum Op<'a> {
     MakeDir { path: Path },
     /// Moves a file or a directory, with all that is below it.
     Rename { from: Path, to: Path },
-    /// Takes a file or an empty directory away.
+    /// Removes a file or an empty directory.
     Remove { path: Path },
 }
 
-/// A change that a client asks for. A client counts its requests from 1 on. It lives as long as its payload.
+/// A change that a client asks for. A client numbers its requests from 1 on. A request borrows from its payload.
 #[derive(Debug, Drop)]
 pub struct Request<'a> {
     pub client: u64,
@@ -106,28 +106,28 @@ pub enum Query {
     Get(Path),
     /// The names in a directory.
     List(Path),
-    /// What is known of a file or a directory.
+    /// The kind, moment and size of a file or a directory.
     Stat(Path),
 }
 
-/// Why bytes are no message.
+/// Why a payload is no message.
 #[derive(Clone, Copy, Debug, PartialEq, Eq)]
 pub enum Cause {
     /// The frame's payload is longer than 1,114,112 bytes.
     TooLong,
-    /// There is no message of this kind.
+    /// The first byte is no kind of message.
     Kind,
     /// The payload ends before its last field does.
     Short,
-    /// Bytes after the last field, or a file longer than the limit.
+    /// There are bytes after the last field, or a file is longer than the limit.
     Extra,
-    /// A name that no file can have.
+    /// A name is one that no file can have.
     Path,
-    /// A moment that has no timestamp.
+    /// The moment has no timestamp: it is `limits::MOMENT_LIMIT` or later.
     Moment,
-    /// Client 0.
+    /// The client is 0.
     ClientZero,
-    /// Number 0.
+    /// The request number is 0.
     NumberZero,
 }
 

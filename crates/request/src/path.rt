@@ -28,10 +28,10 @@ impl Model for Path {
     ghost invariant = { λ p. IsPath p.names.items };
 }
 
-/// Why a text is no path.
+/// Why a text is not read as a path.
 #[derive(Clone, Copy, Debug, PartialEq, Eq)]
 pub enum PathFault {
-    /// The text is not `/` alone, and not 1 to 255 names, each after a `/`.
+    /// The text is neither `/` alone, nor 1 to 255 names, each with a `/` before it.
     Path,
     /// There was no memory for the names.
     Memory,
@@ -69,19 +69,19 @@ impl Path {
         self.names.as_slice()
     }
 
-    /// Adds a name at the end, and leaves the path as it was where there is no memory.
+    /// Adds a name at the end. If there is no memory, the path stays as it was.
     pub(crate) fn push(&mut self, name: Name) -> Result<(), AllocError>
         requires { length self.old < MESSAGE_PATH_NAMES }
         ensures ok { OnOk result (self.new ≡ self.old ++ name ∷ []) }
         ensures err { OnErr result (self.new ≡ self.old) }
     {
-        // By its type it is a name.
+        // Unused: it gives the proof that this is a name, by its type.
         let _text = name.as_str();
         self.names.push(name)?;
         Ok(())
     }
 
-    /// Reads `/`, the root, or names that each are after a `/`.
+    /// Reads `/`, the path of the root, or names that each have a `/` before them.
     pub fn parse(alloc: Global, text: &str) -> Result<Path, PathFault>
         // What is read is a path, and the text is its text.
         ensures found { IfOk result (λ path. IsPath path × (text.now ≡ path_text path)) }
@@ -115,7 +115,7 @@ impl Path {
                 return Err(PathFault::Memory);
             }
         }
-        // By its type these are names.
+        // Unused: it gives the proof that these are names, by the type of a path.
         let _names = path.names();
         Ok(path)
     }

@@ -14,7 +14,7 @@ use limits::{FILE_BYTES, MOMENT_LIMIT};
 use osta::{Name, NameFault};
 use std::alloc::{AllocError, AllocFailed, Global};
 
-/// Why a payload gives no request and no query.
+/// Why a payload is neither a request nor a query.
 #[derive(Debug, Drop)]
 pub(crate) enum ReadError {
     Memory,
@@ -65,9 +65,9 @@ enum Kind {
 pub fn read_payload(alloc: Global, payload: &[u8]) -> Message<'_>
     // It is the one thing that the payload says, or its first fault from left to right, unless there was no memory.
     ensures exact { DecodesPayload result payload.now }
-    // What is said may be said, and the payload is its spelling.
+    // What is read is in its ranges, and the payload is its encoding.
     ensures found { IfSome (told_by result) (IsSpelled payload.now) }
-    // What may be said is read from its spelling, unless there was no memory.
+    // Whatever is in its ranges is read from its encoding, unless there was no memory.
     ensures only { (said : Said) → IsMessageInRange said → payload.now ≡ payload_of said → IfSome (told_by result) (λ told. told ≡ Ok said) }
 {
     match message_of(alloc, payload) {

@@ -5,7 +5,8 @@ use std::alloc::Global;
 use std::fmt::Write;
 use words::show_bytes;
 
-/// The answers in the bytes of a stream, parted by a semicolon, and what is left after the last whole one as bytes.
+/// The answers in the bytes of a stream, separated by semicolons. What is left after the last complete one is shown as
+/// bytes.
 pub fn told(alloc: Global, stream: &[u8]) -> Result<String, Trouble> {
     let mut text = String::new(alloc);
     let mut rest = stream;
@@ -35,7 +36,7 @@ fn first_frame(bytes: &[u8]) -> Option<(&[u8], &[u8])> {
     rest.split_at_checked(u32::from_le_bytes(*head) as usize)
 }
 
-/// A number of at most eight bytes.
+/// A number of at most eight bytes, the lowest byte first.
 fn little(bytes: &[u8]) -> u64 {
     let mut value = 0u64;
     for byte in bytes.iter().rev() {
@@ -44,7 +45,7 @@ fn little(bytes: &[u8]) -> u64 {
     value
 }
 
-/// The answer in a payload. One that is none is shown by its bytes.
+/// The answer in a payload. A payload that is no answer is shown as bytes.
 fn tell_payload(payload: &[u8], out: &mut String) -> Result<(), Trouble> {
     let (code, body) = match payload {
         [low, high, body @ ..] => (u16::from_le_bytes([*low, *high]), body),
@@ -63,7 +64,7 @@ fn tell_payload(payload: &[u8], out: &mut String) -> Result<(), Trouble> {
     }
 }
 
-/// An answer of a code alone.
+/// An answer that is only a code.
 fn tell_code(code: u16, payload: &[u8], out: &mut String) -> Result<(), Trouble> {
     let word = match code {
         34 => "clients full",
@@ -90,7 +91,7 @@ fn tell_number(word: &str, number: u64, out: &mut String) -> Result<(), Trouble>
     Ok(())
 }
 
-/// The bytes of what is no answer.
+/// The bytes of a payload that is no answer.
 fn tell_other(payload: &[u8], out: &mut String) -> Result<(), Trouble> {
     out.push_str("no answer ")?;
     show_bytes(payload, out)?;

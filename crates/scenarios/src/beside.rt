@@ -1,4 +1,4 @@
-//! Requests as a die falls, on a machine and beside it on the plain program of `model`.
+//! Random requests, on a machine and on the plain program of `model`, whose answers are compared.
 
 ghost use Rattle.std.specs.Prelude.{ℕ};
 ghost use Rattle.model.specs.PlainState.{IsWholeState};
@@ -17,7 +17,7 @@ use std::marker::Model;
 use store::Snapshot;
 use words::show_bytes;
 
-/// What is reported where machine and plain program agree.
+/// What is reported if the machine and the plain program agree.
 const SAME: &str = "same";
 
 /// The plain program.
@@ -60,7 +60,7 @@ impl Plain {
         }
     }
 
-    /// What is reported of each node: its content, and what is known of it.
+    /// What is reported of each node: its content, and its kind, size and moment.
     fn tree(&self, alloc: Global) -> Result<Vec<Expected>, Trouble> {
         let mut all = Vec::new(alloc);
         for entry in &self.state.nodes {
@@ -147,8 +147,8 @@ fn path_below(alloc: Global, directory: &[String], name: &str) -> Result<Vec<Str
     Ok(path)
 }
 
-/// The sessions of a state: the next unique ID, the count of commits, and for each client itself, its latest number, and of
-/// each reply that is kept its code and its commit.
+/// The sessions of a state: the next unique ID, the count of commits, and for each client its number, its latest
+/// request number, and the code and the commit of each kept reply.
 pub fn sessions_text(alloc: Global, snapshot: &Snapshot) -> Result<String, Trouble> {
     let sessions = snapshot.sessions();
     let mut text = format!(in alloc; "{} {}", sessions.next_unique, sessions.commits)?;
@@ -161,7 +161,7 @@ pub fn sessions_text(alloc: Global, snapshot: &Snapshot) -> Result<String, Troub
     Ok(text)
 }
 
-/// A query, and what is reported.
+/// A query, and what is to be reported.
 #[derive(Drop)]
 struct Expected {
     payload: Vec<u8>,
@@ -186,7 +186,7 @@ struct Sent {
     before: usize,
 }
 
-/// A die, the plain program, and what was sent.
+/// Random numbers, the plain program, and what was sent.
 #[derive(Drop)]
 pub struct Beside {
     alloc: Global,
@@ -194,14 +194,14 @@ pub struct Beside {
     plain: Option<Plain>,
     latest: [u64; 3],
     sent: Vec<Sent>,
-    /// The tree at the prefix of so many blocks, from which on prefixes were not looked at.
+    /// The tree at the prefix of `blocks` blocks. Longer prefixes were not looked at yet.
     tree: Vec<Expected>,
     blocks: usize,
     marks: Vec<Mark>,
     counts: Vec<(u64, u32, u32)>,
 }
 
-/// The first word, or both where they differ.
+/// `same` if the two texts are the same, and otherwise both.
 fn compare(alloc: Global, got: &str, wanted: &str) -> Result<String, Trouble> {
     if got == wanted {
         return Ok(String::from_str(alloc, SAME)?);
@@ -209,7 +209,7 @@ fn compare(alloc: Global, got: &str, wanted: &str) -> Result<String, Trouble> {
     Ok(format!(in alloc; "{got} and not {wanted}")?)
 }
 
-/// The answer to a payload, which is put again where the drive failed.
+/// The answer to a payload, which is sent again if the drive failed.
 fn ask(alloc: Global, machine: &mut Machine, payload: &[u8]) -> Result<String, Trouble> {
     let text = told(alloc, &machine.ask(payload)?)?;
     if text.as_str() != "failed" {
@@ -218,7 +218,7 @@ fn ask(alloc: Global, machine: &mut Machine, payload: &[u8]) -> Result<String, T
     told(alloc, &machine.ask(payload)?)
 }
 
-/// What the machine reports of its tree, or of a snapshot's, beside what is expected.
+/// Compares what the machine reports of its tree, or of that of a snapshot, with what is expected.
 fn compare_tree(
     alloc: Global,
     machine: &mut Machine,
@@ -239,7 +239,7 @@ fn compare_tree(
 }
 
 impl Beside {
-    /// A die, beside a machine with a new volume.
+    /// Random numbers and a plain program, for a machine with a new volume.
     pub fn new(alloc: Global, seed: u64, machine: &Machine) -> Result<Beside, Trouble> {
         let plain = Plain::formatted(alloc)?;
         let tree = plain.tree(alloc)?;
@@ -274,7 +274,7 @@ impl Beside {
         }
     }
 
-    /// The next request of one of three clients.
+    /// Sends the next request of one of three clients.
     pub fn fall(&mut self, machine: &mut Machine) -> Result<String, Trouble> {
         let alloc = self.alloc;
         let client = self.die.roll(3) as usize % 3;
@@ -300,7 +300,7 @@ impl Beside {
         Ok(outcome)
     }
 
-    /// A request that was sent before, or one whose number is too far on.
+    /// Sends a request that was sent before, or one whose number is too large.
     pub fn stray(&mut self, machine: &mut Machine) -> Result<String, Trouble> {
         let alloc = self.alloc;
         let index = self.die.roll(40) as usize;
@@ -317,7 +317,8 @@ impl Beside {
         }
     }
 
-    /// At each prefix of what was written since the last look, the tree of then; with the last block, the tree of now.
+    /// Checks each prefix of what was written since the last look: without the last block it must have the tree of that
+    /// look, and with it the current tree.
     pub fn fronts(&mut self, machine: &Machine) -> Result<String, Trouble> {
         let alloc = self.alloc;
         let until = machine.blocks();
@@ -333,14 +334,14 @@ impl Beside {
         compare_tree(alloc, &mut machine.front(until)?, None, &self.tree)
     }
 
-    /// The tree of the newest state.
+    /// Checks the tree of the newest state.
     pub fn tree(&self, machine: &mut Machine) -> Result<String, Trouble> {
         let tree = self.plain()?.tree(self.alloc)?;
         compare_tree(self.alloc, machine, None, &tree)
     }
 
-    /// In one of four falls of the die, cuts the medium after some of the blocks of the last commit, from none to all, up to
-    /// three times. Where a block is lost so is the commit, and its request is put again.
+    /// One time in four, cuts the medium after some of the blocks of the last commit, from none to all, up to three
+    /// times. If a block is lost, so is the commit, and its request is sent again.
     pub fn lose(&mut self, machine: &mut Machine) -> Result<String, Trouble> {
         let alloc = self.alloc;
         let sent = self.sent.last().ok_or(Trouble::Line("nothing was sent"))?;
@@ -373,8 +374,8 @@ impl Beside {
         Ok(String::from_str(alloc, SAME)?)
     }
 
-    /// A new request, in whose commit the power is lost. The state before it is recovered, or the one after it where the last block
-    /// is there. Then the request is put again.
+    /// Sends a new request, and loses the power during its commit. The state before it must be recovered, or the one
+    /// after it if the last block is there. Then the request is sent again.
     pub fn tear(&mut self, machine: &mut Machine) -> Result<String, Trouble> {
         let old = self.plain()?.tree(self.alloc)?;
         let before = machine.blocks();
@@ -392,7 +393,7 @@ impl Beside {
         self.go_on(machine, Some(&old), size)
     }
 
-    /// What is left of the machine where the power is lost in the last commit.
+    /// What is left of the machine if the power is lost during the last commit.
     fn lose_power(&mut self, machine: &Machine) -> Result<Machine, Trouble> {
         let sent = self.sent.last().ok_or(Trouble::Line("nothing was sent"))?;
         let commit = LastCommit {
@@ -404,7 +405,8 @@ impl Beside {
         commit.torn(&mut self.die)
     }
 
-    /// The tree, which is this one or else that of now, and then the last request again, which adds so many blocks.
+    /// Checks that the tree is `old`, or the current one if that is `None`. Then sends the last request again, which
+    /// must add `size` blocks.
     fn go_on(
         &self,
         machine: &mut Machine,
@@ -426,7 +428,7 @@ impl Beside {
         Ok(outcome)
     }
 
-    /// The answer to the last request, which is put again.
+    /// Sends the last request again, and checks its answer.
     fn put_again(&self, machine: &mut Machine) -> Result<String, Trouble> {
         let sent = self.sent.last().ok_or(Trouble::Line("nothing was sent"))?;
         let got = told(self.alloc, &machine.ask(&sent.payload)?)?;
@@ -446,7 +448,7 @@ impl Beside {
         Ok(())
     }
 
-    /// The snapshot is the state that was kept as the mark of this index.
+    /// Checks that the snapshot is the state that was kept as the mark of this index.
     pub fn at_mark(
         &self,
         machine: &mut Machine,
@@ -464,7 +466,7 @@ impl Beside {
         compare_tree(self.alloc, machine, Some(snapshot), &mark.tree)
     }
 
-    /// The states after the marked commits.
+    /// Checks the states after the marked commits.
     pub fn marks(&self, machine: &mut Machine) -> Result<String, Trouble> {
         for index in 0..self.marks.len() {
             let snapshot = machine.as_of(self.marks[index].commit)?;
@@ -476,7 +478,8 @@ impl Beside {
         Ok(String::from_str(self.alloc, SAME)?)
     }
 
-    /// The list of the commits: each once, the newest first, at addresses that fall, with the counts of the plain program.
+    /// Checks the list of the commits: each once, the newest first, at decreasing addresses, with the counts of the
+    /// plain program.
     pub fn listed(&self, machine: &mut Machine) -> Result<String, Trouble> {
         let commits = machine.history()?;
         if commits.len() != self.counts.len() {

@@ -8,8 +8,8 @@ use ecma::Timestamp;
 use icb::{FileEntry, Kind, Place, encode_fe};
 use words::{number, read_word};
 
-/// Appends the bytes that each of the words says: those of every script, and `entry:` with the entry's fields, `imitation:5` for
-/// a VAT ICB at the block number 5, or `imitations:3` for those at 5, 7 and 9.
+/// Appends the bytes of each of the words. Besides the words that every script may have, these are `entry:` with the
+/// entry's fields, `imitation:5` for a VAT ICB at block number 5, and `imitations:3` for those at 5, 7 and 9.
 pub fn read_bytes(words: &[&str], into: &mut Vec<u8>) -> Result<(), Trouble> {
     for word in words {
         read_one(word, into)?;
@@ -31,7 +31,7 @@ fn read_one(word: &str, into: &mut Vec<u8>) -> Result<(), Trouble> {
     Ok(read_word(word, into)?)
 }
 
-/// Appends so many VAT ICBs, at most 512, at the block numbers 5, 7 and so on.
+/// Appends `blocks` VAT ICBs, at most 512, at block numbers 5, 7 and so on.
 fn put_imitations(blocks: u32, into: &mut Vec<u8>) -> Result<(), Trouble> {
     for index in 0..blocks.min(512) {
         put_imitation(2 * index + 5, into)?;
@@ -46,8 +46,8 @@ fn put_imitation(block: u32, into: &mut Vec<u8>) -> Result<(), Trouble> {
     Ok(())
 }
 
-/// `KIND,LINKS,UNIQUE,SIZE,FIRST,AT`: a file entry at the moment 0, whose bytes lie from the block number FIRST on, for the
-/// block or virtual address AT. KIND is `file`, `directory` or `table`.
+/// `KIND,LINKS,UNIQUE,SIZE,FIRST,AT`: a file entry with the moment 0, whose bytes begin at block number FIRST, for the
+/// block number or virtual address AT. KIND is `file`, `directory` or `table`.
 fn read_entry(fields: &str) -> Result<Block, Trouble> {
     let mut rest = fields.split(',');
     let kind = match rest.next() {

@@ -24,14 +24,14 @@ pub struct Change {
     pub number: u64,
     pub moment: u64,
     pub path: Vec<String>,
-    /// The new path, of a rename alone.
+    /// The new path, for a rename only.
     pub to: Vec<String>,
-    /// The bytes, of a create and a replace alone.
+    /// The bytes, for a create or a replace only.
     pub bytes: Vec<u8>,
 }
 
 impl Change {
-    /// `CLIENT[@MOMENT] NUMBER PATH`, and after them `PATH` or the bytes.
+    /// Reads `CLIENT[@MOMENT] NUMBER PATH`, and after them `PATH` or the bytes.
     pub fn read(alloc: Global, action: Action, words: &[&str]) -> Result<Change, Trouble> {
         let [client, order, path, rest @ ..] = words else {
             return Err(Trouble::Line("no request"));
@@ -71,7 +71,7 @@ impl Change {
         Ok(payload)
     }
 
-    /// As the plain program has it.
+    /// The request of the plain program.
     pub fn plain(self) -> Request {
         let Change {
             action,
@@ -167,7 +167,7 @@ pub fn query(alloc: Global, asked: Asked, path: &[String]) -> Result<Vec<u8>, Tr
     Ok(payload)
 }
 
-/// The payload of a query on the path that a word says.
+/// The payload of a query about the path of a word.
 pub fn read_query(alloc: Global, asked: Asked, word: &str) -> Result<Vec<u8>, Trouble> {
     query(alloc, asked, &read_path(alloc, word)?)
 }

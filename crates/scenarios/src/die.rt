@@ -1,18 +1,18 @@
-//! A die, and requests as it falls.
+//! Pseudorandom numbers, and requests made from them.
 
 use crate::changes::{Action, Change};
 use crate::trouble::Trouble;
 use std::alloc::Global;
 
-/// The names of which paths are made.
+/// The names from which paths are made.
 const NAMES: [&str; 3] = ["a", "b", "c"];
 
-/// A die that falls the same way each time a scenario is played.
+/// A generator of pseudorandom numbers, which gives the same ones each time a scenario is played.
 #[derive(Drop)]
 pub struct Die(pub u64);
 
 impl Die {
-    /// A number below the count of its sides.
+    /// A number below `sides`, or 0 if that is 0.
     pub fn roll(&mut self, sides: u8) -> u8 {
         self.0 = self
             .0
@@ -24,7 +24,7 @@ impl Die {
         ((self.0 >> 33) % u64::from(sides)) as u8
     }
 
-    /// Choices, as many as there are places or fewer.
+    /// Random choices. Half the time there is one for each place, at most 32, and otherwise a random number of them.
     pub fn choices(&mut self, alloc: Global, places: usize) -> Result<Vec<bool>, Trouble> {
         let places = places.min(32) as u8;
         let count = match self.roll(2) {

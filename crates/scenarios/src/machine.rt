@@ -1,4 +1,4 @@
-//! An engine, or a store by itself, beside the drive in memory that it is lent.
+//! An engine, or a store by itself, with the drive in memory that it borrows.
 
 ghost use Rattle.std.specs.Prelude.{◌≡◌, ◌≤◌, ℕ, true, [], length, IfSome};
 ghost use Rattle.drive.specs.MemDrive.{journal_of, capacity_of};
@@ -19,10 +19,10 @@ use words::Room;
 /// How many calls of the drive `Machine::burn` makes.
 const CALLS_TO_BURN: u64 = 2;
 
-/// What is read where a block did not reach the medium and one after it did.
+/// What is read in place of a block that did not reach the medium while one after it did.
 const UNWRITTEN: Block = [0; 2048];
 
-/// A store where one is open, or else an engine, and the drive that either is lent.
+/// A store if one is open, and otherwise an engine, with the drive that either borrows.
 #[derive(Drop)]
 pub struct Machine {
     alloc: Global,
@@ -40,7 +40,7 @@ impl Model for Machine {
 }
 
 impl Machine {
-    /// An engine that has seen no medium, on this drive.
+    /// A new engine on this drive.
     pub fn on(alloc: Global, drive: MemDrive) -> Machine {
         Machine {
             alloc,
@@ -50,7 +50,7 @@ impl Machine {
         }
     }
 
-    /// On a blank drive.
+    /// A new engine on a blank drive.
     pub fn blank(alloc: Global, capacity: u32) -> Machine {
         Machine::on(alloc, MemDrive::new(alloc, capacity, Vec::new(alloc)))
     }
@@ -60,7 +60,7 @@ impl Machine {
         self.drive.journal()
     }
 
-    /// How many blocks were written, or 0 where one of them has not its place in the journal for its address.
+    /// How many blocks were written, or 0 if they were not written once each, in order of their addresses.
     pub fn blocks(&self) -> usize {
         let mut count = 0usize;
         for event in self.drive.journal() {
@@ -72,7 +72,7 @@ impl Machine {
         count
     }
 
-    /// An engine that has seen no medium, on the first blocks of this one's medium.
+    /// A new engine on the first blocks of this medium.
     pub fn front(&self, blocks: usize) -> Result<Machine, Trouble> {
         let blocks = blocks.min(self.drive.journal().len());
         Ok(Machine::on(self.alloc, self.drive.front(blocks)?))
@@ -91,8 +91,8 @@ impl Machine {
         Ok(copy)
     }
 
-    /// A drive with the first blocks of the medium. Of its calls from then on the one of this number fails, counted from 1; a
-    /// write adds so many of its blocks then, or all where it has fewer.
+    /// A drive with the first `blocks` blocks of the medium. The call of this number from then on fails, counted from
+    /// 1. If it is a write, it adds its first `keep` blocks, or all if it has fewer.
     pub fn failing(&self, blocks: usize, call: u64, keep: usize) -> Result<Machine, Trouble> {
         let calls = (blocks as u64).saturating_mul(CALLS_TO_BURN);
         let mut schedule = Vec::new(self.alloc);
@@ -108,7 +108,8 @@ impl Machine {
         Ok(copy)
     }
 
-    /// A drive with the first blocks of the medium, and after them for each choice the block that lies there or one of zeros.
+    /// A drive with the first `whole` blocks of the medium, and after them for each choice the block that is there or
+    /// one of zeros.
     pub fn torn(&self, whole: usize, choices: &[bool]) -> Result<Machine, Trouble> {
         let mut copy = Machine::blank(self.alloc, self.drive.capacity());
         for (address, block) in self.drive.journal() {
@@ -146,7 +147,7 @@ impl Machine {
         self.drive.arm(fault);
     }
 
-    /// Forgets all that is not on the medium. An engine goes on.
+    /// Forgets all that is not on the medium. An engine takes over.
     pub fn restart(&mut self) {
         self.store = None;
         self.engine = Engine::new();
@@ -198,7 +199,7 @@ impl Machine {
         frames_of(self.alloc, &[answer])
     }
 
-    /// The answers to what comes to an engine that has seen no medium.
+    /// The answers of a new engine to these deliveries.
     pub fn run(&mut self, deliveries: &[Delivery]) -> Result<Vec<u8>, Trouble> {
         self.store = None;
         self.engine = Engine::new();
@@ -218,7 +219,7 @@ impl Machine {
         )
     }
 
-    /// The state after so many commits.
+    /// The state after the commit of this number.
     pub fn as_of(&mut self, commit: u32) -> Result<Snapshot, Trouble> {
         match &self.store {
             Some(store) => Ok(store.as_of(self.alloc, &mut self.drive, commit)?),
@@ -234,7 +235,7 @@ impl Machine {
         }
     }
 
-    /// How many commits there are, where the state after each is recovered.
+    /// Checks that the state after each commit is recovered, and returns how many commits there are.
     pub fn check(&mut self) -> Result<u32, Trouble> {
         match &self.store {
             Some(store) => Ok(store.check(self.alloc, &mut self.drive)?),
@@ -251,7 +252,7 @@ impl Machine {
     }
 }
 
-/// What is left of a block that lies so far after those that are whole, or among them.
+/// What is left of a block. `after` is its place among those after the whole ones, or `None` if it is one of these.
 fn left_of(block: &Block, after: Option<usize>, choices: &[bool]) -> Option<Block> {
     let Some(place) = after else {
         return Some(*block);
@@ -363,7 +364,7 @@ fn answer_then(
     }
 }
 
-/// How what a store refuses is answered.
+/// The answer to what a store refuses.
 fn refusal(fault: StoreFault) -> Answer {
     match fault {
         StoreFault::Full => Answer::Full,

@@ -1,8 +1,8 @@
 //! A player of scenarios: scripts of steps that are played on an engine over a drive in memory.
 //!
-//! Each file that is named by a word of the program is played, or the standard input where there is none. A scenario goes on
-//! up to its first step that does not give what its line wants. Each scenario gets a line, and the last line has the counts;
-//! the status is 1 where one failed. data/README has the words of a script.
+//! The words of the program name the files to play. Without words the standard input is played. A scenario goes on up
+//! to the first step that does not report what its line expects. Each scenario gets a line, and the last line has the
+//! counts. The status is 1 if a scenario failed. data/README has the words of a script.
 #![tactic(auto)]
 
 mod answers;
@@ -25,14 +25,15 @@ use std::process::ExitCode;
 use std::rt::{Env, Files};
 use std::{env, fs, io};
 
-/// How many scenarios went as their lines want, and how many did not.
+/// How many scenarios went as their lines expect, and how many did not.
 #[derive(Clone, Copy)]
 struct Counts {
     passed: u64,
     failed: u64,
 }
 
-/// Plays the scenario that begins with a line, from nothing, and prints how it went. It says whether all went as its lines want.
+/// Plays the scenario that begins with a line, from nothing, and prints how it went. Returns whether it went as its
+/// lines expect.
 fn play_scenario<R: Print + AllocGlobal>(
     rt: &R,
     name: &str,
@@ -75,7 +76,7 @@ fn play_script<R: Print + AllocGlobal>(
     Ok(counts)
 }
 
-/// Plays the files that the words name, or the standard input where there are none.
+/// Plays the files that the words name, or the standard input if there are none.
 fn play_all<R: Print + Files + Env + Input + AllocGlobal>(rt: &R) -> io::Result<Counts> {
     let mut counts = Counts {
         passed: 0,

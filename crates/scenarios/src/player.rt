@@ -20,7 +20,7 @@ struct Kept {
     machine: Machine,
 }
 
-/// A machine, and what a scenario keeps beside it.
+/// A machine, and what else a scenario keeps.
 #[derive(Drop)]
 pub struct Player {
     alloc: Global,
@@ -67,7 +67,7 @@ impl Player {
         }
     }
 
-    /// What is reported where there is nothing to report.
+    /// What is reported if there is nothing to report.
     fn done(&self) -> Result<String, Trouble> {
         Ok(String::from_str(self.alloc, "done")?)
     }
@@ -104,7 +104,7 @@ impl Player {
         Ok(())
     }
 
-    /// Whether the medium is the one that is kept under a name.
+    /// Checks that the medium is the one that is kept under a name.
     fn compare(&self, name: &str) -> Result<String, Trouble> {
         if self.kept_as(name)?.journal() != self.machine.journal() {
             return Ok(String::from_str(self.alloc, "another medium")?);
@@ -122,7 +122,7 @@ impl Player {
         Err(Trouble::Line("no such medium"))
     }
 
-    /// Holds an earlier state. It reports the commit, and the sessions.
+    /// Holds an earlier state. Reports its commit, and the sessions.
     fn hold(&mut self, commit: u32) -> Result<String, Trouble> {
         let snapshot = self.machine.as_of(commit)?;
         let told = snapshot.commit();
@@ -135,7 +135,7 @@ impl Player {
         Ok(text)
     }
 
-    /// Answers the messages of a stream. It reports why it ended, and the answers.
+    /// Answers the messages of a stream. Reports why that ended, if it failed, and the answers.
     fn serve(&mut self, stream: &Stream) -> Result<String, Trouble> {
         let (bytes, _) = stream.bytes.split_at(stream.end.min(stream.bytes.len()));
         let (first, rest) = bytes.split_at(stream.first.min(bytes.len()));

@@ -4,24 +4,26 @@ use crate::trouble::Trouble;
 use std::alloc::{AllocError, Global};
 use words::{Line, read_lines};
 
-/// The lines of a script, without those that are empty or a comment.
+/// The lines of a script, without empty lines and comments.
 #[derive(Drop)]
 pub struct Script {
     lines: Vec<Line>,
 }
 
 impl Script {
+    /// Reads a script.
     pub fn read(alloc: Global, text: &str) -> Result<Script, AllocError> {
         Ok(Script {
             lines: read_lines(alloc, text)?,
         })
     }
 
+    /// The lines.
     pub fn lines(&self) -> &[Line] {
         &self.lines
     }
 
-    /// The name of the scenario that begins with a line.
+    /// The name of the scenario that begins with a line, if one does.
     pub fn scenario_at(&self, index: usize) -> Option<&str> {
         self.lines.get(index)?.text.strip_prefix("scenario ")
     }

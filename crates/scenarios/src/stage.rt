@@ -1,4 +1,4 @@
-//! A scenario on its way: which line is next, and what names stand for.
+//! A scenario that is being played: which line is next, and what names stand for.
 
 use crate::bytes::read_bytes;
 use crate::player::Player;
@@ -10,10 +10,10 @@ use std::fmt;
 use std::fmt::Write;
 use words::{number, show_bytes};
 
-/// How many blocks may be open within one another.
+/// How deep blocks may be nested.
 const DEPTH: usize = 64;
 
-/// A line that did not go as it wants.
+/// A line whose step did not report what it expects.
 #[derive(Drop)]
 pub struct Failure {
     line: usize,
@@ -52,7 +52,7 @@ impl Bound {
     }
 }
 
-/// Lines that are played, once for each value of a name, or once where there is none.
+/// Lines that are played once for each value of a name, or once if there is no name.
 #[derive(Drop)]
 struct Block {
     first: usize,
@@ -63,7 +63,7 @@ struct Block {
     values: Vec<String>,
 }
 
-/// A scenario on its way.
+/// A scenario that is being played.
 #[derive(Drop)]
 pub struct Stage<'s> {
     alloc: Global,
@@ -73,6 +73,7 @@ pub struct Stage<'s> {
 }
 
 impl<'s> Stage<'s> {
+    /// A stage on which nothing was played yet.
     pub fn new(alloc: Global, script: &'s Script) -> Stage<'s> {
         Stage {
             alloc,
@@ -82,7 +83,7 @@ impl<'s> Stage<'s> {
         }
     }
 
-    /// Plays the scenario that begins with a line, up to the first line that does not go as it wants.
+    /// Plays the scenario that begins with a line, up to the first line whose step does not report what it expects.
     pub fn play(&mut self, index: usize) -> Result<(), Failure> {
         let first = index.saturating_add(1);
         let end = self.script.end_of_scenario(index);
@@ -108,7 +109,7 @@ impl<'s> Stage<'s> {
             for bound in &block.bound {
                 let name = bound.name.as_str();
                 let value = bound.value.as_str();
-                // Without memory for it the names are left out.
+                // Without memory, names are left out.
                 let _ = write!(names, ", {name} {value}");
             }
         }
@@ -140,7 +141,7 @@ impl<'s> Stage<'s> {
         Ok(())
     }
 
-    /// The line that is next. At the end of a block it is played again for the next value, or left.
+    /// The next line. A block that ends is played again for the next value, or left.
     fn advance(&mut self) -> Option<usize> {
         for _ in 0..u64::MAX {
             let block = self.open.last_mut()?;
@@ -192,7 +193,7 @@ impl<'s> Stage<'s> {
         self.play_step(words, wanted)
     }
 
-    /// Goes on after the block that begins with a line.
+    /// Skips the block that begins with a line.
     fn leave_out(&mut self, at: usize) -> Result<(), Trouble> {
         let end = self.script.end_of_block(at)?;
         if let Some(block) = self.open.last_mut() {
@@ -220,7 +221,7 @@ impl<'s> Stage<'s> {
         self.enter(at.saturating_add(1), end, bound, Vec::new(self.alloc))
     }
 
-    /// Plays a step, and holds what it reports beside what is wanted.
+    /// Plays a step, and compares what it reports with what the line expects.
     fn play_step(&mut self, words: &[&str], wanted: Wanted<'_>) -> Result<(), Trouble> {
         let alloc = self.alloc;
         let step = read_step(alloc, words)?;
@@ -259,7 +260,7 @@ impl<'s> Stage<'s> {
         None
     }
 
-    /// The text with the value of what is in braces.
+    /// The text with each pair of braces replaced by the value of what is in it.
     fn expand(&self, text: &str) -> Result<String, Trouble> {
         let mut expanded = String::new(self.alloc);
         let mut rest = text;
@@ -287,7 +288,7 @@ impl<'s> Stage<'s> {
         Ok(())
     }
 
-    /// Numbers and names with ` + `, ` - ` and ` * ` between them, from left to right.
+    /// Computes numbers and names with ` + `, ` - ` and ` * ` between them, from left to right.
     fn reckon(&self, text: &str) -> Result<u64, Trouble> {
         let mut total = 0u64;
         let mut sign = '+';
@@ -308,7 +309,7 @@ impl<'s> Stage<'s> {
     }
 }
 
-/// The values that the words say, the last one first. `2..5` is 2, 3 and 4.
+/// The values of the words, the last one first. `2..5` is 2, 3 and 4.
 fn values_of(alloc: Global, words: &[&str]) -> Result<Vec<String>, Trouble> {
     let mut values = Vec::new(alloc);
     for word in words {
@@ -321,7 +322,7 @@ fn values_of(alloc: Global, words: &[&str]) -> Result<Vec<String>, Trouble> {
     Ok(values)
 }
 
-/// Appends the numbers from one to before another.
+/// Appends the numbers from `from` to before `until`.
 fn push_numbers(from: u64, until: u64, into: &mut Vec<String>) -> Result<(), Trouble> {
     let alloc = *into.allocator();
     for value in from..until {
@@ -330,7 +331,7 @@ fn push_numbers(from: u64, until: u64, into: &mut Vec<String>) -> Result<(), Tro
     Ok(())
 }
 
-/// The names with a word for each, and with all that are left for the last one.
+/// Each name with a word, and the last name with all words that are left.
 fn bind(alloc: Global, names: &str, words: &[&str]) -> Result<Vec<Bound>, Trouble> {
     let mut bound: Vec<Bound> = Vec::new(alloc);
     for (index, name) in names.split_whitespace().enumerate() {
@@ -344,10 +345,10 @@ fn bind(alloc: Global, names: &str, words: &[&str]) -> Result<Vec<Bound>, Troubl
     Ok(bound)
 }
 
-/// What a line wants its step to report.
+/// What a line expects its step to report.
 #[derive(Clone, Copy)]
 enum Wanted<'w> {
-    /// It is not looked at.
+    /// Anything: it is not compared.
     Nothing,
     /// This text, or a number within `1..32`.
     Text(&'w str),
@@ -366,7 +367,7 @@ fn wanted_of(text: &str) -> (&str, Wanted<'_>) {
     }
 }
 
-/// Whether what is reported is one of the texts that are wanted, or a number of `1..32` where such are.
+/// Whether what is reported is one of the expected texts, or a number in an expected range such as `1..32`.
 fn is_one_of(wanted: &str, got: &str) -> bool {
     if let (Some((from, until)), Ok(told)) = (wanted.split_once(".."), got.parse::<u64>()) {
         return from.parse::<u64>().is_ok_and(|from| from <= told)

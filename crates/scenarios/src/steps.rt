@@ -11,7 +11,7 @@ use words::number;
 #[derive(Drop)]
 pub enum Step<'w> {
     Medium(MediumStep<'w>),
-    /// The payload of a frame.
+    /// A message, by the payload of its frame.
     Ask(Vec<u8>),
     /// A query about the state that is held.
     Then(Vec<u8>),
@@ -23,7 +23,7 @@ pub enum Step<'w> {
     Beside(BesideStep),
 }
 
-/// A step that changes a medium, or what is lent it.
+/// A step that changes a medium, or what uses it.
 #[derive(Clone, Copy)]
 pub enum MediumStep<'w> {
     Blank(u32),
@@ -40,8 +40,8 @@ pub enum MediumStep<'w> {
     Same(&'w str),
 }
 
-/// The bytes of a stream, how many come at first, how many at once after them, after how many it fails, and for how many
-/// bytes of answers there is room.
+/// A stream: its bytes, how many come first, how many come at once after that, after how many it fails, and for how
+/// many bytes of answers there is room.
 #[derive(Drop)]
 pub struct Stream {
     pub bytes: Vec<u8>,
@@ -70,7 +70,7 @@ pub enum Look {
     Check,
 }
 
-/// A step of the die.
+/// A step with random requests.
 #[derive(Clone, Copy)]
 pub enum BesideStep {
     Die(u64),
@@ -87,10 +87,10 @@ pub enum BesideStep {
     Listed,
 }
 
-/// What is said of a step that is none.
+/// The trouble with words that are no step.
 const NO_STEP: Trouble = Trouble::Line("no such step");
 
-/// The step that the words say.
+/// The step of the words.
 pub fn read_step<'w>(alloc: Global, words: &[&'w str]) -> Result<Step<'w>, Trouble> {
     let Some((name, rest)) = words.split_first() else {
         return Err(Trouble::Line("no step"));
@@ -221,7 +221,7 @@ fn read_fault(kind: &str, count: &str) -> Result<Fault, Trouble> {
     }
 }
 
-/// A step with numbers alone.
+/// A step that has only numbers.
 fn read_numbered<'w>(name: &str, words: &[&'w str]) -> Result<MediumStep<'w>, Trouble> {
     match (name, words) {
         ("blank", [capacity]) => Ok(MediumStep::Blank(number(capacity)?)),
@@ -253,7 +253,7 @@ fn read_look(name: &str, words: &[&str]) -> Result<Option<Look>, Trouble> {
     }
 }
 
-/// The numbers that the first three words say.
+/// The numbers of the first three words.
 fn read_numbers(words: &[&str]) -> Result<[usize; 3], Trouble> {
     let mut numbers = [0; 3];
     for (place, word) in numbers.iter_mut().zip(words) {
@@ -262,7 +262,7 @@ fn read_numbers(words: &[&str]) -> Result<[usize; 3], Trouble> {
     Ok(numbers)
 }
 
-/// The look of this name and so many numbers.
+/// The look with this name and this count of numbers.
 fn look_of(name: &str, count: usize, numbers: [usize; 3]) -> Option<Look> {
     let [first, second, third] = numbers;
     match (name, count) {

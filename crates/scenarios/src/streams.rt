@@ -3,7 +3,7 @@
 use std::io;
 use std::io::{Error, ErrorKind, Read};
 
-/// A reader that gives its first piece, then the rest in pieces of a size, and then fails.
+/// A reader that gives its first piece, then the rest in pieces of `size` bytes, and then fails.
 #[derive(Drop)]
 pub struct Pieces<'a> {
     pub first: &'a [u8],

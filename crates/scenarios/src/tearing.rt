@@ -6,10 +6,10 @@ use crate::machine::Machine;
 use crate::trouble::Trouble;
 use std::alloc::Global;
 
-/// What is tried in turn to count calls of a drive.
+/// The steps of the search for the number of calls of a drive.
 const STEPS: [u64; 11] = [1_024, 512, 256, 128, 64, 32, 16, 8, 4, 2, 1];
 
-/// All of them together, which are more calls than there are.
+/// The sum of these steps, which is more than a commit may take.
 const TOO_MANY: u64 = 2_047;
 
 /// The last commit of a machine: how many blocks there were before it, and the payload of its request.
@@ -22,7 +22,7 @@ pub struct LastCommit<'m> {
 }
 
 impl LastCommit<'_> {
-    /// The blocks before one of the last two writes, and as the die falls some of its own.
+    /// The blocks before one of the last two writes, and a random choice of those of that write.
     pub fn torn(&self, die: &mut Die) -> Result<Machine, Trouble> {
         let call = self.calls()?.saturating_sub(u64::from(die.roll(2)));
         let whole = self.blocks_where_stopped(call, 0)?;
@@ -46,13 +46,13 @@ impl LastCommit<'_> {
         Ok(calls)
     }
 
-    /// How many blocks there are where the call of this number fails.
+    /// How many blocks there are if the call of this number fails.
     fn blocks_where_stopped(&self, call: u64, keep: usize) -> Result<usize, Trouble> {
         let stopped = self.stopped(call, keep)?;
         stopped.ok_or(Trouble::Line("no call of this number"))
     }
 
-    /// The same, and nothing where there is no such call.
+    /// The same, or `None` if there is no such call.
     fn stopped(&self, call: u64, keep: usize) -> Result<Option<usize>, Trouble> {
         let mut copy = self.machine.failing(self.before, call, keep)?;
         let text = told(self.alloc, &copy.ask(self.payload)?)?;

@@ -1,4 +1,4 @@
-//! Why a step did not go.
+//! Why a step failed.
 
 use drive::DriveFault;
 use std::alloc::{AllocError, AllocFailed};
@@ -6,16 +6,16 @@ use std::fmt;
 use store::StoreFault;
 use words::WordsFault;
 
-/// Why a step did not go.
+/// Why a step failed.
 #[derive(Debug, Drop)]
 pub enum Trouble {
     /// The line is no step, for this reason.
     Line(&'static str),
-    /// A call of the store or of the format was refused, which a line may want.
+    /// A call of the store or of the format was refused. A line may expect that.
     Refused(StoreFault),
-    /// The step reported something else than its line wants.
+    /// The step reported something else than its line expects.
     Told { wanted: String, got: String },
-    /// Memory was refused to the player.
+    /// There was no memory for the player.
     Memory,
 }
 

@@ -24,8 +24,9 @@ use request::{Reply, Request};
 use std::alloc::Global;
 
 impl Store {
-    /// Commits a request whose number is due, and gives its reply. Where it answers `Ok`, the request is on the medium. Where
-    /// a write failed, the store is stopped, and does not know whether it is. After any other refusal nothing was written.
+    /// Commits a request whose number is due, and returns its reply. After `Ok` the request is on the medium. A failed
+    /// write is `Device` and stops the store, which then does not know whether the request is on the medium. After any
+    /// other refusal nothing was written, and the store goes on.
     pub fn apply<D: Drive>(
         &mut self,
         alloc: Global,
@@ -34,17 +35,19 @@ impl Store {
     ) -> Result<Reply, StoreFault>
         requires agrees { IsStoreOn (D.journal drive.old) (D.capacity drive.old) self.old }
         requires next { IsNext request.now.client request.now.number self.old.vat.sessions.records.items }
-        // What becomes of the request on an honest drive, where a state is recovered that the store knows.
+        // What becomes of the request on an honest drive, if a state is recovered and the store knows it.
         ensures applies { (volume : ℕ) (S : State) → IsTrue (D.honest drive.new) → IsOpenOn (D.capacity drive.old) volume (D.journal drive.old) S self.old → self.old.is_stopped ≡ false → Applies (D.capacity drive.old) volume (D.journal drive.old) S (model_request request.now) result (D.journal drive.new) self.new }
-        // What its writes leave on the journal; and what a power loss leaves of them, where a disk keeps any choice of the blocks
-        // of the last one that it was given.
+        // What its writes leave on the journal, and what a power loss leaves of them: the disk may keep any of the
+        // blocks of the last write that it was given.
         ensures withstands { (volume : ℕ) (S : State) → IsTrue (D.honest drive.new) → IsOpenOn (D.capacity drive.old) volume (D.journal drive.old) S self.old → CommitSurvivesPowerLoss (D.capacity drive.old) volume (D.journal drive.old) S (model_request request.now) (D.writes drive.old) (devices result) (D.journal drive.new) (D.writes drive.new) }
         ensures agrees { IsStoreOn (D.journal drive.new) (D.capacity drive.new) self.new }
         ensures commit { IfOk result (λ reply. reply.commit ≡ self.old.vat.sessions.commits + 1) }
         ensures written { IfOk result (λ reply. WritesPlan self.old request.now (D.capacity drive.old) (D.journal drive.old) (D.journal drive.new) self.new reply) }
-        // On any drive a refusal leaves store and journal as they were, unless a write failed: then the store is stopped.
+        // On any drive a refusal leaves the store and the journal as they were, unless a write failed: then the store
+        // is stopped.
         ensures refused { IfErr result (IsCommitRefused self.old request.now (D.capacity drive.old) (D.journal drive.old) (D.journal drive.new) self.new) }
-        // A store that a refusal leaves open gave the drive no write, so after a failed write it is stopped, whatever that left.
+        // If a refusal leaves the store open, it gave the drive no write. So after a failed write it is stopped,
+        // whatever that write left.
         ensures unwritten { OnErr result (self.new.is_stopped ≡ false → D.writes drive.new ≡ D.writes drive.old) }
         ensures stopped { self.old.is_stopped ≡ true → (result ≡ Err Stopped) × (self.new ≡ self.old) × (drive.new ≡ drive.old) }
         ensures goes_on { OnOk result (self.new.is_stopped ≡ false) }
@@ -64,7 +67,7 @@ impl Store {
         self.commit(drive, plan)
     }
 
-    /// Writes what is planned, and keeps it.
+    /// Writes the plan, and then keeps its table and directories in memory.
     fn commit<D: Drive>(&mut self, drive: &mut D, plan: Plan<'_>) -> Result<Reply, StoreFault>
         requires agrees { IsStoreOn (D.journal drive.old) (D.capacity drive.old) self.old }
         requires plan { IsPlan (next_of (D.journal drive.old)) (D.capacity drive.old) plan }

@@ -11,17 +11,18 @@ use limits::CLIENTS;
 use request::{Code, Reply};
 use vat::Record;
 
-/// What a request number is to a client's session.
+/// What a client's request number calls for.
 #[derive(Clone, Copy, Debug, PartialEq, Eq)]
 pub enum Due {
     /// The request was committed, and this was its reply.
     Repeat(Reply),
-    /// Its reply is not kept any longer. The client's latest number.
+    /// The request was committed, but its reply is no longer kept. Holds the client's latest number.
     Stale(u64),
-    /// It is not the next one. The client's latest number, or 0.
+    /// The number is not the next one. Holds the client's latest number, or 0 if it has none.
     Gap(u64),
-    /// No further client can be kept.
+    /// The client has no record, and the table has no room for another.
     ClientsFull,
+    /// The number is the next one: the request is to be committed.
     New,
 }
 
@@ -42,7 +43,7 @@ impl Store {
     }
 }
 
-/// What is due for a number of a client that has no record, where so many clients have one.
+/// What is due for a number of a client that has no record, where `clients` others have one.
 fn due_for_none(clients: usize, number: u64) -> Due
     requires { 0 < number }
     ensures { due_said result ≡ due_by number clients None }
@@ -74,7 +75,7 @@ fn due_for(kept: &Record, number: u64) -> Due
     }
 }
 
-/// A reply as it is reported.
+/// A kept reply as the answer to a client.
 fn told(reply: vat::Reply) -> Reply
     requires { is_code reply }
     ensures { reply_said result ≡ said_reply reply }

@@ -36,13 +36,13 @@ use vat::{Sessions, Vat};
 /// A commit, as its table reports it.
 #[derive(Clone, Copy, Debug, PartialEq, Eq)]
 pub struct Commit {
-    /// How many commits there were with it: 0 for the format.
+    /// Its number: 0 for the format, 1 for the first request.
     pub commit: u32,
     /// The address of its VAT ICB.
     pub vat_icb_address: u32,
     /// How many files the tree had after it.
     pub files: u32,
-    /// How many directories, with the root.
+    /// How many directories the tree had after it, including the root.
     pub directories: u32,
 }
 
@@ -63,7 +63,7 @@ impl Commit {
     }
 }
 
-/// The state after a commit. Its questions are lent the store, whose directories they use, and the drive.
+/// The state after a commit. Its queries borrow the store, whose directories they use, and the drive.
 #[derive(Drop)]
 pub struct Snapshot {
     /// The address of its VAT ICB.
@@ -98,14 +98,14 @@ impl Snapshot {
         &self.vat.sessions
     }
 
-    /// The commit after which the state was this one.
+    /// The commit that this state came after.
     pub fn commit(&self) -> Commit
         ensures { result ≡ report_of self.now.vat_icb_address (view self.now.vat) }
     {
         Commit::of(self.vat_icb_address, &self.vat)
     }
 
-    /// The bytes of a file, as they were.
+    /// The bytes of a file, as they were. The faults are those of [`Store::get`].
     pub fn get<D: Drive>(
         &self,
         alloc: Global,
@@ -127,7 +127,7 @@ impl Snapshot {
         Lookup::new(alloc, drive, &mut store.directories, nodes).get(path)
     }
 
-    /// The names in a directory, as they were, in their stored order.
+    /// The names in a directory, as they were, in their stored order. The faults are those of [`Store::list`].
     pub fn list<D: Drive>(
         &self,
         alloc: Global,
@@ -149,7 +149,7 @@ impl Snapshot {
         Lookup::new(alloc, drive, &mut store.directories, nodes).list(path)
     }
 
-    /// What was known of a file or a directory.
+    /// The kind, moment and size of a file or a directory, as they were. The faults are those of [`Store::stat`].
     pub fn stat<D: Drive>(
         &self,
         alloc: Global,
@@ -173,14 +173,14 @@ impl Snapshot {
 }
 
 impl Store {
-    /// All commits, the newest first, from the entries and the data of the chain's tables alone.
+    /// All commits, the newest first. Reads only the VAT ICBs and the data of the chain's tables.
     pub fn history<D: Drive>(&self, alloc: Global, drive: &mut D) -> Result<Vec<Commit>, StoreFault>
         requires agrees { IsStoreOn (D.journal drive.old) (D.capacity drive.old) self.now }
         ensures stopped { IsTrue self.now.is_stopped → (result ≡ Err Stopped) × (drive.new ≡ drive.old) }
         ensures history { IfOk result (λ commits. IsTrue (D.honest drive.new) → IsHistory (held (D.journal drive.old)) self.now.vat_icb_address commits.items) }
-        // One of each commit, and one of the format.
+        // One entry for each commit, and one for the format.
         ensures all { (volume : ℕ) (T : said.State) → IsTrue (D.honest drive.new) → IsOpenOn (D.capacity drive.old) volume (D.journal drive.old) T self.now → IfOk result (λ commits. length commits.items ≡ T.commits + 1) }
-        // Where it is refused no list is the history, or the drive failed or memory was short.
+        // If it is refused, no list is the history, or the drive failed, or memory was short.
         ensures refused { self.now.is_stopped ≡ false → IfErr result (λ fault. IsTrue (D.honest drive.new) → IsHistoryRefused (held (D.journal drive.old)) self.now.vat_icb_address fault) }
         ensures within { IfOk result (λ commits. All (λ c. (PARTITION_START ≤ c.vat_icb_address) × (c.vat_icb_address < next_of (D.journal drive.old))) commits.items) }
         ensures reads { ReadsOnly D.Drive (devices result) drive.old drive.new }
@@ -198,7 +198,7 @@ impl Store {
         Ok(commits)
     }
 
-    /// The state after the first so many commits.
+    /// The state after the commit with this number. `NoCommit` if the volume has fewer commits.
     pub fn as_of<D: Drive>(
         &self,
         alloc: Global,
@@ -208,9 +208,9 @@ impl Store {
         requires agrees { IsStoreOn (D.journal drive.old) (D.capacity drive.old) self.now }
         ensures stopped { IsTrue self.now.is_stopped → (result ≡ Err Stopped) × (drive.new ≡ drive.old) }
         ensures none { self.now.is_stopped ≡ false → self.now.vat.sessions.commits < commit → result ≡ Err NoCommit }
-        // The state that was recovered after so many commits.
+        // The state that was recovered after that commit.
         ensures past { (volume : ℕ) (T : said.State) → IsTrue (D.honest drive.new) → IsOpenOn (D.capacity drive.old) volume (D.journal drive.old) T self.now → IfOk result (λ s. (S : said.State) × IsPast (D.capacity drive.old) volume (D.journal drive.old) commit S s.vat_icb_address s.vat) }
-        // Where it is refused none was recovered, or the drive failed or memory was short.
+        // If it is refused, no state was recovered there, or the drive failed, or memory was short.
         ensures refused { (volume : ℕ) (T : said.State) → IsTrue (D.honest drive.new) → IsOpenOn (D.capacity drive.old) volume (D.journal drive.old) T self.now → self.now.is_stopped ≡ false → IfErr result (IsPastRefused (D.capacity drive.old) volume (held (D.journal drive.old)) T.commits commit) }
         ensures table { IfOk result (λ s. IsTrue (D.honest drive.new) → IsTableOf (held (D.journal drive.old)) self.now.vat_icb_address commit s.vat_icb_address s.vat) }
         ensures shown { IfOk result (λ s. IsTrue (D.honest drive.new) → (state : State) × IsShown (D.capacity drive.old) (held (D.journal drive.old)) s.vat_icb_address state × (state.vat ≡ s.vat)) }
@@ -231,7 +231,8 @@ impl Store {
         })
     }
 
-    /// The table of so many commits, along the chain, and the address of its entry.
+    /// Follows the chain to the table of the commit with this number. Returns the address of its VAT ICB, and the
+    /// table.
     fn table_of<D: Drive>(
         &self,
         alloc: Global,
@@ -256,14 +257,14 @@ impl Store {
         Ok((at, vat))
     }
 
-    /// How many commits there are, where the state after each of them is recovered.
+    /// Checks that the state after each commit is recovered, and returns how many commits there are.
     pub fn check<D: Drive>(&self, alloc: Global, drive: &mut D) -> Result<u32, StoreFault>
         requires agrees { IsStoreOn (D.journal drive.old) (D.capacity drive.old) self.now }
         ensures stopped { IsTrue self.now.is_stopped → (result ≡ Err Stopped) × (drive.new ≡ drive.old) }
         ensures count { IfOk result (λ n. n ≡ self.now.vat.sessions.commits) }
         // A state was recovered after each.
         ensures whole { (volume : ℕ) (T : said.State) → IsTrue (D.honest drive.new) → IsOpenOn (D.capacity drive.old) volume (D.journal drive.old) T self.now → IfOk result (λ n. (n ≡ T.commits) × AllRecovered (D.capacity drive.old) volume (held (D.journal drive.old)) n) }
-        // Where it is refused none was recovered after one of them, or the drive failed or memory was short.
+        // If it is refused, no state was recovered after one of them, or the drive failed, or memory was short.
         ensures refused { (volume : ℕ) (T : said.State) → IsTrue (D.honest drive.new) → IsOpenOn (D.capacity drive.old) volume (D.journal drive.old) T self.now → self.now.is_stopped ≡ false → IfErr result (IsCheckRefused (D.capacity drive.old) volume (held (D.journal drive.old)) T.commits) }
         ensures history { OnOk result (IsTrue (D.honest drive.new) → IsChecked (D.capacity drive.old) (held (D.journal drive.old)) self.now.vat_icb_address) }
         ensures reads { ReadsOnly D.Drive (devices result) drive.old drive.new }
@@ -276,15 +277,17 @@ impl Store {
     }
 }
 
-/// How many commits the volume on a drive has, where the state after each of them is recovered. Each state is looked at once,
-/// the newest too, so this reads less than to open a store and to ask it.
+/// Checks that the state after each commit of a volume is recovered, and returns how many commits there are.
+/// `NotFormatted` if the medium has no VAT ICB. This reads less than opening a store and asking it, which would look at
+/// the newest state twice.
 pub fn check_volume<D: Drive>(alloc: Global, drive: &mut D) -> Result<u32, StoreFault>
-    // Where a state is recovered its commits are counted, unless none was recovered after one of them.
+    // If a state is recovered, its commits are counted, unless no state was recovered after one of them.
     ensures counts { (volume : ℕ) (S : said.State) → IsTrue (D.honest drive.new) → RecoversTo udf (D.capacity drive.old) volume (held (D.journal drive.old)) S → CountsCommits (D.capacity drive.old) volume (held (D.journal drive.old)) S.commits result }
     // Nothing is counted where none is.
     ensures recovers { OnOk result (IsTrue (D.honest drive.new) → (volume : ℕ) × (S : said.State) × RecoversTo udf (D.capacity drive.old) volume (held (D.journal drive.old)) S) }
     ensures history { OnOk result (IsTrue (D.honest drive.new) → (at : ℕ) × IsLastVatIcb (held (D.journal drive.old)) (Some at) × IsChecked (D.capacity drive.old) (held (D.journal drive.old)) at) }
-    // Where it is refused no store is opened, or a state is recovered, and none was after one of its commits.
+    // If it is refused, a store would not be opened either, or a state is recovered but none was after one of its
+    // commits.
     ensures refused { IfErr result (λ fault. IsTrue (D.honest drive.new) → IsOpenRefused (D.capacity drive.old) (held (D.journal drive.old)) fault ⊎ IsRecoveredCheckRefused (D.capacity drive.old) (held (D.journal drive.old)) fault) }
     ensures reads { ReadsOnly D.Drive (devices result) drive.old drive.new }
 {
@@ -294,21 +297,22 @@ pub fn check_volume<D: Drive>(alloc: Global, drive: &mut D) -> Result<u32, Store
     }
 }
 
-/// How many blocks below a VAT ICB the drive is told of. A commit's directories and tables lie right below its VAT ICB, and
-/// the commit before it below those; one of a small file has some ten blocks.
+/// How many blocks below a VAT ICB are announced to the drive. The directories and the table of a commit are right
+/// below its VAT ICB, and the previous commit is below them. The commit of a small file has some ten blocks.
 const AHEAD: u32 = 64;
 
-/// How many commits there are, where the state after each of them is recovered, from the one whose VAT ICB is at `at` back to
-/// the format. The chain is walked once: each table is that of a state, and what two states that follow one another have alike
-/// is read once.
+/// Checks that the state after each commit is recovered, from the one whose VAT ICB is at `at` back to the format.
+/// Returns how many commits there are. The chain is walked once: each table is read with its state, and what two
+/// consecutive states share is read once.
 fn check_states<D: Drive>(alloc: Global, drive: &mut D, at: u32) -> Result<u32, StoreFault>
     requires low { PARTITION_START ≤ at }
     requires within { at < next_of (D.journal drive.old) }
     ensures checked { OnOk result (IsTrue (D.honest drive.new) → IsChecked (D.capacity drive.old) (held (D.journal drive.old)) at) }
     ensures count { IfOk result (λ n. IsTrue (D.honest drive.new) → (state : State) × IsShown (D.capacity drive.old) (held (D.journal drive.old)) at state × (n ≡ state.vat.sessions.commits)) }
-    // Where it is refused no list is the history, or of one of its commits no state is described, or the drive failed or memory was short.
+    // If it is refused, no list is the history, or one of its commits has no state, or the drive failed, or memory was
+    // short.
     ensures refused { IfErr result (λ fault. IsTrue (D.honest drive.new) → IsUnchecked (D.capacity drive.old) (held (D.journal drive.old)) at fault) }
-    // It is the newest state that is not described, or that one is.
+    // Either the newest state is refused, or there is such a state.
     ensures newest { IfErr result (λ fault. IsTrue (D.honest drive.new) → IsStateRefused (D.capacity drive.old) (held (D.journal drive.old)) at fault ⊎ ((state : State) × IsShown (D.capacity drive.old) (held (D.journal drive.old)) at state)) }
     ensures reads { ReadsOnly D.Drive (devices result) drive.old drive.new }
 {

@@ -2,7 +2,7 @@
 
 ghost use Rattle.store.specs.Past.{SnapshotsStay};
 
-/// What was shown of a state stays so after all that is written later: a snapshot is good after any run.
+/// What was shown of a state still holds after all later writes: a snapshot stays valid after any run.
 pub fn snapshots_stay()
     ensures { SnapshotsStay }
 {}

@@ -24,7 +24,8 @@ use request::{FileData, Listing, NodeStatus, Path};
 use std::alloc::Global;
 
 impl Store {
-    /// The bytes of a file.
+    /// The bytes of a file. `NotFound` if the path leads to nothing, `IsDirectory` if it leads to a directory,
+    /// `Stopped` if the store is stopped.
     pub fn get<D: Drive>(
         &mut self,
         alloc: Global,
@@ -44,7 +45,8 @@ impl Store {
         Lookup::new(alloc, drive, &mut self.directories, nodes).get(path)
     }
 
-    /// The names in a directory, in their stored order.
+    /// The names in a directory, in their stored order. `NotFound` if the path leads to nothing, `NotDirectory` if it
+    /// leads to a file, `Stopped` if the store is stopped.
     pub fn list<D: Drive>(
         &mut self,
         alloc: Global,
@@ -64,7 +66,8 @@ impl Store {
         Lookup::new(alloc, drive, &mut self.directories, nodes).list(path)
     }
 
-    /// What is known of a file or a directory.
+    /// The kind, moment and size of a file or a directory. `NotFound` if the path leads to nothing, `Stopped` if the
+    /// store is stopped.
     pub fn stat<D: Drive>(
         &mut self,
         alloc: Global,
@@ -85,7 +88,7 @@ impl Store {
     }
 }
 
-/// The nodes of a state, where the store goes on.
+/// The nodes of a state. `Stopped` if the store is stopped.
 pub(crate) fn nodes_of(
     is_stopped: bool,
     at: u32,

@@ -18,12 +18,12 @@ use recover::{State, StoreFault, last, state_at};
 use std::alloc::Global;
 use vat::Vat;
 
-/// What is kept of the volume on a drive.
+/// What is kept in memory of the volume on a drive.
 #[derive(Drop)]
 pub struct Store {
     /// The address of the last VAT ICB.
     pub(crate) vat_icb_address: u32,
-    /// Of the volume, in blocks.
+    /// How many blocks the volume has.
     pub(crate) capacity: u32,
     pub(crate) vat: Vat,
     pub(crate) directories: DirectoryCache,
@@ -32,13 +32,13 @@ pub struct Store {
 }
 
 impl Store {
-    /// The volume on a drive, as its last table says. Nothing is written.
+    /// Opens the volume on a drive, by its last table. `NotFormatted` if the medium has no VAT ICB. Nothing is written.
     pub fn open<D: Drive>(alloc: Global, drive: &mut D) -> Result<Store, StoreFault>
-        // It is opened where a state is recovered on an honest drive, and keeps that.
+        // On an honest drive it is opened if a state is recovered, and keeps that state.
         ensures opens { (volume : ℕ) (S : said.State) → IsTrue (D.honest drive.new) → Once (D.journal drive.old) → RecoversTo udf (D.capacity drive.old) volume (held (D.journal drive.old)) S → Opens (D.capacity drive.old) volume (D.journal drive.old) S result }
-        // Nothing else is opened on one.
+        // On an honest drive nothing else is opened.
         ensures recovers { IfOk result (λ store. IsTrue (D.honest drive.new) → Once (D.journal drive.old) → (S : said.State) × IsOpenOn (D.capacity drive.old) store.capacity (D.journal drive.old) S store) }
-        // Where it is not opened, no VAT ICB is on the medium, or one is and nothing is recovered there.
+        // If it is not opened, the medium has no VAT ICB, or has one and nothing is recovered there.
         ensures refused { IfErr result (λ fault. IsTrue (D.honest drive.new) → IsOpenRefused (D.capacity drive.old) (held (D.journal drive.old)) fault) }
         ensures agrees { IfOk result (IsStoreOn (D.journal drive.old) (D.capacity drive.old)) }
         ensures kept { IfOk result (λ store. AreKept (D.journal drive.new) store.directories) }
@@ -74,14 +74,14 @@ impl Store {
         self.vat_icb_address
     }
 
-    /// Of the volume, in blocks.
+    /// How many blocks the volume has.
     pub fn capacity(&self) -> u32
         ensures { result ≡ self.now.capacity }
     {
         self.capacity
     }
 
-    /// What the newest table says.
+    /// The newest table.
     pub fn newest(&self) -> &Vat
         ensures { result.now ≡ self.now.vat }
     {

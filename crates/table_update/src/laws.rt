@@ -5,8 +5,8 @@ ghost use Rattle.table_update.specs.Need.{FilesAreCounted, NamesAreCounted, Name
 ghost use Rattle.table_update.specs.Pieces.{NodesAreWritten, PiecesArePlanned};
 ghost use Rattle.table_update.specs.NextTable.{ChangesAreTaken, NextTablesFollow, NextTablesAreLong, NextTablesAreSized};
 
-/// The table that a commit writes is the one that its plan asks for, each change of it can be made, and it takes as many
-/// bytes.
+/// The table that a commit writes is the one that its plan asks for. Each of its changes can be made, and it takes as
+/// many bytes as planned.
 pub fn next_tables_follow()
     ensures follows { NextTablesFollow }
     ensures taken { ChangesAreTaken }
@@ -14,7 +14,7 @@ pub fn next_tables_follow()
     ensures sized { NextTablesAreSized }
 {}
 
-/// What is computed from the sizes of a change is what its request may need, also where names are counted one by one.
+/// The need that is computed from the sizes of a change is that of its request, even if names are counted one by one.
 pub fn need_is_reckoned()
     ensures need { NeedIsComputed }
     ensures names { NamesAreCounted }
@@ -28,8 +28,8 @@ pub fn pieces_are_planned()
     ensures planned { PiecesArePlanned }
 {}
 
-/// Where a plan is written whole its request is committed, and where a prefix of it is, the request is committed or not:
-/// to what each prefix recovers follows.
+/// If a whole plan is written, its request is committed. If a prefix is written, the request is committed or not. So it
+/// follows to what each prefix recovers.
 pub fn commits_are_planned()
     ensures whole { CommitsAreWhole }
     ensures part { CommitsArePart }

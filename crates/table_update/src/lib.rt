@@ -1,10 +1,11 @@
-//! The table of the next commit: what a request's reply and its nodes change of the table before, and what follows.
+//! The table of the next commit: what a request's reply and its nodes change in the table before, and what follows.
 //!
-//! Promised: each change is made exactly where it can be; the table that the changes make is the one that a request's plan
-//! asks for, in as many bytes; what is computed from sizes is what a request may need; the blocks of its nodes, the table's
-//! bytes and its entry make the plan; and where these are written, whole or a prefix, the request is committed or not.
+//! Promised: each change is made exactly if it can be. The table that the changes make is the one that a request's plan
+//! asks for, in as many bytes. What is computed from sizes is what a request may need. The blocks of the request's
+//! nodes, the table's bytes and its VAT ICB make the plan. If these are written, all or a prefix, the request is
+//! committed or not.
 //!
-//! Left to others: where blocks lie, which nodes a request writes, and every write.
+//! Left to others: where blocks are, which nodes a request writes, and every write.
 #![tactic(auto)]
 
 mod laws;

@@ -1,10 +1,11 @@
-//! Nodes, as requests make them.
+//! Nodes that requests make.
 
 use dir::Kind;
 
-/// A node that is made.
+/// A new node.
 #[derive(Clone, Copy, Debug)]
 pub struct NewNode {
     pub kind: Kind,
+    /// Its virtual address.
     pub address: u32,
 }

@@ -1,4 +1,4 @@
-//! The table that a commit writes: the one before, with the reply and the nodes.
+//! The table that a commit writes: the one before, with the reply and the changed nodes.
 
 ghost use Rattle.limits.specs.declared.TheConstants.{PARTITION_START};
 ghost use Rattle.std.specs.Prelude.{◌≡◌, ◌≢◌, ◌+◌, ◌^◌, ◌<◌, ◌≤◌, ◌↔◌, ℕ, length, slice_index_or, Some, IsTrue, IfOk, IfSome, IfNone, All, AllPairs, if◌then◌else◌, false};
@@ -20,7 +20,7 @@ pub fn copied(alloc: Global, vat: &Vat) -> Result<Vat, StoreFault>
     ensures short { OnlyMemoryIsShort result }
 {
     let records = Vec::from_slice(alloc, &vat.sessions.records)?;
-    // A commit that makes a node adds an entry.
+    // A commit that makes a node may add one entry.
     let mut entries = Vec::with_capacity(alloc, vat.entries.len() + 1)?;
     entries.extend_from_slice(&vat.entries)?;
     Ok(Vat {
@@ -82,9 +82,9 @@ fn answer(
     Ok(())
 }
 
-/// Counts a commit, and keeps its reply. The entry of the table before is at the address `at`.
+/// Counts a commit, and keeps its reply. The VAT ICB of the table before is at the address `at`.
 ///
-/// After an error the table is in no state that is known.
+/// After an error nothing is known of the table.
 pub fn keep_reply(
     vat: &mut Vat,
     at: u32,
@@ -113,7 +113,8 @@ pub fn keep_reply(
     Ok(())
 }
 
-/// Gives a node the address, if its entry is unused or it is the next after the last.
+/// Gives the address to a node at this block number, if the address is unused or the next after the last. Returns
+/// whether it did.
 fn take_entry(entries: &mut Vec<Option<u32>>, address: u32, number: u32) -> Result<bool, StoreFault>
     ensures free { IfOk result (λ taken. IsTrue taken ↔ spec.IsFree address entries.old.items) }
     ensures entry { IfOk result (λ taken. entries.new.items ≡ (if taken then spec.with_number address (Some number) entries.old.items else entries.old.items)) }
@@ -134,7 +135,7 @@ fn take_entry(entries: &mut Vec<Option<u32>>, address: u32, number: u32) -> Resu
     Ok(true)
 }
 
-/// Puts another entry in the place of a node's, if the address has one.
+/// Replaces the entry of an address, if it is used. Returns whether it is.
 fn set_entry(entries: &mut Vec<Option<u32>>, address: u32, entry: Option<u32>) -> bool
     ensures used { IsTrue result ↔ IsUsed address entries.old.items }
     ensures long { length entries.new.items ≡ length entries.old.items }
@@ -151,9 +152,9 @@ fn set_entry(entries: &mut Vec<Option<u32>>, address: u32, entry: Option<u32>) -
     true
 }
 
-/// Makes a node, whose entry is at the block number, if the address is free: whether it is.
+/// Adds a node, whose entry is at the block number, if the address is free. Returns whether it is.
 ///
-/// After an error the table is in no state that is known.
+/// After an error nothing is known of the table.
 pub fn add_node(vat: &mut Vat, kind: Kind, address: u32, number: u32) -> Result<bool, StoreFault>
     requires fits { FitsTable (view vat.old) }
     requires number { number < 0xFFFF_FFFF }
@@ -175,7 +176,7 @@ pub fn add_node(vat: &mut Vat, kind: Kind, address: u32, number: u32) -> Result<
     Ok(true)
 }
 
-/// Leads the address of a node to the block number, if it has one: whether it has.
+/// Leads the virtual address of a node to the block number, if it is used. Returns whether it is.
 pub fn place_node(vat: &mut Vat, address: u32, number: u32) -> bool
     requires fits { FitsTable (view vat.old) }
     requires number { number < 0xFFFF_FFFF }
@@ -188,7 +189,7 @@ pub fn place_node(vat: &mut Vat, address: u32, number: u32) -> bool
     set_entry(&mut vat.entries, address, Some(number))
 }
 
-/// Whether a node of the kind is counted that is not the root.
+/// Whether the table counts a node of this kind other than the root.
 fn has_node(vat: &Vat, kind: Kind) -> bool
     ensures { IsTrue result ↔ spec.CountsNode kind (view vat.now) }
 {
@@ -198,7 +199,7 @@ fn has_node(vat: &Vat, kind: Kind) -> bool
     }
 }
 
-/// Removes a node that is not the root, if the address has one and its kind is counted: whether it did.
+/// Removes a node that is not the root, if its address is used and its kind is counted. Returns whether it did.
 pub fn remove_node(vat: &mut Vat, kind: Kind, address: u32) -> bool
     requires fits { FitsTable (view vat.old) }
     ensures removed { IsTrue result ↔ spec.IsRemovable kind address (view vat.old) }

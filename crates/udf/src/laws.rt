@@ -1,4 +1,4 @@
-//! What holds of these formats, and of every medium by them. Nothing here runs: each function's contract is a law.
+//! What holds of these formats, and of every medium in them. Nothing here runs: each function's contract is a law.
 
 ghost use Rattle.std.specs.Prelude.{◌<◌, ℕ, slice_index};
 ghost use Rattle.durability.specs.Formats.{AreExact, AreBounded, AreDistinct, AreShort};
@@ -10,19 +10,20 @@ ghost use Rattle.udf.specs.Torn.{PrefixesAreLeft, FewerAreLeft, ChoicesAreLeft, 
 
 use limits::Block;
 
-/// A block of a medium is one of these formats: it has its size, and bytes below 256.
+/// A block of a medium is a block as these formats define it: it has its size, and bytes below 256.
 pub fn blocks_are_bytes(block: &Block)
     ensures { IsBlock block.now }
 {
     are_bytes(block);
 }
 
-/// What a slice of bytes has is below 256.
+/// The items of a slice of bytes are below 256.
 fn are_bytes(bytes: &[u8])
     ensures { (i : ℕ) → slice_index bytes.now i < 256 }
 {}
 
-/// A block is one file entry at most at its location, blocks are the data of one directory, bytes are one table.
+/// At its location a block is at most one file entry. Blocks are the data of at most one directory, and bytes are at
+/// most one table.
 pub fn formats_are_exact()
     ensures { AreExact udf }
 {}
@@ -37,12 +38,12 @@ pub fn formats_are_distinct()
     ensures { AreDistinct udf }
 {}
 
-/// A directory takes no more blocks than follow from the lengths of its names as they are spelled.
+/// How many blocks a directory takes at most follows from the lengths of its names as they are encoded.
 pub fn formats_are_short()
     ensures { AreShort udf spelled_length }
 {}
 
-/// What the codecs read is what the blocks hold by these formats, in the words of the medium.
+/// What the codecs read is what the blocks hold in these formats.
 pub fn codecs_agree()
     ensures entries { EntriesAgree }
     ensures directories { DirectoriesAgree }
@@ -50,7 +51,7 @@ pub fn codecs_agree()
     ensures sizes { SizesAgree }
 {}
 
-/// A block imitates where `vat` says so, and data in blocks and its clear starts are those of the medium's plans.
+/// A block imitates a VAT ICB exactly if `vat` says so. Data in blocks, and their clear starts, are those of the plans.
 pub fn imitation_agrees()
     ensures imitates { ImitationAgrees }
     ensures data { DataAgrees }
@@ -63,7 +64,7 @@ pub fn one_state_stands()
     ensures sound { RecoveredIsSound }
 {}
 
-/// After a number of commits there was at most one state; the one to which the medium recovers is the last of them.
+/// After a number of commits there was at most one state. The one to which the medium recovers is the last of them.
 pub fn one_state_stood()
     ensures one { OnePast }
     ensures within { PastIsWithin }
@@ -82,8 +83,8 @@ pub fn planned_blocks_carry()
     ensures short { PlannedShort }
 {}
 
-/// Each prefix of a commit on a drive's journal recovers to the old state, and to the state after the request with its
-/// last block alone.
+/// Each prefix of a commit on a drive's journal recovers to the old state, and only the whole commit, with its last
+/// block, to the state after the request.
 pub fn commits_advance()
     ensures { CommitAdvances }
 {}
@@ -94,27 +95,29 @@ pub fn formats_stand()
     ensures recovers { FormatRecovers }
 {}
 
-/// What the encoders give of a label, a moment and a capacity is a format.
+/// What the encoders make from a label, a moment and a capacity is a format.
 pub fn new_volumes_are_formats()
     ensures { NewVolumesAreFormats }
 {}
 
-/// Each prefix of a run leaves, on a medium and on a drive's journal, the state after the first of its commits.
+/// On a medium and on a drive's journal, each prefix of a run leaves the state after the first N of its commits, for
+/// some N.
 pub fn runs_hold()
     ensures medium { RunsHold }
     ensures journal { RunsHoldOnJournal }
 {}
 
-/// Of writes, each synced before the next begins, a power loss may leave the whole ones and of the next any choice of
-/// its blocks, or of a prefix of it, with zeros in place of the others. A prefix of all of them is a case.
+/// Of writes that are each synced before the next begins, a power loss may leave whole ones, and of the next any of its
+/// blocks, or of those of a prefix of it, with zeros in place of the others. A prefix of all blocks is one case of
+/// this.
 pub fn torn_images_are_left()
     ensures fronts { PrefixesAreLeft }
     ensures fewer { FewerAreLeft }
     ensures choices { ChoicesAreLeft }
 {}
 
-/// Where a commit's last block goes out alone after all others, the medium recovers to the old state whatever is left of
-/// the others, and to the state after the request with the last block alone.
+/// If the last block of a commit is written alone, after all others, the medium recovers to the old state whatever is
+/// left of the others. Only with the last block does it recover to the state after the request.
 pub fn torn_commits_move()
     ensures part { TornPartIsAlike }
     ensures last { LastBlockDecides }
@@ -123,16 +126,16 @@ pub fn torn_commits_move()
     ensures journal { TornCommitAdvances }
 {}
 
-/// At any moment of commits in turn those that were answered are there. After any number of power losses, with
-/// commits between them, the medium recovers to the state after the whole ones, and to no other. A run's laws hold with
-/// power losses in it.
+/// At any moment of a sequence of commits, those that were answered are there. After any number of power losses, with
+/// commits between them, the medium recovers to the state after the complete ones, and to no other. The laws of a run
+/// also hold with power losses in it.
 pub fn commits_endure()
     ensures answered { AnsweredEndure }
     ensures turns { CommitsEndure }
     ensures runs { TornCommitRuns }
 {}
 
-/// So of a format whose last block goes out alone: the medium recovers to nothing, or to the new volume.
+/// The same holds of a format whose last block is written alone: the medium recovers to nothing, or to the new volume.
 pub fn torn_formats_stand()
     ensures part { TornFormatIsNothing }
     ensures recovers { TornFormatRecovers }

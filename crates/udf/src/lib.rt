@@ -1,11 +1,11 @@
-//! The byte formats of this profile of UDF as those that `durability`'s laws ask for, and the laws by them.
+//! The byte formats of this profile of UDF, as the laws of `durability` ask for them, and these laws for the formats.
 //!
-//! Nothing here runs. `specs/Udf` puts the codecs' relations together: a file entry and the file set of `icb`, a directory
-//! of `dir`, a table of `vat`, a prefix of `volume`, each in the words of `model` and `durability`. The laws say that these
-//! formats are exact, bounded, distinct and short, and what then holds of every medium and of every commit. `specs/Said`
-//! says what the codecs read in the same words.
+//! Nothing here runs. `specs/Udf` puts the codecs' relations together: a file entry and the file set of `icb`, a
+//! directory of `dir`, a table of `vat`, and the volume header of `volume`, each in the terms of `model` and
+//! `durability`. The laws say that these formats are exact, bounded, distinct and short, and what then holds of every
+//! medium and of every commit. `specs/Said` describes what the codecs read in the same terms.
 //!
-//! Which calls write these blocks, and which read them back, is left to the crates above.
+//! Left to others: which calls write these blocks, and which read them back.
 #![tactic(auto)]
 
 mod laws;

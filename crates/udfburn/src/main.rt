@@ -1,4 +1,4 @@
-//! The program `udfburn`: `programs::command_on` over files, on the words and the streams of the process.
+//! The program `udfburn`: `programs::run_command` over files, with the words and the streams of the process.
 #![tactic(auto)]
 
 use media::FileMedia;

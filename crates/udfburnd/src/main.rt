@@ -1,4 +1,4 @@
-//! The program `udfburnd`: `programs::daemon_on` over files and a socket, on the words of the process.
+//! The program `udfburnd`: `programs::run_daemon` over files and a socket, with the words of the process.
 #![tactic(auto)]
 
 use media::FileMedia;

@@ -1,3 +1,5 @@
+//! Reading tables.
+
 ghost use Rattle.limits.specs.declared.TheConstants.{TABLE_HEAD_BYTES};
 ghost use Rattle.std.specs.Prelude.{◌≡◌, ◌≤◌, ◌+◌, ◌*◌, ◌/◌, ◌⊎◌, ℕ, IfErr, IfOk, OnOk, MatchResult, length, map};
 ghost use Rattle.ecma.specs.FirstFault.{IsFirst, AllHold};
@@ -20,13 +22,13 @@ use ecma::u32_at;
 use osta::Label;
 use std::alloc::{AllocError, Global};
 
-/// The table that the bytes spell, whose VAT ICB has block number `icb`.
+/// The table that the bytes encode, whose VAT ICB has block number `icb`, or the first fault.
 pub fn decode_vat(alloc: Global, bytes: &[u8], icb: u32) -> Result<Vat, VatFault>
     // What is read is the table of these bytes.
     ensures found { IfOk result (λ vat. IsTableAt icb (view vat) bytes.now) }
-    // A table is read, where there is memory for it.
+    // A table is read if there is memory for it.
     ensures only { (t : Table) → IsTableAt icb t bytes.now → MatchResult result (λ vat. view vat ≡ t) (λ e. e ≡ VatFault.Memory) }
-    // A fault is the first, and lack of memory is reported only where there is none.
+    // A fault is the first one. Lack of memory is reported only if there is no fault.
     ensures fault { IfErr result (λ e. IsFirst (table_rules icb bytes.now) e ⊎ ((e ≡ VatFault.Memory) × AllHold (table_rules icb bytes.now))) }
 {
     examine(bytes, icb)?;
@@ -89,7 +91,7 @@ fn read(alloc: Global, bytes: &[u8]) -> Result<Vat, AllocError>
     })
 }
 
-/// The block number that a number stands for.
+/// The block number that a number of a table stands for. `None` for an unused one.
 fn entry(number: u32) -> Option<u32>
     ensures { result ≡ number_entry number }
 {
@@ -114,7 +116,7 @@ fn read_records(alloc: Global, bytes: &[u8]) -> Result<Vec<Record>, AllocError>
     Ok(records)
 }
 
-/// What the table has for each virtual address.
+/// The block number of each virtual address.
 fn read_entries(alloc: Global, text: &[u8]) -> Result<Vec<Option<u32>>, AllocError>
     ensures { IfOk result (λ entries. entries.items ≡ map number_entry (words text.now)) }
 {
@@ -123,7 +125,7 @@ fn read_entries(alloc: Global, text: &[u8]) -> Result<Vec<Option<u32>>, AllocErr
     Ok(entries)
 }
 
-/// Puts them in their places.
+/// Writes the block numbers over `entries`.
 fn fill_entries(entries: &mut [Option<u32>], text: &[u8])
     requires { length entries.old ≡ length text.now / 4 }
     ensures { entries.new ≡ map number_entry (words text.now) }

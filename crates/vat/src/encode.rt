@@ -1,3 +1,5 @@
+//! Writing tables.
+
 ghost use Rattle.limits.specs.declared.TheConstants.{ADDRESSES, CLIENTS};
 ghost use Rattle.std.specs.Prelude.{◌≡◌, ◌*◌, ◌≤◌, ◌++◌, length, All, IfOk, OnOk};
 ghost use Rattle.std.specs.List.{flat_map};
@@ -14,16 +16,16 @@ use ecma::{Field, write_fields};
 use limits::{RECORD_BYTES, TABLE_HEAD_BYTES};
 use std::alloc::{AllocError, Global};
 
-/// The number in the place of a virtual address that is unused, and of an entry before the first.
+/// The number for an unused virtual address, and for the previous VAT ICB of the first table (UDF 2.01 2.2.10).
 pub(crate) const UNUSED: u32 = u32::MAX;
 
-/// The revision of UDF, three times over.
+/// The revision of UDF, 2.01, which the header has three times.
 pub(crate) const REVISION: u16 = 0x0201;
 
-/// The flags and the text of the sessions' entity identifier (ECMA-167 1/7.4); zeros fill it up.
+/// The flags and the text of the sessions' entity identifier (ECMA-167 1/7.4). Its other bytes are zeros.
 pub(crate) const SESSIONS: &[u8; 18] = b"\x00*udfburn sessions";
 
-/// The one spelling of a table.
+/// The bytes of a table. There is one encoding of each table.
 pub fn encode_vat(alloc: Global, vat: &Vat) -> Result<Vec<u8>, AllocError>
     requires { FitsTable (view vat.now) }
     ensures { IfOk result (λ bytes. bytes.items ≡ table_bytes (view vat.now)) }
@@ -39,7 +41,7 @@ pub fn encode_vat(alloc: Global, vat: &Vat) -> Result<Vec<u8>, AllocError>
     Ok(out)
 }
 
-/// Writes the records at the end.
+/// Appends the records.
 fn put_records(out: &mut Vec<u8>, version: Version, records: &[Record]) -> Result<(), AllocError>
     requires { All (HasRoom version) records.now }
     ensures { OnOk result (out.new.items ≡ out.old.items ++ flat_map (spec.record_bytes version) records.now) }
@@ -51,7 +53,7 @@ fn put_records(out: &mut Vec<u8>, version: Version, records: &[Record]) -> Resul
     Ok(())
 }
 
-/// Writes what the table has for each virtual address at the end.
+/// Appends the block number of each virtual address.
 fn put_entries(out: &mut Vec<u8>, entries: &[Option<u32>]) -> Result<(), AllocError>
     requires { length entries.now ≤ ADDRESSES }
     ensures { OnOk result (out.new.items ≡ out.old.items ++ flat_map entry_bytes entries.now) }
@@ -62,7 +64,7 @@ fn put_entries(out: &mut Vec<u8>, entries: &[Option<u32>]) -> Result<(), AllocEr
     Ok(())
 }
 
-/// Writes what the table has for each virtual address, over the bytes.
+/// Writes the block number of each virtual address over `into`.
 fn write_entries(entries: &[Option<u32>], into: &mut [u8])
     requires { length into.old ≡ 4 * length entries.now }
     ensures { into.new ≡ flat_map entry_bytes entries.now }
@@ -74,14 +76,14 @@ fn write_entries(entries: &[Option<u32>], into: &mut [u8])
     }
 }
 
-/// The number that stands for a block number that there may be.
+/// The number that stands for a block number, or for none.
 fn number_of(entry: Option<u32>) -> u32
     ensures { result ≡ entry_number entry }
 {
     entry.unwrap_or(UNUSED)
 }
 
-/// What is before the records.
+/// The bytes before the records.
 fn head(vat: &Vat) -> [u8; TABLE_HEAD_BYTES]
     requires { length vat.now.sessions.records.items ≤ CLIENTS }
     ensures { result ≡ head_bytes (view vat.now) }
@@ -116,7 +118,7 @@ fn head(vat: &Vat) -> [u8; TABLE_HEAD_BYTES]
     head
 }
 
-/// A record in version 2. Where it keeps one reply, version 1 has the first 24 bytes.
+/// A record in version 2. If it keeps one reply, the first 24 bytes are the record in version 1.
 pub(crate) fn record_bytes(kept: &Record) -> [u8; RECORD_BYTES]
     ensures { result ≡ spec.record_bytes Version.Two kept.now }
 {

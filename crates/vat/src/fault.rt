@@ -8,9 +8,9 @@ use std::alloc::AllocError;
 /// Why bytes are no virtual allocation table, in the order in which the faults are reported.
 #[derive(Clone, Copy, Debug, PartialEq, Eq)]
 pub enum VatFault {
-    /// A length, the reserved field, or the number of the entry before.
+    /// A length, the reserved field, or the block number of the previous VAT ICB.
     Header,
-    /// The label is no dstring of a label.
+    /// The label is not the dstring of a label.
     Label,
     /// A revision of UDF is not 2.01.
     Version,
@@ -20,9 +20,9 @@ pub enum VatFault {
     ClientTwice,
     /// An entry is neither unused nor below the VAT ICB, or that of the file set or the root is unused.
     Entry,
-    /// The count of entries or of used ones, or the next unique ID.
+    /// How many entries there are, how many of them are used, or the next unique ID.
     Count,
-    /// There was no memory for the table. The bytes are one.
+    /// There was no memory for the table. The bytes are a table.
     Memory,
 }
 
@@ -30,7 +30,7 @@ impl VatFault {
     ghost use Rattle.std.specs.Prelude.{◌≡◌};
     ghost use Rattle.vat.specs.Rules.{number_of_fault};
 
-    /// The number that a listing of damages shows, from 41 to 47; 65 for lack of memory.
+    /// The number that causes of refusals show, from 41 to 47, and 65 for lack of memory.
     pub fn number(self) -> u8
         ensures { result ≡ number_of_fault self }
     {

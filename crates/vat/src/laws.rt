@@ -2,7 +2,8 @@
 
 ghost use Rattle.vat.specs.Laws.{OneTable, NodesHaveEntries, TakesSoMany, IsValidLater};
 
-/// Bytes are one table at most; it is bounded, takes so many bytes, and stands for later entries too.
+/// Bytes are at most one table. Its counts are bounded, its size follows from them, and it is also valid for a later
+/// VAT ICB.
 pub fn tables()
     ensures one { OneTable }
     ensures bounded { NodesHaveEntries }

@@ -1,9 +1,9 @@
-//! The virtual allocation table of a write-once volume (UDF 2.01 2.2.10), the sessions that it keeps in
-//! its implementation use, and places for data.
+//! The virtual allocation table of a write-once volume (UDF 2.01 2.2.10), the sessions in its implementation use, and
+//! places for data.
 //!
-//! Promised: a table has one spelling, `encode_vat` writes it and `decode_vat` reads exactly it, and otherwise
-//! reports the first fault; `is_vat_icb` knows a VAT ICB by its whole descriptor, its location
-//! and its check among it; `clear_start` gives the least start from which data shows no such entry.
+//! Promised: a table has one encoding. `encode_vat` writes it, and `decode_vat` reads exactly it, and otherwise reports
+//! the first fault. `is_vat_icb` recognizes a VAT ICB by its whole descriptor, including its location and its CRC.
+//! `clear_start` returns the least start at which no block of some data would be a VAT ICB.
 //!
 //! Left to others: that a table agrees with the tree that it leads to, the chain of earlier tables, and
 //! which request is due.

@@ -1,4 +1,4 @@
-//! Where data may be: where none of its blocks looks like a VAT ICB.
+//! Places for data: those at which no block of the data would be a VAT ICB.
 
 ghost use Rattle.limits.specs.declared.TheConstants.{BLOCK_BYTES, FILE_BYTES, PARTITION_BLOCKS};
 ghost use Rattle.std.specs.Prelude.{◌≡◌, ℕ, ◌+◌, ◌*◌, ◌<◌, ◌≤◌, ◌↔◌, length, take, drop, IsTrue};
@@ -14,7 +14,7 @@ use limits::BLOCK_SIZE;
 /// Where a descriptor's tag has its location (ECMA-167 4/7.2.8).
 const LOCATION: usize = 12;
 
-/// Whether the block is the entry of a virtual allocation table for this block number.
+/// Whether the block is a VAT ICB at this block number.
 pub fn is_vat_icb(block: &Block, number: u32) -> bool
     ensures { IsTrue result ↔ IsVatIcb block.now number }
 {
@@ -24,8 +24,9 @@ pub fn is_vat_icb(block: &Block, number: u32) -> bool
     }
 }
 
-/// The least block number from `from` on at which the data can begin, so that no block of it, the last one
-/// filled up with zeros, is the entry of a virtual allocation table for the number at which it would be.
+/// The least block number from `from` on at which data can begin so that none of their blocks would be a VAT ICB where
+/// it would be. The last block is filled up with zeros. The result is at most `from` and the number of blocks of the
+/// data: each block is a VAT ICB at one number only, so each rules out one start at most.
 pub fn clear_start(bytes: &[u8], from: u32) -> u32
     requires size { length bytes.now ≤ FILE_BYTES }
     requires place { from ≤ PARTITION_BLOCKS }
@@ -43,7 +44,7 @@ pub fn clear_start(bytes: &[u8], from: u32) -> u32
     from + blocks
 }
 
-/// Whether some block of data that begins there is a VAT ICB.
+/// Whether some block of data that begin at `start` would be a VAT ICB.
 fn imitates(bytes: &[u8], start: u32) -> bool
     requires size { length bytes.now ≤ FILE_BYTES }
     requires place { start ≤ 1_000_000 }
@@ -57,7 +58,7 @@ fn imitates(bytes: &[u8], start: u32) -> bool
     false
 }
 
-/// What a block of the data has, fewer bytes in the last one.
+/// The bytes of a block of the data. The last one may have fewer.
 fn block_text(bytes: &[u8], i: usize) -> &[u8]
     requires { BLOCK_BYTES * i ≤ length bytes.now }
     ensures value { result.now ≡ take BLOCK_BYTES (drop (BLOCK_BYTES * i) bytes.now) }
@@ -68,7 +69,8 @@ fn block_text(bytes: &[u8], i: usize) -> &[u8]
     text
 }
 
-/// Whether a block with this text and zeros after it is a VAT ICB.
+/// Whether a block with these bytes, and zeros after them, is a VAT ICB at this block number. The location in the tag
+/// is compared first, since that rules out nearly every block.
 fn is_entry(text: &[u8], number: u32) -> bool
     requires { length text.now ≤ BLOCK_BYTES }
     ensures { IsTrue result ↔ IsVatIcb (padded text.now) number }
@@ -79,7 +81,7 @@ fn is_entry(text: &[u8], number: u32) -> bool
     is_padded_entry(text, number)
 }
 
-/// The same, with the block made.
+/// The same as `is_entry`, for a block that may have the right location.
 fn is_padded_entry(text: &[u8], number: u32) -> bool
     requires { length text.now ≤ BLOCK_BYTES }
     ensures { IsTrue result ↔ IsVatIcb (padded text.now) number }

@@ -1,4 +1,4 @@
-//! What is kept of a client.
+//! What a table keeps of a client.
 
 ghost use Rattle.std.specs.Prelude.{◌≡◌, ◌+◌, ◌-◌, ◌<◌, ◌≤◌, List, ◌∷◌, [], ◌++◌, length, take, drop, replicate, slice_get, Some, IfSome, IfNone, slice_index};
 ghost use Rattle.vat.specs.Reply as spec;
@@ -6,16 +6,16 @@ ghost use Rattle.vat.specs.Reply as spec;
 use limits::KEPT_REPLIES;
 use std::marker::Model;
 
-/// What a request was answered.
+/// How a request was answered.
 #[derive(Clone, Copy, Debug, PartialEq, Eq)]
 pub struct Reply {
-    /// From 0 to 10.
+    /// The code, from 0 to 10.
     pub code: u16,
     /// The number of the request's commit, from 1 on.
     pub commit: u32,
 }
 
-/// The bytes of a reply that is not kept.
+/// What is in the place of a reply that is not kept.
 const NOTHING: Reply = Reply { code: 0, commit: 0 };
 
 /// The last replies to a client, the newest first: one to four.
@@ -53,7 +53,7 @@ impl Replies {
         }
     }
 
-    /// The replies with a newer one, which puts the fifth out.
+    /// The replies with a newer one before them. Only the newest four are kept.
     pub fn with(self, reply: Reply) -> Replies
         ensures { result ≡ take KEPT_REPLIES (reply ∷ self) }
     {
@@ -84,7 +84,7 @@ impl Replies {
         self.kept
     }
 
-    /// The replies before the first of the places that has no commit, if there are any.
+    /// The replies before the first place that has no commit. `None` if there are none.
     pub(crate) fn read(places: [Reply; KEPT_REPLIES]) -> Option<Replies>
         ensures some { IfSome result (λ replies. replies ≡ spec.replies_in places) }
         ensures none { IfNone result (spec.replies_in places ≡ []) }
@@ -114,7 +114,7 @@ impl Replies {
         })
     }
 
-    /// The reply that so many newer ones follow, if it is kept.
+    /// The reply after which there are `newer` newer ones, if it is kept.
     pub fn get(&self, newer: usize) -> Option<Reply>
         ensures { result ≡ slice_get self.now newer }
     {
@@ -132,9 +132,9 @@ impl Replies {
 /// What is kept of a client: its latest request number and the replies to its last requests.
 #[derive(Clone, Copy, Debug, PartialEq, Eq)]
 pub struct Record {
-    /// From 1 on.
+    /// The client's number, from 1 on.
     pub client: u64,
-    /// From 1 on, and no less than there are replies.
+    /// Its latest request number, from 1 on, and at least the number of replies.
     pub latest: u64,
     pub replies: Replies,
 }

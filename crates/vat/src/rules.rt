@@ -1,4 +1,4 @@
-//! The rules that bytes keep which are a table, and the records in them.
+//! The rules that bytes must keep to be a table, and the records in them.
 
 ghost use Rattle.std.specs.Prelude.{◌≡◌, ◌≢◌, ◌⊎◌, ℕ, ◌+◌, ◌-◌, ◌*◌, ◌%◌, ◌<◌, ◌≤◌, ◌↔◌, length, take, drop, IsTrue, IfSome, IfNone, slice_index};
 ghost use Rattle.ecma.specs.Numbers as read;
@@ -23,7 +23,7 @@ use ecma::{Field, are_fields_at, u16_at, u32_at, u64_at};
 use limits::{ADDRESSES, CLIENTS, FIRST_UNIQUE, TABLE_HEAD_BYTES};
 use osta::Label;
 
-/// The version of the sessions. Lengths of a version that is unknown are computed as those of the first.
+/// The version of the sessions. For an unknown version, lengths are computed as for the first.
 pub(crate) fn version(bytes: &[u8]) -> Version
     requires { TABLE_HEAD_BYTES ≤ length bytes.now }
     ensures { result ≡ rule.version_at bytes.now }
@@ -111,7 +111,7 @@ pub(crate) fn record_text(bytes: &[u8], i: usize) -> &[u8]
     text
 }
 
-/// The reply that is at a place of a record.
+/// The reply at a place of a record.
 fn reply_at(text: &[u8], at: usize) -> Reply
     requires { at + 8 ≤ length text.now }
     ensures { result ≡ rule.reply_at at text.now }
@@ -122,7 +122,7 @@ fn reply_at(text: &[u8], at: usize) -> Reply
     }
 }
 
-/// What is in the places of replies, in those that there are.
+/// What is in the places for replies that a record of this version has.
 fn places_at(version: Version, text: &[u8]) -> [Reply; 4]
     requires { length text.now ≡ versions.record_size version }
     ensures { result ≡ rule.places_in version text.now }
@@ -140,7 +140,7 @@ fn places_at(version: Version, text: &[u8]) -> [Reply; 4]
     }
 }
 
-/// The record that the bytes spell, if they do, where there were so many commits.
+/// The record that the bytes encode, in a table of this many commits. `None` if they encode none.
 pub(crate) fn read_record(version: Version, commits: u32, text: &[u8]) -> Option<Record>
     requires { length text.now ≡ versions.record_size version }
     ensures some { IfSome result (λ kept. IsKept version commits kept × (text.now ≡ spec.record_bytes version kept)) }
@@ -163,7 +163,7 @@ pub(crate) fn read_record(version: Version, commits: u32, text: &[u8]) -> Option
     Some(kept)
 }
 
-/// Whether the record may be kept after so many commits.
+/// Whether a table of this many commits may keep the record.
 fn is_kept(version: Version, commits: u32, kept: &Record) -> bool
     ensures { IsTrue result ↔ IsKept version commits kept.now }
 {
@@ -183,7 +183,7 @@ fn is_kept(version: Version, commits: u32, kept: &Record) -> bool
     are_replies(commits, replies)
 }
 
-/// Whether a client can have been answered these replies up to a commit, the newest first.
+/// Whether these can be the replies to a client up to a commit, the newest first.
 fn are_replies(commits: u32, replies: &[Reply]) -> bool
     ensures { IsTrue result ↔ AreReplies commits replies.now }
 {
@@ -248,7 +248,7 @@ fn client_at(bytes: &[u8], i: usize) -> u64
     u64_at(bytes, TABLE_HEAD_BYTES + version(bytes).record_size() * i)
 }
 
-/// Whether the client of a record has none before it.
+/// Whether no record before this one is of the same client.
 fn is_new_client(bytes: &[u8], j: usize) -> bool
     requires long { TABLE_HEAD_BYTES ≤ length bytes.now }
     requires there { rule.record_place bytes.now j + rule.record_size_at bytes.now ≤ length bytes.now }

@@ -1,4 +1,4 @@
-//! What a table says.
+//! The content of a table.
 
 ghost use Rattle.std.specs.Prelude.{◌≡◌};
 ghost use Rattle.vat.specs.Version as spec;
@@ -7,7 +7,7 @@ use crate::record::Record;
 use limits::{KEPT_REPLIES, RECORD_BYTES};
 use osta::Label;
 
-/// The version of the sessions, which gives the room for replies in a record.
+/// The version of the sessions, which determines how many replies a record has room for.
 #[derive(Clone, Copy, Debug, PartialEq, Eq)]
 pub enum Version {
     /// A record keeps one reply.
@@ -60,27 +60,28 @@ impl Version {
 /// The clients' sessions, as the table keeps them in its implementation use.
 #[derive(Debug, Drop)]
 pub struct Sessions {
-    /// `One` only where every record has one reply.
+    /// `One` only if every record has one reply.
     pub version: Version,
     /// The unique ID that the next node gets, from 16 on.
     pub next_unique: u32,
     /// How many commits there were.
     pub commits: u32,
-    /// In order of the clients' first commits, at most 64, each client once.
+    /// The records of the clients, in the order of their first commits: at most 64, and each client once.
     pub records: Vec<Record>,
 }
 
-/// A virtual allocation table, without its own entry (UDF 2.01 2.2.10).
+/// A virtual allocation table, without its VAT ICB (UDF 2.01 2.2.10).
 #[derive(Debug, Drop)]
 pub struct Vat {
-    /// The volume's.
+    /// The label of the volume.
     pub label: Label,
-    /// The block number of the entry of the table before; `None` in the first, whose commit count is 0.
+    /// The block number of the previous VAT ICB. `None` in the first table, whose count of commits is 0.
     pub previous: Option<u32>,
+    /// How many files the tree has.
     pub files: u32,
-    /// The root counted.
+    /// How many directories the tree has, including the root.
     pub directories: u32,
     pub sessions: Sessions,
-    /// For each virtual address the block number that it stands for, `None` where it is unused: 2 to 4,097.
+    /// For each virtual address the block number that it stands for, or `None` if it is unused: 2 to 4,097 of them.
     pub entries: Vec<Option<u32>>,
 }

@@ -11,10 +11,11 @@ use request::{
 use std::alloc::Global;
 use words::{number, read_bytes};
 
-/// What is said of an answer that is none.
+/// The trouble with words that are no answer.
 const NO_ANSWER: Trouble = Trouble::Line("no such answer");
 
-/// Whether the bytes are the frame of the answer that the words say: these again, or the bytes that it has.
+/// Compares the bytes with the frame of the answer in the words. Returns these words if they are equal, and otherwise
+/// the bytes of that frame.
 pub fn frame(alloc: Global, bytes: &[u8], said: &str) -> Result<String, Trouble> {
     let words: Vec<&str> = said.split_whitespace().collect(alloc)?;
     let out = encoded(alloc, &words)?;
@@ -24,7 +25,7 @@ pub fn frame(alloc: Global, bytes: &[u8], said: &str) -> Result<String, Trouble>
     shown(alloc, out.get(1..).unwrap_or(&[]))
 }
 
-/// The frame of an answer, after a byte that stays.
+/// The frame of an answer, appended to a byte that must stay.
 fn encoded(alloc: Global, words: &[&str]) -> Result<Vec<u8>, Trouble> {
     let answer = read_answer(alloc, words)?;
     let mut out = vec![in alloc; 9u8]?;

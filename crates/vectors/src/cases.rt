@@ -8,7 +8,7 @@ use words::{Line, number, read_word};
 /// The bytes of a block.
 const BLOCK: usize = 2048;
 
-/// What is said of a line that is none.
+/// The trouble with words that are no line.
 const NO_LINE: Trouble = Trouble::Line("no such line");
 
 /// Bytes that a name stands for.
@@ -25,7 +25,7 @@ struct Spoken {
     text: String,
 }
 
-/// What was read of a file so far: the names, and the case that is under way.
+/// What was read of a file so far: the names, and the current case.
 #[derive(Drop)]
 pub struct Reader {
     alloc: Global,
@@ -37,6 +37,7 @@ pub struct Reader {
 }
 
 impl Reader {
+    /// A reader that has read nothing yet.
     pub fn new(alloc: Global) -> Reader {
         Reader {
             alloc,
@@ -48,7 +49,7 @@ impl Reader {
         }
     }
 
-    /// The name of the case that is under way.
+    /// The name of the current case.
     pub fn name(&self) -> &str {
         self.case.as_str()
     }
@@ -58,7 +59,7 @@ impl Reader {
         self.cases
     }
 
-    /// Reads a line. It says whether the line has an answer, which is compared.
+    /// Reads a line. If it has an answer, that is compared. Returns whether it has one.
     pub fn line(&mut self, line: &Line) -> Result<bool, Trouble> {
         if let Some((question, wanted)) = line.text.split_once("->") {
             self.compare(question, wanted)?;
@@ -101,7 +102,8 @@ impl Reader {
         Ok(())
     }
 
-    /// Appends the bytes that the words say. `..` is zeros up to the end of the block, and `{front}` what that name stands for.
+    /// Appends the bytes of the words. `..` is zeros up to the end of the block, and `{front}` is what that name stands
+    /// for.
     fn read(&self, words: &[&str], into: &mut Vec<u8>) -> Result<(), Trouble> {
         for word in words {
             match word
@@ -146,7 +148,7 @@ impl Reader {
         Ok(())
     }
 
-    /// The words of an answer, with those for which there are names in braces.
+    /// The words of an answer, with each name in braces replaced by its words.
     fn answer(&self, text: &str) -> Result<String, Trouble> {
         let mut out = String::new(self.alloc);
         for word in text.split_whitespace() {
@@ -178,7 +180,7 @@ impl Reader {
         Ok(())
     }
 
-    /// Puts other bytes in the place of a block, with zeros after them.
+    /// Replaces a block by these bytes, with zeros after them.
     fn put(&mut self, address: usize, words: &[&str]) -> Result<(), Trouble> {
         let mut block = Vec::new(self.alloc);
         self.read(words, &mut block)?;
@@ -193,7 +195,7 @@ impl Reader {
         Ok(())
     }
 
-    /// One bit is changed in a byte of a block, or in each of several in turn.
+    /// Has one bit changed in a byte of a block, or in each of several bytes in turn.
     fn flip(&mut self, block: usize, places: &str) -> Result<(), Trouble> {
         let (from, until) = match places.split_once("..") {
             Some((from, until)) => (number(from)?, number(until)?),
@@ -207,7 +209,7 @@ impl Reader {
         Ok(())
     }
 
-    /// Compares what a question is answered with what the line has.
+    /// Compares the answer to a question with that of the line.
     fn compare(&mut self, question: &str, wanted: &str) -> Result<(), Trouble> {
         let wanted = self.answer(wanted)?;
         let Some((from, until)) = self.medium.flips else {

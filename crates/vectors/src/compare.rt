@@ -6,20 +6,21 @@ use ecma::Block;
 use std::alloc::Global;
 use words::{number, show_bytes};
 
-/// What is said of a question that is none.
+/// The trouble with words that are no question.
 pub const NO_QUESTION: Trouble = Trouble::Line("no such question");
 
-/// The bytes of a case, and the drive on which they lie where they are a medium.
+/// The bytes of a case, and what else there is to a drive if they are those of a medium.
 #[derive(Drop)]
 pub struct Medium {
     pub bytes: Vec<u8>,
     /// How many blocks the drive has room for.
     pub capacity: u32,
-    /// The bytes that are changed in turn, from one place to before another.
+    /// The bytes that are changed in turn, from the first place to before the second.
     pub flips: Option<(usize, usize)>,
 }
 
 impl Medium {
+    /// A medium without bytes, on a drive of the greatest capacity.
     pub fn new(alloc: Global) -> Medium {
         Medium {
             bytes: Vec::new(alloc),
@@ -29,7 +30,7 @@ impl Medium {
     }
 }
 
-/// What is answered to a question. The wanted answer is given to those that go from an answer to bytes alone.
+/// The answer to a question. Only those questions that go from an answer to bytes use the expected one.
 pub fn answer(
     alloc: Global,
     medium: &Medium,
@@ -125,12 +126,12 @@ pub fn words_of(alloc: Global, text: &str) -> Result<String, Trouble> {
     Ok(String::from_str(alloc, text)?)
 }
 
-/// The answer that is a fault of this number.
+/// The answer for a fault of this number.
 pub fn fault(alloc: Global, number: u8) -> Result<String, Trouble> {
     Ok(format!(in alloc; "fault {number}")?)
 }
 
-/// The answer that is bytes.
+/// The answer for bytes.
 pub fn shown(alloc: Global, bytes: &[u8]) -> Result<String, Trouble> {
     let mut out = String::new(alloc);
     show_bytes(bytes, &mut out)?;

@@ -12,7 +12,7 @@ use std::alloc::Global;
 use std::fmt::Write;
 use words::number;
 
-/// What the directory says whose data of so many bytes begins at a block number.
+/// The directory whose data begin at the block number of the first word, with the size of the second.
 pub fn directory(alloc: Global, bytes: &[u8], words: &[&str]) -> Result<String, Trouble> {
     let [first, size] = words else {
         return Err(NO_QUESTION);
@@ -28,7 +28,7 @@ fn directory_at(alloc: Global, bytes: &[u8], first: u32, size: u32) -> Result<St
     }
 }
 
-/// What a directory says that must be laid as these blocks.
+/// The words of a directory, which must be laid as these blocks.
 fn told_if_laid(
     alloc: Global,
     dir: &Dir,
@@ -78,7 +78,7 @@ fn read(
     }
 }
 
-/// How many bytes the data of a directory has, by its names alone.
+/// The size of the data of a directory, from its names alone.
 fn size_of(dir: &Dir) -> Option<u32> {
     let mut sum = DataSize::new();
     for (name, _) in &dir.entries {
@@ -105,8 +105,8 @@ fn lays(alloc: Global, dir: &Dir, first: u32, blocks: &[Block]) -> Result<bool, 
     Ok(laid.as_slice() == blocks && left.next_block().is_none())
 }
 
-/// The size of the data of a directory of files and the check of its blocks. It has so many names of so many letters at least,
-/// each the letter `x` and then the name's number, from 0 on.
+/// The size of the data of a directory of files, and the CRC of its blocks. The words are the count of its names, the
+/// least length of each, and the number of the first block. Each name is letters `x` and then its number, from 0 on.
 pub fn numbered(alloc: Global, words: &[&str]) -> Result<String, Trouble> {
     let [count, letters, first] = words else {
         return Err(NO_QUESTION);

@@ -9,7 +9,7 @@ use std::alloc::Global;
 use std::fmt::Write;
 use words::show_bytes;
 
-/// The block that the bytes are, where they are no more.
+/// The block of these bytes, which must be no more than one.
 fn only_block(bytes: &[u8]) -> Result<Block, Trouble> {
     if bytes.len() > 2048 {
         return Err(Trouble::Line("more than a block"));
@@ -47,7 +47,7 @@ fn tell_entry(entry: &FileEntry<'_>, out: &mut String) -> Result<(), Trouble> {
     tell_place(&entry.place, out)
 }
 
-/// Where the data of a file entry lies.
+/// Where the data of a file entry are.
 fn tell_place(place: &Place<'_>, out: &mut String) -> Result<(), Trouble> {
     match *place {
         Place::None => out.push_str("nowhere")?,

@@ -1,4 +1,4 @@
-//! Fronts: blocks 0 to 256 of a volume (ECMA-167 2/9.1 and 3/10, UDF 2.01 2.2).
+//! Volume headers: blocks 0 to 256 of a volume (ECMA-167 2/9.1 and 3/10, UDF 2.01 2.2).
 
 use crate::compare::{blocks_of, words_of};
 use crate::texts::tell_label;
@@ -22,7 +22,7 @@ pub fn front(alloc: Global, bytes: &[u8]) -> Result<String, Trouble> {
     }
 }
 
-/// What a front says, where it is written as these blocks.
+/// What a volume header says, which must be written as these blocks.
 fn told(alloc: Global, front: &Front, blocks: &[Block]) -> Result<String, Trouble> {
     if front.capacity < 512 || front.capacity > 450_000 {
         return words_of(alloc, "no capacity");

@@ -1,8 +1,8 @@
-//! A comparison of the codecs with vectors: bytes, and what they say or why they say nothing.
+//! A comparison of the codecs with vectors: bytes, and what they encode or why they are refused.
 //!
-//! Each file that is named by a word of the program has cases; docs/VECTORS.md says their form. Each file gets a line with its
-//! counts, and each answer that differs a line before it; the status is 1 where one differs. A value that is read is also
-//! written again, and must give the same bytes.
+//! The words of the program name files of cases. Their form is in docs/VECTORS.md. Each file gets a line with its
+//! counts, and before it a line for each answer that differs. The status is 1 if one differs, or if there was none. A
+//! value that is read is also written again, and must give the same bytes.
 #![tactic(auto)]
 
 mod answers;

@@ -8,7 +8,7 @@ use std::fmt::Write;
 use std::str;
 use words::show_bytes;
 
-/// Streams up to this length are cut into two pieces at each place.
+/// Streams of at most this length are also cut into pieces of every size.
 const SHORT: usize = 128;
 
 /// What the payload of a frame says.
@@ -65,7 +65,7 @@ fn tell_op(op: &Op<'_>, out: &mut String) -> Result<(), Trouble> {
     }
 }
 
-/// The names of a path; the root has none.
+/// The names of a path. The root has none.
 fn tell_path(word: &str, path: &Path, out: &mut String) -> Result<(), Trouble> {
     out.push_str(word)?;
     for name in path.names() {
@@ -75,7 +75,7 @@ fn tell_path(word: &str, path: &Path, out: &mut String) -> Result<(), Trouble> {
     Ok(())
 }
 
-/// The messages of a stream, however it is cut: whole, byte by byte, and where it is short in any two pieces.
+/// The messages of a stream, however it is cut: whole, byte by byte, and if it is short, in pieces of every size.
 pub fn frames(alloc: Global, bytes: &[u8]) -> Result<String, Trouble> {
     let whole = fed(alloc, bytes, bytes.len())?;
     if fed(alloc, bytes, 1)? != whole {
@@ -91,7 +91,7 @@ pub fn frames(alloc: Global, bytes: &[u8]) -> Result<String, Trouble> {
     Ok(whole)
 }
 
-/// The messages of a stream in pieces of so many bytes.
+/// The messages of a stream in pieces of `size` bytes.
 fn fed(alloc: Global, bytes: &[u8], size: usize) -> Result<String, Trouble> {
     let mut text = String::new(alloc);
     let mut frames = Frames::new(alloc);
@@ -105,7 +105,7 @@ fn fed(alloc: Global, bytes: &[u8], size: usize) -> Result<String, Trouble> {
     Ok(text)
 }
 
-/// The messages that are whole.
+/// Appends the messages that are complete.
 fn tell_frames(frames: &mut Frames, out: &mut String) -> Result<(), Trouble> {
     for _ in 0..u32::MAX {
         let Some(message) = frames.first() else {
@@ -118,7 +118,7 @@ fn tell_frames(frames: &mut Frames, out: &mut String) -> Result<(), Trouble> {
     Ok(())
 }
 
-/// A message after those that are told.
+/// Appends a message after the others.
 fn tell_next(message: &Message<'_>, out: &mut String) -> Result<(), Trouble> {
     if !out.is_empty() {
         out.push_str(" ; ")?;
@@ -126,7 +126,7 @@ fn tell_next(message: &Message<'_>, out: &mut String) -> Result<(), Trouble> {
     tell(message, out)
 }
 
-/// The names of a path by its text.
+/// The names of the path that is read from a text.
 pub fn path(alloc: Global, bytes: &[u8]) -> Result<String, Trouble> {
     let Ok(text) = str::from_utf8(bytes) else {
         return Err(Trouble::Line("no text"));

@@ -1,4 +1,4 @@
-//! Tags, checks, timestamps and the fields of descriptors (ECMA-167 1/7, 3/7).
+//! Tags, CRCs, timestamps and the fields of descriptors (ECMA-167 1/7, 3/7).
 
 use crate::compare::{NO_QUESTION, fault, shown, words_of};
 use crate::trouble::Trouble;
@@ -8,12 +8,12 @@ use ecma::{
 use std::alloc::Global;
 use words::{number, read_word};
 
-/// The check of the bytes.
+/// The CRC of the bytes.
 pub fn check(alloc: Global, bytes: &[u8]) -> Result<String, Trouble> {
     Ok(format!(in alloc; "{:04X}", crc(bytes))?)
 }
 
-/// What the tag of the descriptor says that the bytes are, with this identifier and location.
+/// What the tag says of the descriptor that the bytes are, with the identifier and the location in the words.
 pub fn tag(alloc: Global, bytes: &[u8], words: &[&str]) -> Result<String, Trouble> {
     let [id, location] = words else {
         return Err(NO_QUESTION);
@@ -74,7 +74,8 @@ pub fn moment(alloc: Global, words: &[&str]) -> Result<String, Trouble> {
     }
 }
 
-/// Whether the bytes are those of the fields: these again, or the bytes that they have.
+/// Compares the bytes with those of the fields in the words. Returns these words if they are equal, and otherwise the
+/// bytes of the fields.
 pub fn fields(alloc: Global, bytes: &[u8], said: &str) -> Result<String, Trouble> {
     let mut written = Vec::new(alloc);
     for word in said.split_whitespace() {
@@ -89,7 +90,7 @@ pub fn fields(alloc: Global, bytes: &[u8], said: &str) -> Result<String, Trouble
     shown(alloc, &written)
 }
 
-/// The field that a word says.
+/// The field of a word.
 fn field(kind: &str, value: &str) -> Result<Field<'static>, Trouble> {
     match kind {
         "u8" => Ok(Field::U8(number(value)?)),

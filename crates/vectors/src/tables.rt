@@ -1,4 +1,4 @@
-//! Virtual allocation tables (UDF 2.01 2.2.10), and the starts at which data shows none.
+//! Virtual allocation tables (UDF 2.01 2.2.10), and clear starts.
 
 use crate::compare::{block_of, fault, words_of};
 use crate::texts::tell_label;
@@ -8,7 +8,7 @@ use std::alloc::Global;
 use std::fmt::Write;
 use vat::{Record, Vat, Version, clear_start, decode_vat, encode_vat, is_vat_icb};
 
-/// What the table says whose entry is at a block number.
+/// What the table says whose VAT ICB is at a block number.
 pub fn table(alloc: Global, bytes: &[u8], icb: u32) -> Result<String, Trouble> {
     let vat = match decode_vat(alloc, bytes, icb) {
         Ok(vat) => vat,
@@ -61,7 +61,7 @@ fn tell_record(record: &Record, out: &mut String) -> Result<(), Trouble> {
     Ok(())
 }
 
-/// The entries; eight and more that are unused one after another are a run.
+/// The entries. Eight or more unused ones in a row are shown as a run.
 fn tell_entries(entries: &[Option<u32>], out: &mut String) -> Result<(), Trouble> {
     out.push_str(" entries")?;
     let mut unused = 0usize;
@@ -99,7 +99,7 @@ pub fn is_entry(alloc: Global, bytes: &[u8], number: u32) -> Result<String, Trou
     words_of(alloc, answer)
 }
 
-/// The least block number from one on at which none of the blocks would be a VAT ICB.
+/// The least block number from `from` on at which none of the blocks would be a VAT ICB.
 pub fn start(alloc: Global, bytes: &[u8], from: u32) -> Result<String, Trouble> {
     if bytes.len() > FILE_BYTES || from > PARTITION_BLOCKS {
         return Err(Trouble::Line("no file is so long"));

@@ -7,7 +7,7 @@ use std::alloc::Global;
 use std::str;
 use words::{number, read_bytes, show_bytes};
 
-/// The bytes in which the text of a question is written.
+/// The bytes of the text in a question.
 pub fn written(alloc: Global, question: &str, words: &[&str]) -> Result<String, Trouble> {
     match question {
         "spelling" => spelled(alloc, &text_of(alloc, words)?),
@@ -17,7 +17,7 @@ pub fn written(alloc: Global, question: &str, words: &[&str]) -> Result<String, 
     }
 }
 
-/// The text whose UTF-8 the words say; `empty` is the one without a character.
+/// The text whose UTF-8 is in the words. `empty` is the text without a character.
 pub fn text_of(alloc: Global, words: &[&str]) -> Result<String, Trouble> {
     let mut bytes = Vec::new(alloc);
     if words != ["empty"].as_slice() {
@@ -66,7 +66,7 @@ pub fn spelling(alloc: Global, bytes: &[u8]) -> Result<String, Trouble> {
     told(alloc, &text)
 }
 
-/// The spelling of a text, after a byte that stays.
+/// The spelling of a text, appended to a byte that must stay.
 fn spelled(alloc: Global, text: &str) -> Result<String, Trouble> {
     let mut out = vec![in alloc; 7u8]?;
     match compress(text, &mut out) {
@@ -95,7 +95,7 @@ pub fn dstring(alloc: Global, bytes: &[u8]) -> Result<String, Trouble> {
     }
 }
 
-/// A text in a dstring of so many bytes, which stays as it was where the text is refused.
+/// A text in a dstring whose size is the first word. If the text is refused, the field must stay as it was.
 fn in_dstring(alloc: Global, words: &[&str]) -> Result<String, Trouble> {
     let [room, words @ ..] = words else {
         return Err(Trouble::Line("no room"));
@@ -105,7 +105,7 @@ fn in_dstring(alloc: Global, words: &[&str]) -> Result<String, Trouble> {
     in_field(alloc, &text, room)
 }
 
-/// A text in a dstring of so many bytes, from 1 to 256.
+/// A text in a dstring of `room` bytes, from 1 to 256.
 fn in_field(alloc: Global, text: &str, room: usize) -> Result<String, Trouble> {
     let mut field = [7u8; 256];
     let size = room.min(256).max(1);
@@ -117,7 +117,7 @@ fn in_field(alloc: Global, text: &str, room: usize) -> Result<String, Trouble> {
     }
 }
 
-/// The name that is spelled so.
+/// The name of a spelling.
 pub fn name(alloc: Global, bytes: &[u8]) -> Result<String, Trouble> {
     let Some(name) = Name::of(alloc, bytes)? else {
         return words_of(alloc, "none");
@@ -163,7 +163,7 @@ fn labelled(alloc: Global, text: &str) -> Result<String, Trouble> {
     }
 }
 
-/// The label after the sixteen digits of a volume set identifier (UDF 2.01 2.2.2.5), after these.
+/// The label after the sixteen digits of a volume set identifier (UDF 2.01 2.2.2.5).
 pub fn set_identifier(alloc: Global, bytes: &[u8]) -> Result<String, Trouble> {
     if bytes.is_empty() || bytes.len() > 256 {
         return Err(Trouble::Line("no dstring is so long"));
@@ -174,7 +174,7 @@ pub fn set_identifier(alloc: Global, bytes: &[u8]) -> Result<String, Trouble> {
     }
 }
 
-/// The label in the text of a volume set identifier, which must be spelled in these bytes.
+/// The label in the text of a volume set identifier, which must be encoded as these bytes.
 fn label_after_digits(alloc: Global, text: &str, bytes: &[u8]) -> Result<String, Trouble> {
     let Some((digits, text)) = text.split_at_checked(16) else {
         return words_of(alloc, "none");

@@ -1,18 +1,18 @@
-//! Why a line of a case does not go as it says.
+//! Why a line of a case fails.
 
 use drive::DriveFault;
 use std::alloc::{AllocError, AllocFailed};
 use std::fmt;
 use words::WordsFault;
 
-/// Why a line of a case does not go as it says.
+/// Why a line of a case fails.
 #[derive(Debug, Drop)]
 pub enum Trouble {
-    /// The line says nothing that is known, for this reason.
+    /// The line is not understood, for this reason.
     Line(&'static str),
-    /// Another answer than the line has.
+    /// The answer is another than that of the line.
     Differs(String),
-    /// Memory was refused.
+    /// There was no memory.
     Memory,
 }
 

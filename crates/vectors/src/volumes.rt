@@ -40,14 +40,14 @@ pub fn last_table(alloc: Global, medium: &Medium) -> Result<String, Trouble> {
     address(alloc, found)
 }
 
-/// The address of the entry of the table before the one whose entry is there.
+/// The address of the VAT ICB before the one at `at`.
 pub fn table_before(alloc: Global, medium: &Medium, at: u32) -> Result<String, Trouble> {
     let mut drive = drive_of(alloc, medium)?;
     let found = step(alloc, &mut drive, at)?;
     address(alloc, found)
 }
 
-/// A step of the chain from an address that must be there.
+/// A step of the chain from a block that must be there.
 fn step(
     alloc: Global,
     drive: &mut MemDrive,
@@ -115,8 +115,8 @@ fn state_of(
 /// What is reported of a state: its commits, or why it is refused.
 type Told = Result<u32, StoreFault>;
 
-/// The commits of up to three states, or why each is refused. Each is looked at alone, and in turn with what is known of those
-/// before, which must say the same.
+/// The counts of commits of up to three states, or why each is refused. Each is looked at alone, and after the others
+/// with what is known of them. Both must report the same.
 pub fn states(alloc: Global, medium: &Medium, words: &[&str]) -> Result<String, Trouble> {
     let ats = addresses(words)?;
     let mut drive = drive_of(alloc, medium)?;
@@ -139,7 +139,7 @@ fn all_told(alloc: Global, states: &[Told]) -> Result<String, Trouble> {
     Ok(text)
 }
 
-/// Three addresses, the last of those in the words for each that is not there.
+/// Three addresses. If there are fewer words, the last one is repeated.
 fn addresses(words: &[&str]) -> Result<[u32; 3], Trouble> {
     let mut ats = [PARTITION_START; 3];
     let mut last = PARTITION_START;
@@ -159,7 +159,7 @@ fn commits_told(alloc: Global, told: Told) -> Result<String, Trouble> {
     }
 }
 
-/// What is reported of three states, looked at in turn with what is known of those before.
+/// What is reported of three states, each with what is known of those before.
 fn shared(alloc: Global, drive: &mut MemDrive, ats: [u32; 3]) -> Result<[Told; 3], Trouble> {
     let mut known = ReadCache::new(alloc);
     let first = shared_state(alloc, drive, &mut known, ats[0])?;
@@ -183,7 +183,7 @@ fn commits(looked: &Result<State, StoreFault>) -> Told {
     }
 }
 
-/// The state there, with what is known.
+/// What is reported of the state at an address, with what is known.
 fn shared_state(
     alloc: Global,
     drive: &mut MemDrive,

@@ -1,4 +1,4 @@
-//! The descriptors of a volume, each as a table of its fields. Each is at the address that its tag has.
+//! The descriptors of a volume, each as a table of its fields. The tag of each has the address where it is.
 
 ghost use Rattle.limits.specs.declared.TheConstants.{FORMAT_BLOCKS, PARTITION_START};
 ghost use Rattle.std.specs.Prelude.{◌≡◌, ◌<◌, ◌≤◌, ◌%◌, ◌++◌, IsAscii};
@@ -10,7 +10,7 @@ use ecma::{Block, CS0, EntityId, ExtentAd, Field, LongAd, descriptor_block};
 use limits::{BLOCK_BYTES, FORMAT_BLOCKS, PARTITION_START};
 use osta::Label;
 
-/// How many blocks the sequence of volume descriptors may take, and how many the integrity sequence.
+/// How many blocks each copy of the volume descriptor sequence has (UDF 2.01 2.2.3).
 const SEQUENCE_BLOCKS: u32 = 16;
 
 const INTEGRITY_BLOCKS: u32 = 4;
@@ -57,7 +57,7 @@ const PARTITION_CONTENTS: EntityId = EntityId {
     suffix: [0; 8],
 };
 
-/// The primary volume descriptor (ECMA-167 3/10.1), with its volume identifier given as a dstring.
+/// The primary volume descriptor (ECMA-167 3/10.1, UDF 2.01 2.2.2), with its volume identifier given as a dstring.
 pub(crate) fn primary(
     label: &Label,
     volume: [u8; 32],
@@ -94,7 +94,7 @@ pub(crate) fn primary(
     )
 }
 
-/// The anchor (ECMA-167 3/10.2): where both copies of the sequence are.
+/// The anchor volume descriptor pointer (ECMA-167 3/10.2, UDF 2.01 2.2.3): where both copies of the sequence are.
 pub(crate) fn anchor(n: u32) -> Block
     ensures { IsDescriptor 2 n spec.anchor_fields result }
 {
@@ -161,8 +161,8 @@ pub(crate) fn partition(capacity: u32, n: u32) -> Block
     )
 }
 
-/// The logical volume descriptor (ECMA-167 3/10.6), with the maps of the physical and the virtual partition (UDF 2.01
-/// 2.2.8).
+/// The logical volume descriptor (ECMA-167 3/10.6, UDF 2.01 2.2.4), with the maps of the physical and the virtual
+/// partition (UDF 2.01 2.2.8).
 pub(crate) fn logical_volume(label: &Label, n: u32) -> Block
     ensures { IsDescriptor 6 n (spec.logical_fields (dstring 128 label.now)) result }
 {
@@ -208,7 +208,7 @@ pub(crate) fn logical_volume(label: &Label, n: u32) -> Block
     )
 }
 
-/// The unallocated space descriptor (ECMA-167 3/10.8), with no extents.
+/// The unallocated space descriptor (ECMA-167 3/10.8, UDF 2.01 2.2.5), with no extents.
 pub(crate) fn unallocated_space(n: u32) -> Block
     ensures { IsDescriptor 7 n spec.unallocated_fields result }
 {
@@ -230,8 +230,8 @@ pub(crate) fn terminating(n: u32) -> Block
     descriptor_block(TERMINATING_TAG, n, &[Field::Zeros(496)])
 }
 
-/// The logical volume integrity descriptor (ECMA-167 3/10.10, UDF 2.01 2.2.6), which stays open: the counts of a volume as
-/// it is are those of its virtual allocation table.
+/// The logical volume integrity descriptor (ECMA-167 3/10.10, UDF 2.01 2.2.6). It stays open: the current counts of a
+/// volume are in its virtual allocation table.
 pub(crate) fn integrity(stamp: [u8; 12], capacity: u32, n: u32) -> Block
     requires { FORMAT_BLOCKS ≤ capacity }
     ensures { IsDescriptor 9 n (spec.integrity_fields stamp capacity) result }

@@ -1,3 +1,5 @@
+//! The blocks of a volume header.
+
 ghost use Rattle.limits.specs.declared.TheConstants.{GREATEST_CAPACITY, LEAST_CAPACITY, PARTITION_START};
 ghost use Rattle.std.specs.Prelude.{◌≡◌, ◌≤◌, ◌%◌, IfOk};
 ghost use Rattle.osta.specs.Dstring.{dstring};
@@ -13,13 +15,13 @@ use limits::{BLOCK_SIZE, PARTITION_START};
 use osta::Label;
 use std::alloc::{AllocError, Global};
 
-/// What a format says of its volume, and its front keeps.
+/// What the volume header says of its volume.
 #[derive(Clone, Copy, Debug, PartialEq, Eq)]
 pub struct Front {
     pub label: Label,
-    /// That of the format.
+    /// The moment of the format.
     pub moment: Timestamp,
-    /// In blocks, at least `limits::LEAST_CAPACITY` and at most `limits::GREATEST_CAPACITY`.
+    /// How many blocks the volume has, from `limits::LEAST_CAPACITY` to `limits::GREATEST_CAPACITY`.
     pub capacity: u32,
 }
 
@@ -82,7 +84,7 @@ fn recognition(identifier: &[u8; 5]) -> Block
     block
 }
 
-/// A block of one of the two copies of the sequence.
+/// A block of one of the two copies of the volume descriptor sequence.
 fn sequence_block(
     label: &Label,
     volume: [u8; 32],

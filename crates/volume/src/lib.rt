@@ -1,9 +1,10 @@
 //! The header of a volume: its blocks 0 to 256, which a format writes once and nothing changes (ECMA-167 part 3, UDF 2.01
 //! 2.2).
 //!
-//! `front_block` gives each block of the volume header for a label, a moment and a capacity; `front_blocks` gives all of them.
-//! `read_front` reads exactly such a front, and otherwise reports the first byte that is not as it must be. Who cannot hold
-//! all of its blocks reads the label, the moment and the capacity by `front_words`, and compares block by block by `first_difference`.
+//! `front_block` makes each block of the volume header for a label, a moment and a capacity, and `front_blocks` all of
+//! them. `read_front` reads exactly such a header, and otherwise reports the first byte that is not as it must be. A
+//! caller that cannot hold all of its blocks reads the label, the moment and the capacity with `front_words`, and
+//! compares block by block with `first_difference`.
 //!
 //! What the partition holds, and whether the capacity is that of the medium, is left to the crates above.
 #![tactic(auto)]

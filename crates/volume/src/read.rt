@@ -1,3 +1,5 @@
+//! Reading a volume header.
+
 ghost use Rattle.limits.specs.declared.TheConstants.{BLOCK_BYTES, GREATEST_CAPACITY, LEAST_CAPACITY, LEAST_PARTITION_BLOCKS, PARTITION_BLOCKS, PARTITION_START};
 ghost use Rattle.std.specs.Prelude.{◌≡◌, ◌<◌, ◌≤◌, ◌↔◌, ℕ, List, [], length, slice_index, slice_index_or, take, IsTrue, IfOk, IfErr, IfSome, IfNone};
 ghost use Rattle.ecma.specs.Tag.{Sealed};
@@ -15,7 +17,7 @@ use osta::Label;
 /// Why blocks are no volume header.
 #[derive(Clone, Copy, Debug, PartialEq, Eq)]
 pub enum VolumeFault {
-    /// A field of this block, which begins at this byte, can not be read; or this byte is the first one that is not that of
+    /// The field of this block that begins at this byte cannot be read, or this byte is the first that is not that of
     /// the volume header.
     Field { block: u32, at: u32 },
 }
@@ -24,8 +26,9 @@ const PRIMARY: u32 = MAIN;
 
 const PARTITION_DESCRIPTOR: u32 = MAIN + 2;
 
-/// The front whose blocks these are. Of other blocks it reports the first fault: where the primary volume descriptor or the
-/// partition descriptor cannot be read, that field; otherwise the first byte that is not that of the front which they say.
+/// Reads a volume header from its blocks. For other blocks it reports the first fault: the field of the primary volume
+/// descriptor or of the partition descriptor that cannot be read, or otherwise the first byte that is not that of the
+/// header which these two describe.
 pub fn read_front(blocks: &[Block]) -> Result<Front, VolumeFault>
     requires { length blocks.now ≡ PARTITION_START }
     ensures found { IfOk result (λ f. IsFront f.label f.moment f.capacity blocks.now) }
@@ -47,7 +50,8 @@ pub fn read_front(blocks: &[Block]) -> Result<Front, VolumeFault>
     Ok(front)
 }
 
-/// The front that its primary volume descriptor, block 32, and its partition descriptor, block 34, say.
+/// What the primary volume descriptor, block 32, and the partition descriptor, block 34, say of the volume. The label,
+/// the moment and the capacity are checked, and no other field.
 pub fn front_words(primary: &Block, partition: &Block) -> Result<Front, VolumeFault>
     ensures reports { IfOk result (λ f. DescriptorsTell f primary.now partition.now) }
     ensures capacity { IfOk result (λ f. (LEAST_CAPACITY ≤ f.capacity) × (f.capacity ≤ GREATEST_CAPACITY)) }
@@ -76,7 +80,7 @@ pub fn front_words(primary: &Block, partition: &Block) -> Result<Front, VolumeFa
     })
 }
 
-/// The first byte of a block that is not that of the volume header at this address.
+/// The first byte of a block that is not that of the volume header at address `n`.
 pub fn first_difference(front: &Front, n: u32, block: &Block) -> Option<u32>
     requires low { LEAST_CAPACITY ≤ front.now.capacity }
     requires high { front.now.capacity ≤ GREATEST_CAPACITY }
@@ -89,7 +93,7 @@ pub fn first_difference(front: &Front, n: u32, block: &Block) -> Option<u32>
     first_other(block, &expected)
 }
 
-/// The first byte in which the block is not the expected one.
+/// The first byte in which the block differs from the expected one.
 fn first_other(block: &Block, expected: &Block) -> Option<u32>
     ensures none { IfNone result (block.now ≡ expected.now) }
     ensures some { IfSome result (DiffersFirst block.now expected.now) }
@@ -105,7 +109,7 @@ fn first_other(block: &Block, expected: &Block) -> Option<u32>
     None
 }
 
-/// How many bytes at the beginning are the same, of those that are looked at eight together.
+/// How many bytes at the beginning are the same, as a multiple of eight.
 fn same_front(block: &Block, expected: &Block) -> usize
     ensures within { result ≤ BLOCK_BYTES }
     ensures same { (i : ℕ) → i < result → slice_index block.now i ≡ slice_index expected.now i }
@@ -120,7 +124,7 @@ fn same_front(block: &Block, expected: &Block) -> usize
     at
 }
 
-/// Whether a partition may have so many blocks: as many as on a medium that is neither too small nor too large.
+/// Whether a partition may have this many blocks, as on a medium that is neither too small nor too large.
 fn is_partition_length(length: u32) -> bool
     ensures { IsTrue result ↔ ((LEAST_PARTITION_BLOCKS ≤ length) × (length ≤ PARTITION_BLOCKS)) }
 {
@@ -133,7 +137,7 @@ fn fault(block: u32, at: u32) -> VolumeFault
     VolumeFault::Field { block, at }
 }
 
-/// Whether the block begins with a descriptor of 512 bytes that has this identifier and location.
+/// Whether the block begins with a descriptor of 512 bytes with this tag identifier and location.
 fn has_tag(block: &Block, id: u16, loc: u32) -> bool
     ensures { IsTrue result ↔ Sealed id loc (take 512 block.now) }
 {

@@ -4,10 +4,10 @@ use crate::fault::WordsFault;
 use std::fmt::Write;
 use std::str::FromStr;
 
-/// From how many bytes on that are alike a run is shown as such.
+/// The fewest equal bytes that are shown as a run.
 const RUN: usize = 8;
 
-/// A number of some type.
+/// Reads a number of some type.
 pub fn number<T: FromStr>(word: &str) -> Result<T, WordsFault>
 where
     T::Err: Drop,
@@ -18,7 +18,7 @@ where
     }
 }
 
-/// Appends the bytes that each of the words says.
+/// Appends the bytes of each of the words.
 pub fn read_bytes(words: &[&str], into: &mut Vec<u8>) -> Result<(), WordsFault> {
     for word in words {
         read_word(word, into)?;
@@ -26,8 +26,8 @@ pub fn read_bytes(words: &[&str], into: &mut Vec<u8>) -> Result<(), WordsFault> 
     Ok(())
 }
 
-/// Appends the bytes that a word says: `"text"`, two digits a byte as `0B1F`, `2A*7` for seven times the same bytes, `u16:7`,
-/// `u32:7` or `u64:7`, the low byte first.
+/// Appends the bytes of a word: `"text"`; two hexadecimal digits for each byte, as `0B1F`; `2A*7` for seven times the
+/// same bytes; `u16:7`, `u32:7` or `u64:7`, the lowest byte first.
 pub fn read_word(word: &str, into: &mut Vec<u8>) -> Result<(), WordsFault> {
     if let Some(text) = word
         .strip_prefix("\"")
@@ -53,7 +53,7 @@ pub fn read_word(word: &str, into: &mut Vec<u8>) -> Result<(), WordsFault> {
     Ok(())
 }
 
-/// So many times the same bytes.
+/// Appends the same bytes `times` times.
 fn repeat(digits: &str, times: usize, into: &mut Vec<u8>) -> Result<(), WordsFault> {
     let mut once = Vec::new(*into.allocator());
     read_digits(digits, &mut once)?;
@@ -68,7 +68,7 @@ fn repeat(digits: &str, times: usize, into: &mut Vec<u8>) -> Result<(), WordsFau
     Ok(())
 }
 
-/// Two digits a byte.
+/// Appends bytes from two hexadecimal digits each.
 fn read_digits(digits: &str, into: &mut Vec<u8>) -> Result<(), WordsFault> {
     let mut high: Option<u8> = None;
     for letter in digits.chars() {
@@ -87,8 +87,8 @@ fn read_digits(digits: &str, into: &mut Vec<u8>) -> Result<(), WordsFault> {
     Ok(())
 }
 
-/// Shows bytes, each list of them in one way: as a text where all are letters that can be read, else by their digits, with
-/// runs of eight and more alike as such.
+/// Shows bytes, each list of them in one way only: as a text if all are visible characters of ASCII other than `"`, and
+/// otherwise by their digits, with runs of eight or more equal bytes shown as such.
 pub fn show_bytes(bytes: &[u8], out: &mut String) -> Result<(), WordsFault> {
     if !bytes.is_empty()
         && bytes
@@ -116,7 +116,7 @@ pub fn show_bytes(bytes: &[u8], out: &mut String) -> Result<(), WordsFault> {
     show_run(last, run, out)
 }
 
-/// Shows bytes that are alike.
+/// Shows equal bytes.
 fn show_run(byte: Option<u8>, run: usize, out: &mut String) -> Result<(), WordsFault> {
     let Some(byte) = byte else {
         return Ok(());

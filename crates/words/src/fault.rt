@@ -6,7 +6,7 @@ use std::fmt;
 /// Why words were not read.
 #[derive(Clone, Copy, Debug, PartialEq, Eq)]
 pub enum WordsFault {
-    /// They say nothing that is known, for this reason.
+    /// They are not understood, for this reason.
     Unknown(&'static str),
     /// There was no memory.
     Memory,

@@ -1,7 +1,7 @@
 //! The reader of text files that say what a test does: lines of words, and bytes and numbers as words write them.
 //!
-//! `scenarios` reads its scripts by it, and `vectors` its cases. Here too is a writer that fills up, for tests of what is done
-//! where an output fails.
+//! `scenarios` reads its scripts with it, and `vectors` its cases. There is also a writer that fills up, for tests of
+//! an output that fails.
 #![tactic(auto)]
 
 mod bytes;

@@ -2,15 +2,15 @@
 
 use std::alloc::{AllocError, Global};
 
-/// A line, with the lines that go on with it, and its number in the file, counted from 1.
+/// A line with its continuation lines, and the number of the first in the file, counted from 1.
 #[derive(Drop)]
 pub struct Line {
     pub number: usize,
     pub text: String,
 }
 
-/// The lines of a file, without those that are empty or a comment, which begins with `#`. A line that ends with `\` goes on
-/// with the next.
+/// The lines of a file, without empty lines, and without comments, which begin with `#`. A line that ends with `\`
+/// continues on the next.
 pub fn read_lines(alloc: Global, text: &str) -> Result<Vec<Line>, AllocError> {
     let mut lines: Vec<Line> = Vec::new(alloc);
     let mut goes_on = false;

@@ -3,7 +3,7 @@
 use std::io;
 use std::io::{Error, ErrorKind, Write};
 
-/// A writer that has room for so many bytes.
+/// A writer that has room for `left` more bytes, and then fails.
 #[derive(Drop)]
 pub struct Room {
     pub bytes: Vec<u8>,

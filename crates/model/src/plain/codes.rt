@@ -10,7 +10,7 @@ use super::nodes::{Entry, find, is_directory_at, names_at};
 use super::paths::{begins_with, parent, same_path};
 use limits::{DIRECTORY_NAMES, NODES, PATH_NAMES};
 
-/// How a request was answered.
+/// How a committed request went. The codes and their order are in docs/PROTOCOL.md.
 #[derive(Clone, Copy, Debug, PartialEq, Eq)]
 pub enum Code {
     Done,
@@ -122,7 +122,7 @@ fn code_of_move(nodes: &[Entry], from: &[String], to: &[String]) -> Code
     }
 }
 
-/// Whether a path that begins with `from` would have too many names after `to`.
+/// Whether a path that begins with `from` would have too many names with `to` in its place.
 fn moves_too_deep(nodes: &[Entry], from: &[String], to: &[String]) -> bool
     ensures { result ≡ moves_too_deep (texts_in from.now) (texts_in to.now) (tree_in nodes.now) }
 {

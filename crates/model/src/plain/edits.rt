@@ -43,7 +43,7 @@ impl Node {
     }
 }
 
-/// Keeps the names that are none of these.
+/// Removes these names from a list.
 fn keep_others(list: &mut Vec<String>, names: &[String])
     ensures { texts_in list.new.items ≡ filter (is_other (texts_in names.now)) (texts_in list.old.items) }
 {
@@ -119,7 +119,7 @@ pub fn added(
     Ok(nodes)
 }
 
-/// Takes a node out, and its name out of its parent.
+/// Removes a node, and its name from its parent.
 pub fn removed(mut nodes: Vec<Entry>, path: &[String], moment: u64) -> Vec<Entry>
     requires { AreApart nodes.items }
     ensures { ListsTree result.items (name_taken_out (texts_in path.now) moment (remove (tree_in nodes.items) (texts_in path.now))) }
@@ -177,7 +177,7 @@ fn renamed(
     name_added(alloc, nodes, to, moment)
 }
 
-/// The entries after an operation that is answered [`Code::Done`](super::Code::Done).
+/// The entries after an operation whose code is [`Code::Done`](super::Code::Done).
 pub fn done(
     alloc: Global,
     nodes: Vec<Entry>,

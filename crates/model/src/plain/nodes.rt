@@ -38,7 +38,7 @@ impl Node {
         matches!(&self.content, Content::Directory(_))
     }
 
-    /// How many names it has; a file has none.
+    /// How many names it has. A file has none.
     pub fn names(&self) -> usize
         ensures { result ≡ length (names_of (node_in self.now)) }
     {
@@ -49,7 +49,7 @@ impl Node {
     }
 }
 
-/// Which entry is that of a path.
+/// The index of the entry of a path.
 pub fn position(nodes: &[Entry], path: &[String]) -> Option<usize>
     ensures { result ≡ position (λ e. paths_eq (texts_in path.now) (path_in e)) nodes.now }
 {
@@ -76,7 +76,7 @@ pub fn is_directory_at(nodes: &[Entry], path: &[String]) -> bool
     }
 }
 
-/// How many names the directory at the path has; none where there is no directory.
+/// How many names the directory at the path has: 0 if there is no directory.
 pub fn names_at(nodes: &[Entry], path: &[String]) -> usize
     ensures { result ≡ length (names_at (tree_in nodes.now) (texts_in path.now)) }
 {

@@ -20,7 +20,7 @@ pub fn same_path(a: &[String], b: &[String]) -> bool
     }
 }
 
-/// Whether the path begins with another, which then is not longer.
+/// Whether `path` begins with `front`.
 pub fn begins_with(path: &[String], front: &[String]) -> bool
     ensures not_longer { result ≡ true → length front.now ≤ length path.now }
     ensures begins { result ≡ begins_with (texts_in path.now) (texts_in front.now) }
@@ -46,14 +46,14 @@ pub fn parent(path: &[String]) -> &[String]
     &path[..path.len().saturating_sub(1)]
 }
 
-/// The last name, in a list of at most one.
+/// The last name, as a list of one. The list is empty for the root.
 pub fn last(path: &[String]) -> &[String]
     ensures { texts_in result.now ≡ last_of (texts_in path.now) }
 {
     &path[path.len().saturating_sub(1)..]
 }
 
-/// The path with the prefix `from` replaced by `to`, where it has that prefix.
+/// The path with its prefix `from` replaced by `to`, or a copy of the path if it has no such prefix.
 pub fn moved(
     alloc: Global,
     path: &[String],

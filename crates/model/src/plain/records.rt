@@ -10,14 +10,15 @@ use super::Code;
 use limits::{CLIENTS, KEPT_REPLIES};
 use std::alloc::{AllocError, Global};
 
-/// The answer to a request that was committed: its code, and its number among all commits.
+/// The answer to a request that was committed: its code, and the number of its commit.
 #[derive(Clone, Copy, Debug, PartialEq, Eq)]
 pub struct Reply {
     pub code: Code,
     pub commit: u64,
 }
 
-/// A client's latest request number, and the replies that are kept for it and the numbers before it, the newest first.
+/// A client's latest request number, and the replies that are kept for that number and those before it, the newest
+/// first.
 #[derive(Debug, Drop)]
 pub struct ClientRecord {
     pub client: u64,
@@ -25,22 +26,22 @@ pub struct ClientRecord {
     pub replies: Vec<Reply>,
 }
 
-/// What a request's number is to its client's record.
+/// What a client's request number calls for.
 #[derive(Clone, Copy, Debug, PartialEq, Eq)]
 pub enum Due {
-    /// It was committed, and this is its reply.
+    /// The request was committed, and this is its reply.
     Repeat(Reply),
-    /// It is at or below the client's latest number, and its reply is no longer kept.
+    /// The number is at or below the client's latest, which this holds, and its reply is no longer kept.
     Stale(u64),
-    /// It is more than one above the client's latest number.
+    /// The number is more than one above the client's latest, which this holds: 0 if it has none.
     Gap(u64),
-    /// It is the first of a client for which there is no room.
+    /// The client has no record, and there is no room for another.
     ClientsFull,
-    /// It is next.
+    /// The number is the next one.
     New,
 }
 
-/// What is due.
+/// What is due for a client's request number.
 pub fn find_due(records: &[ClientRecord], client: u64, number: u64) -> Due
     ensures { due_in result ≡ due_by number (length records.now) (record_of client (map record_in records.now)) }
 {
@@ -88,7 +89,7 @@ fn due_with(kept: &ClientRecord, number: u64) -> Due
 }
 
 impl ClientRecord {
-    /// Keeps one more reply, and of all the newest four.
+    /// Adds a reply, and keeps the newest four.
     pub fn answer(&mut self, number: u64, reply: Reply) -> Result<(), AllocError>
         ensures { OnOk result (record_in self.new ≡ answered number (reply_in reply) (record_in self.old)) }
     {
@@ -99,7 +100,7 @@ impl ClientRecord {
     }
 }
 
-/// The records with one more reply: a new client's goes last.
+/// The records with one more reply. The record of a new client goes last.
 pub fn with_reply(
     alloc: Global,
     mut records: Vec<ClientRecord>,

@@ -1,4 +1,4 @@
-//! A volume's state, and one request after the other.
+//! A volume's state, and what each request makes of it.
 
 ghost use Rattle.std.specs.Prelude.{◌≡◌, ◌≤◌, ◌+◌, ◌^◌, ◌⊎◌, ◌==◌, ◌&&◌, if◌then◌else◌, IfOk, IfErr};
 ghost use Rattle.std.specs.Option.{option_copied, option_map};
@@ -16,7 +16,8 @@ use super::records::{find_due, with_reply};
 use super::{ClientRecord, Code, Content, Due, Entry, Node, Operation, Reply};
 use std::alloc::{AllocError, Global};
 
-/// What a client asks for: its own number, which is above 0, the request's, and the moment in microseconds since 1970.
+/// What a client asks for: the client's number, which is above 0; the request's number; the moment, in microseconds
+/// from 1970-01-01 UTC; and the operation.
 #[derive(Debug, Drop)]
 pub struct Request {
     pub client: u64,
@@ -25,10 +26,10 @@ pub struct Request {
     pub operation: Operation,
 }
 
-/// Why a request was not carried out.
+/// Why a request could not be applied.
 #[derive(Clone, Copy, Debug, PartialEq, Eq)]
 pub enum Refusal {
-    /// Memory was refused.
+    /// There was no memory.
     Memory,
     /// The number of commits or of unique IDs would pass 64 bits.
     Exhausted,
@@ -44,8 +45,8 @@ impl From<AllocError> for Refusal {
     }
 }
 
-/// A volume's state: its nodes, in no order, the records in order of the clients' first commits, the number of
-/// commits, the unique ID that is drawn next, how long the table of virtual addresses is, and the last moment.
+/// A volume's state: its nodes, in no order; the records, in the order of the clients' first commits; the number of
+/// commits; the next unique ID; how long the table of virtual addresses is; and the moment of the last commit.
 #[derive(Debug, Drop)]
 pub struct State {
     pub nodes: Vec<Entry>,
@@ -57,7 +58,7 @@ pub struct State {
 }
 
 impl State {
-    /// A volume as it is formatted: the root alone, no client and no commit.
+    /// A volume as it is formatted: only the root, no client and no commit.
     pub fn formatted(alloc: Global, moment: u64) -> Result<State, AllocError>
         ensures whole { IfOk result (λ state. IsWholeState state) }
         ensures state { IfOk result (λ state. state_in state ≡ formatted moment) }
@@ -82,7 +83,7 @@ impl State {
         })
     }
 
-    /// What is due.
+    /// What is due for a client's request number.
     pub fn due(&self, client: u64, number: u64) -> Due
         ensures { due_in result ≡ due (state_in self.now) client number }
     {
@@ -96,7 +97,8 @@ impl State {
         find(&self.nodes, path)
     }
 
-    /// The state after the request, and the reply to it. What is due is for the caller to ask first. At a refusal the state is gone.
+    /// The state after the request, and the reply to it. The caller has to ask first what is due. If it is refused, the
+    /// state is lost.
     pub fn apply(self, alloc: Global, request: Request) -> Result<(State, Reply), Refusal>
         requires { IsWholeState self }
         ensures whole { IfOk result (λ pair. IsWholeState pair.0) }
