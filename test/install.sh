@@ -85,6 +85,12 @@ done
 status=0
 ./install.sh '/a b' > "$room/told" 2>&1 || status=$?
 holds 'install.sh refuses a space' [ "$status" -eq 2 ]
+for setting in LIBDIR=lib 'LIBDIR=/a|b' PYTHON_DIR=python 'PYTHON_DIR=/a b'; do
+    status=0
+    env "$setting" ./install.sh "$room/none" > "$room/told" 2>&1 || status=$?
+    holds "install.sh refuses $setting" [ "$status" -eq 2 ]
+    holds "nothing is installed for $setting" [ ! -e "$room/none" ]
+done
 holds 'install.sh names a program that is not there' sh -c '! UDFBURN=/nowhere ./install.sh "$1/none" && [ ! -e "$1/none" ]' - "$room"
 
 # An administrator's umask, under which a user could neither run the client nor read a manual page.
@@ -115,6 +121,19 @@ holds 'the removal is listed' sh -c 'LC_ALL=C sort "$1/listed" | diff "$1/remove
 holds 'nothing is left of it' [ -z "$(files "$room/root")" ]
 holds 'nor of its folders' [ ! -e "$room/root/usr/local/share/doc/udfburn" ]
 holds 'a removal of nothing is refused' sh -c '! DESTDIR="$1/root" ./install.sh --uninstall /usr/local' - "$room"
+
+# What is named relatively is in the folder of who installs, also where the shell says to which folder it went.
+mkdir "$room/elsewhere"
+cp "$UDFBURN" "$room/elsewhere/udfburn"
+cp "$UDFBURND" "$room/elsewhere/udfburnd"
+in_elsewhere() {
+    script=$PWD/$1
+    shift
+    (cd "$room/elsewhere" && CDPATH=.:.. DESTDIR=root UDFBURN=udfburn UDFBURND=./udfburnd "$script" "$@")
+}
+holds 'it installs what is named relatively' in_elsewhere install.sh /usr/local
+expected usr/local > "$room/wanted"
+holds 'it installs to where DESTDIR is named' same "$room/wanted" files "$room/elsewhere/root"
 
 # A prefix of one's own: the programs run from there.
 prefix=$room/prefix
@@ -149,6 +168,8 @@ fi
 # The Debian package.
 if command -v dpkg-deb > "$room/which"; then
     holds 'a package is made' packaging/deb/build.sh "$room/deb"
+    holds 'a package is made of what is named relatively' in_elsewhere packaging/deb/build.sh debs
+    holds 'it is there' [ -n "$(find "$room/elsewhere/debs" -name '*.deb')" ]
     package=$(find "$room/deb" -name '*.deb')
     version=$(sed -n 's/^## \[\([0-9][0-9.]*\)\] - .*/\1/p' CHANGELOG.md | head -n 1)
     printf 'Package: udfburn\nVersion: %s\nArchitecture: %s\n' "$version" "$(dpkg --print-architecture)" > "$room/wanted"

@@ -23,6 +23,7 @@ case ${2:-} in
         ;;
     *) usage ;;
 esac
+unset CDPATH
 mkdir -p "$1"
 out=$(cd "$1" && pwd)
 cd "$(dirname "$0")/../.."
