@@ -129,12 +129,12 @@ static void in_turn(struct work *works) {
     udfburn_close(shared);
 }
 
-static volatile int is_over;
+static int is_over;
 
 /* Asks until it is over: the more drives are open, the longer each call looks for its own. */
 static void *ask(void *given) {
     struct udfburn_node node;
-    while (!is_over) STATUS(UDFBURN_OK, udfburn_stat((udfburn *)given, "/", &node));
+    while (!__atomic_load_n(&is_over, __ATOMIC_ACQUIRE)) STATUS(UDFBURN_OK, udfburn_stat((udfburn *)given, "/", &node));
     return NULL;
 }
 
@@ -162,7 +162,7 @@ static void forks(struct disc *disc) {
     }
     if (pthread_create(&thread, NULL, ask, handles[HANDLES - 1])) abort();
     while (ended < FORKS && child_ends(handles[0])) ended++;
-    is_over = 1;
+    __atomic_store_n(&is_over, 1, __ATOMIC_RELEASE);
     pthread_join(thread, NULL);
     EXPECT(ended == FORKS);
     for (int i = 0; i < HANDLES; i++) udfburn_close(handles[i]);
