@@ -58,13 +58,14 @@ list=$root$documents/installed
 
 if [ -n "$uninstall" ]; then
     [ -f "$list" ] || { echo "install.sh: $list is missing" >&2; exit 1; }
+    python=$python_dir/udfburn
     while IFS= read -r path; do
+        case $path in */udfburn/__init__.py) python=${path%/*} ;; esac
         echo "$path"
         rm -f "$root$path"
     done < "$list"
     rm -f "$list"
     # What Python made of the package, and folders that are ours alone and empty now.
-    python=$python_dir/udfburn
     [ ! -d "$root$python" ] || find "$root$python" -depth \( -path '*/__pycache__/*' -type f -exec rm -f {} + \) -o \
         \( -type d -exec rmdir {} + \) 2> /dev/null || true
     for folder in "$documents" "$prefix/lib/udfburn"; do
@@ -76,13 +77,13 @@ fi
 udfburn=$(absolute "${UDFBURN:-$PWD/crates/udfburn/out/udfburn}")
 udfburnd=$(absolute "${UDFBURND:-$PWD/crates/udfburnd/out/udfburnd}")
 for program in "$udfburn" "$udfburnd"; do
-    [ -x "$program" ] || { echo "install.sh: $program is missing: build it with rt, or name it with UDFBURN and UDFBURND" >&2; exit 1; }
+    [ -f "$program" ] && [ -x "$program" ] || { echo "install.sh: $program is missing: build it with rt, or name it with UDFBURN and UDFBURND" >&2; exit 1; }
 done
 library=$(absolute "${LIBRARY:-}")
-if [ -n "$library" ] && ! [ -f "$library/libudfburn.so.0" ]; then
-    echo "install.sh: $library/libudfburn.so.0 is not there: build it by packaging/library/build.sh" >&2
-    exit 1
-fi
+for file in libudfburn.so.0 libudfburn.a libudfburn_drive.a udfburn.h udfburn.pc; do
+    [ -z "$library" ] || [ -f "$library/$file" ] ||
+        { echo "install.sh: $library/$file is not there: build it by packaging/library/build.sh" >&2; exit 1; }
+done
 mkdir -p "$root$documents"
 : > "$list.new"
 

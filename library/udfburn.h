@@ -254,8 +254,9 @@ struct udfburn_commit {
  *
  * The call goes by `address` alone: at 0 it gives the newest commit. Nothing is kept between calls, so requests may come
  * between them, and so may the end of the loop.
- *   UDFBURN_NONE: there is none before it, and the structure stays as it was. UDFBURN_VOLUME: no commit has this address, or
- * the one before is damaged. UDFBURN_DEVICE, UDFBURN_MEMORY, UDFBURN_ARGUMENT; the structure stays too. */
+ *   UDFBURN_NONE: there is none before it, or the address is outside of what the volume has written; the structure stays as it
+ * was. UDFBURN_VOLUME: the block at this address ends no commit, or the commit before is damaged. UDFBURN_DEVICE,
+ * UDFBURN_MEMORY, UDFBURN_ARGUMENT; the structure stays too. */
 int32_t udfburn_log(udfburn *handle, struct udfburn_commit *commit);
 
 /* ---- Frames --------------------------------------------------------------------------------------------------------

@@ -91,6 +91,7 @@ for setting in LIBDIR=lib 'LIBDIR=/a|b' PYTHON_DIR=python 'PYTHON_DIR=/a b'; do
     holds "install.sh refuses $setting" [ "$status" -eq 2 ]
     holds "nothing is installed for $setting" [ ! -e "$room/none" ]
 done
+holds 'install.sh names a program that is a folder' sh -c '! UDFBURN=$1 ./install.sh "$1/none" && [ ! -e "$1/none" ]' - "$room"
 holds 'install.sh names a program that is not there' sh -c '! UDFBURN=/nowhere ./install.sh "$1/none" && [ ! -e "$1/none" ]' - "$room"
 
 # An administrator's umask, under which a user could neither run the client nor read a manual page.
@@ -134,6 +135,15 @@ in_elsewhere() {
 holds 'it installs what is named relatively' in_elsewhere install.sh /usr/local
 expected usr/local > "$room/wanted"
 holds 'it installs to where DESTDIR is named' same "$room/wanted" files "$room/elsewhere/root"
+
+# What Python made of a package in a folder of one's own goes with it, also where the folder is not named again.
+holds 'it installs the client elsewhere' env DESTDIR="$room/root" PYTHON_DIR=/opt/python ./install.sh /usr/local
+if [ -d clients/python/udfburn ]; then
+    mkdir "$room/root/opt/python/udfburn/__pycache__"
+    echo made > "$room/root/opt/python/udfburn/__pycache__/client.pyc"
+fi
+DESTDIR=$room/root ./install.sh --uninstall /usr/local > "$room/listed" 2> "$room/errors"
+holds 'nothing is left of the client' [ -z "$(files "$room/root")" ]
 
 # A prefix of one's own: the programs run from there.
 prefix=$room/prefix
@@ -230,7 +240,9 @@ runs_with() {
 
 if [ -n "$library" ]; then
     holds 'install.sh names a library that is not there' sh -c '! LIBRARY=/nowhere ./install.sh "$1/none" && [ ! -e "$1/none" ]' - "$room"
-    mkdir "$room/with"
+    mkdir "$room/part" "$room/with"
+    cp "$library"/libudfburn.so.0 "$library"/libudfburn.a "$room/part"
+    holds 'install.sh names a part of a library' sh -c '! LIBRARY=$1/part ./install.sh "$1/none" && [ ! -e "$1/none" ]' - "$room"
     holds 'it installs the library' env DESTDIR="$room/with" LIBRARY="$library" LIBDIR=/usr/lib/machine ./install.sh /usr
     { expected usr; library_files usr usr/lib/machine; } | LC_ALL=C sort -k 2 > "$room/wanted"
     holds 'it installs these files and the library' same "$room/wanted" files "$room/with"
