@@ -75,8 +75,13 @@ static int32_t make_port(const struct udfburn_drive *drive, struct port **made) 
     struct port *port = calloc(1, sizeof *port);
     if (!port) return UDFBURN_MEMORY;
     port->drive = *drive;
-    if (drive->capacity(drive->context, &port->capacity) || !enter(port)) {
+    if (!enter(port)) {
         free(port);
+        return UDFBURN_DEVICE;
+    }
+    /* Only now, since another thread may be in a call on the drive until then. */
+    if (drive->capacity(drive->context, &port->capacity)) {
+        release(port);
         return UDFBURN_DEVICE;
     }
     *made = port;
