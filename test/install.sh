@@ -136,6 +136,13 @@ holds 'it installs what is named relatively' in_elsewhere install.sh /usr/local
 expected usr/local > "$room/wanted"
 holds 'it installs to where DESTDIR is named' same "$room/wanted" files "$room/elsewhere/root"
 
+# The same for programs that are built without a proof. A kit that ends at once is enough to see where they would be.
+mkdir -p "$room/kit/bin"
+printf '#!/bin/sh\nexit 1\n' > "$room/kit/bin/rt"
+chmod +x "$room/kit/bin/rt"
+PATH=$room/kit/bin:$PATH in_elsewhere test/unproved.sh udfburn trial/udfburn > "$room/told" 2>&1
+holds 'a program is built where it is named' [ -d "$room/elsewhere/trial" ]
+
 # What Python made of a package in a folder of one's own goes with it, also where the folder is not named again.
 holds 'it installs the client elsewhere' env DESTDIR="$room/root" PYTHON_DIR=/opt/python ./install.sh /usr/local
 if [ -d clients/python/udfburn ]; then
