@@ -17,9 +17,10 @@
  *
  * THREADS. A handle (`udfburn *`) serves one call at a time. Different threads may use it one after the other, if they
  * order their calls, for example with a lock. Different handles are independent. The library starts no thread, keeps no
- * signal handler and prints nothing. Do not call it from a signal handler. In a child after fork(), the only call on a
- * handle of the parent is udfburn_close(). It takes nothing from the parent. Until then the child shares the lock of the
- * file, even when the parent has closed its handle or ended. A program that the child starts does not.
+ * signal handler and prints nothing. Do not call it from a signal handler, and do not cancel a thread that is in a call. In
+ * a child after fork(), the only call on a handle of the parent is udfburn_close(). It takes nothing from the parent. Until
+ * then the child shares the lock of the file, even when the parent has closed its handle or ended. A program that the child
+ * starts does not.
  *
  * MEMORY. It uses malloc, realloc and free. When an allocation fails, the call returns UDFBURN_MEMORY. Results that you
  * must free are freed with udfburn_free().
