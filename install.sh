@@ -5,19 +5,38 @@
 # usage: ./install.sh PREFIX
 #        ./install.sh --uninstall PREFIX
 #
-# PREFIX is an absolute path of plain letters, such as /usr/local. DESTDIR is put before each path that is written, and is in none of the
-# files. UDFBURN and UDFBURND name the programs, else those that `rt` built in crates/ are taken. PYTHON_DIR is the folder of the
-# Python package, else PREFIX/lib/udfburn. LIBRARY names the folder in which packaging/library/build.sh built the C library, which
-# goes to LIBDIR, else PREFIX/lib; without it no library is installed. What was installed is listed in PREFIX/share/doc/udfburn/installed, which is what
-# --uninstall removes, and prints. Images are never touched.
+# PREFIX is an absolute path of plain letters, such as /usr/local, and so are LIBDIR and PYTHON_DIR. DESTDIR is put before each path that
+# is written, and is in none of the files. UDFBURN and UDFBURND name the programs, else those that `rt` built in crates/ are taken.
+# PYTHON_DIR is the folder of the Python package, else PREFIX/lib/udfburn. LIBRARY names the folder in which packaging/library/build.sh
+# built the C library, which goes to LIBDIR, else PREFIX/lib; without it no library is installed. What was installed is listed in
+# PREFIX/share/doc/udfburn/installed, which is what --uninstall removes, and prints. Images are never touched.
 set -eu
 # Folders that it makes are everybody's to read, as the files are.
 umask 022
+unset CDPATH
+from=$PWD
 cd "$(dirname "$0")"
 
 usage() {
     echo 'usage: install.sh [--uninstall] PREFIX' >&2
     exit 2
+}
+
+# absolute PATH: where it is for who started this; nothing for none.
+absolute() {
+    case $1 in
+        '' | /*) printf '%s\n' "$1" ;;
+        *) printf '%s\n' "$from/$1" ;;
+    esac
+}
+
+# plain PATH: whether it is absolute and of plain letters.
+plain() {
+    case $1 in
+        *[!A-Za-z0-9/._+-]*) return 1 ;;
+        /*) ;;
+        *) return 1 ;;
+    esac
 }
 
 uninstall=
@@ -26,24 +45,27 @@ if [ "${1:-}" = --uninstall ]; then
     shift
 fi
 [ $# -eq 1 ] || usage
-case $1 in
-    *[!A-Za-z0-9/._+-]*) usage ;;
-    /*) prefix=${1%/} ;;
-    *) usage ;;
-esac
-root=${DESTDIR:-}
+plain "$1" || usage
+prefix=${1%/}
+root=$(absolute "${DESTDIR:-}")
+libdir=${LIBDIR:-$prefix/lib}
+python_dir=${PYTHON_DIR:-$prefix/lib/udfburn}
+for folder in "$libdir" "$python_dir"; do
+    plain "$folder" || { echo "install.sh: $folder is not an absolute path of plain letters" >&2; exit 2; }
+done
 documents=$prefix/share/doc/udfburn
 list=$root$documents/installed
 
 if [ -n "$uninstall" ]; then
     [ -f "$list" ] || { echo "install.sh: $list is missing" >&2; exit 1; }
+    python=$python_dir/udfburn
     while IFS= read -r path; do
+        case $path in */udfburn/__init__.py) python=${path%/*} ;; esac
         echo "$path"
         rm -f "$root$path"
     done < "$list"
     rm -f "$list"
     # What Python made of the package, and folders that are ours alone and empty now.
-    python=${PYTHON_DIR:-$prefix/lib/udfburn}/udfburn
     [ ! -d "$root$python" ] || find "$root$python" -depth \( -path '*/__pycache__/*' -type f -exec rm -f {} + \) -o \
         \( -type d -exec rmdir {} + \) 2> /dev/null || true
     for folder in "$documents" "$prefix/lib/udfburn"; do
@@ -52,17 +74,16 @@ if [ -n "$uninstall" ]; then
     exit 0
 fi
 
-udfburn=${UDFBURN:-crates/udfburn/out/udfburn}
-udfburnd=${UDFBURND:-crates/udfburnd/out/udfburnd}
+udfburn=$(absolute "${UDFBURN:-$PWD/crates/udfburn/out/udfburn}")
+udfburnd=$(absolute "${UDFBURND:-$PWD/crates/udfburnd/out/udfburnd}")
 for program in "$udfburn" "$udfburnd"; do
-    [ -x "$program" ] || { echo "install.sh: $program is missing: build it with rt, or name it with UDFBURN and UDFBURND" >&2; exit 1; }
+    [ -f "$program" ] && [ -x "$program" ] || { echo "install.sh: $program is missing: build it with rt, or name it with UDFBURN and UDFBURND" >&2; exit 1; }
 done
-library=${LIBRARY:-}
-libdir=${LIBDIR:-$prefix/lib}
-if [ -n "$library" ] && ! [ -f "$library/libudfburn.so.0" ]; then
-    echo "install.sh: $library/libudfburn.so.0 is not there: build it by packaging/library/build.sh" >&2
-    exit 1
-fi
+library=$(absolute "${LIBRARY:-}")
+for file in libudfburn.so.0 libudfburn.a libudfburn_drive.a udfburn.h udfburn.pc; do
+    [ -z "$library" ] || [ -f "$library/$file" ] ||
+        { echo "install.sh: $library/$file is not there: build it by packaging/library/build.sh" >&2; exit 1; }
+done
 mkdir -p "$root$documents"
 : > "$list.new"
 
@@ -110,19 +131,18 @@ done
 [ -z "$library" ] || put_library
 
 if [ -d clients/python/udfburn ]; then
-    python=${PYTHON_DIR:-$prefix/lib/udfburn}
     (cd clients/python && find udfburn -type f -name '*.py' -o -type f -name py.typed -o -type f -name '*.html' | LC_ALL=C sort) > "$list.python"
     while IFS= read -r file; do
-        put 644 "clients/python/$file" "$python/$file"
+        put 644 "clients/python/$file" "$python_dir/$file"
     done < "$list.python"
     rm -f "$list.python"
     put 755 - "$prefix/bin/udfburn-client" << END
 #!/bin/sh
-PYTHONPATH=$python\${PYTHONPATH:+:\$PYTHONPATH} exec python3 -m udfburn "\$@"
+PYTHONPATH=$python_dir\${PYTHONPATH:+:\$PYTHONPATH} exec python3 -m udfburn "\$@"
 END
     put 755 - "$prefix/bin/udfburn-archive" << END
 #!/bin/sh
-PYTHONPATH=$python\${PYTHONPATH:+:\$PYTHONPATH} exec python3 -m udfburn.archive "\$@"
+PYTHONPATH=$python_dir\${PYTHONPATH:+:\$PYTHONPATH} exec python3 -m udfburn.archive "\$@"
 END
 fi
 

@@ -7,7 +7,6 @@
 
 #include <errno.h>
 #include <fcntl.h>
-#include <pthread.h>
 #include <stdlib.h>
 #include <string.h>
 #include <sys/file.h>
@@ -24,16 +23,15 @@ struct port {
     struct port *next;
 };
 
-static pthread_mutex_t ports_lock = PTHREAD_MUTEX_INITIALIZER;
 static struct port *ports;
 
 /* The port of a number, or NULL. It stays, since the handle that it serves is in a call. */
 static struct port *port_of(int number) {
     if (number < FIRST_NUMBER) return NULL;
-    pthread_mutex_lock(&ports_lock);
+    udfburn_lock();
     struct port *port = ports;
     while (port && port->number != number) port = port->next;
-    pthread_mutex_unlock(&ports_lock);
+    udfburn_unlock();
     return port;
 }
 
@@ -45,7 +43,7 @@ static int is_same(const struct udfburn_drive *one, const struct udfburn_drive *
 /* Enters a port under the least number that is free, unless its drive is there already. The ports are in order. */
 static int enter(struct port *port) {
     int is_new = 1;
-    pthread_mutex_lock(&ports_lock);
+    udfburn_lock();
     for (const struct port *other = ports; other; other = other->next)
         if (is_same(&other->drive, &port->drive)) is_new = 0;
     if (is_new) {
@@ -55,17 +53,17 @@ static int enter(struct port *port) {
         port->next = *gap;
         *gap = port;
     }
-    pthread_mutex_unlock(&ports_lock);
+    udfburn_unlock();
     return is_new;
 }
 
 static void release(void *entered) {
     struct port *port = entered;
-    pthread_mutex_lock(&ports_lock);
+    udfburn_lock();
     struct port **link = &ports;
     while (*link != port) link = &(*link)->next;
     *link = port->next;
-    pthread_mutex_unlock(&ports_lock);
+    udfburn_unlock();
     free(port);
 }
 
@@ -77,8 +75,13 @@ static int32_t make_port(const struct udfburn_drive *drive, struct port **made) 
     struct port *port = calloc(1, sizeof *port);
     if (!port) return UDFBURN_MEMORY;
     port->drive = *drive;
-    if (drive->capacity(drive->context, &port->capacity) || !enter(port)) {
+    if (!enter(port)) {
         free(port);
+        return UDFBURN_DEVICE;
+    }
+    /* Only now, since another thread may be in a call on the drive until then. */
+    if (drive->capacity(drive->context, &port->capacity)) {
+        release(port);
         return UDFBURN_DEVICE;
     }
     *made = port;

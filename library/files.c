@@ -1,4 +1,4 @@
-/* The files that volumes are in: how they are opened by their paths, and which of them this process works on.
+/* The files that volumes are in: how they are opened by their paths, and which of them this process works on. The lock of that.
  * SPDX-License-Identifier: MIT OR Apache-2.0 */
 #define _POSIX_C_SOURCE 200809L
 
@@ -11,6 +11,18 @@
 #include <string.h>
 #include <sys/stat.h>
 #include <unistd.h>
+
+/* ---- The lock ---- */
+
+static pthread_mutex_t lock = PTHREAD_MUTEX_INITIALIZER;
+
+void udfburn_lock(void) { pthread_mutex_lock(&lock); }
+
+void udfburn_unlock(void) { pthread_mutex_unlock(&lock); }
+
+/* A fork waits for the lock. Else a child that closes a handle would wait for a thread that it has not. It is registered before a
+ * program can register a lock of its own, so that this one is taken after that one, as in a call. */
+__attribute__((constructor)) static void watch_forks(void) { pthread_atfork(udfburn_lock, udfburn_unlock, udfburn_unlock); }
 
 /* ---- By their paths ---- */
 
@@ -59,8 +71,14 @@ int udfburn_open_or_make(const struct udfburn_place *place) {
 
 /* ---- By their descriptors ---- */
 
-static pthread_mutex_t files_lock = PTHREAD_MUTEX_INITIALIZER;
 static struct udfburn_file *files;
+
+int32_t udfburn_move_up(int32_t fd) {
+    if (fd > STDERR_FILENO) return fd;
+    int32_t moved = fcntl(fd, F_DUPFD_CLOEXEC, STDERR_FILENO + 1);
+    close(fd);
+    return moved;
+}
 
 /* Whether the core can have this descriptor: of a regular file, to read it and to write it anywhere. No program that is
  * started from here gets it, since it would keep the lock. */
@@ -80,7 +98,7 @@ int32_t udfburn_enter_file(struct udfburn_file *file, int32_t fd, uint32_t capac
     file->fd = -1;
     if (!is_usable(fd, &found)) return UDFBURN_DEVICE;
     if (found.st_size / UDFBURN_BLOCK > capacity) return UDFBURN_VOLUME;
-    pthread_mutex_lock(&files_lock);
+    udfburn_lock();
     for (const struct udfburn_file *other = files; other; other = other->next)
         if (is_same(other, &found)) is_new = 0;
     if (is_new) {
@@ -91,17 +109,17 @@ int32_t udfburn_enter_file(struct udfburn_file *file, int32_t fd, uint32_t capac
         file->next = files;
         files = file;
     }
-    pthread_mutex_unlock(&files_lock);
+    udfburn_unlock();
     return is_new ? UDFBURN_OK : UDFBURN_DEVICE;
 }
 
 void udfburn_leave_file(struct udfburn_file *file) {
     if (file->fd < 0) return;
-    pthread_mutex_lock(&files_lock);
+    udfburn_lock();
     struct udfburn_file **link = &files;
     while (*link != file) link = &(*link)->next;
     *link = file->next;
-    pthread_mutex_unlock(&files_lock);
+    udfburn_unlock();
     file->fd = -1;
 }
 

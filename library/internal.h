@@ -39,6 +39,10 @@ int udfburn_between_frames(const udfburn *handle);
 /* UDFBURN_DEVICE, from then on, where the file lost its name, or the descriptor is not of this file any more. */
 int32_t udfburn_check_file(udfburn *handle);
 
+/* The lock of the lists of files and of drives. No function of a caller's is called while it is held. */
+void udfburn_lock(void);
+void udfburn_unlock(void);
+
 /* ---- Files ---- */
 
 /* A name, and the folder that it is in. So the folder that is synced is the one that has the name. */
@@ -57,6 +61,10 @@ int udfburn_open_regular(const struct udfburn_place *place);
 
 /* The same, of a file that is made if the name is free. */
 int udfburn_open_or_make(const struct udfburn_place *place);
+
+/* The file under another number where it has that of a standard descriptor, since what is printed would be written to it; or -1. The
+ * number that it had is closed then. */
+int32_t udfburn_move_up(int32_t fd);
 
 /* Takes a file up that has at most so many whole blocks. UDFBURN_VOLUME: it has more. UDFBURN_DEVICE: no image can be had by
  * this descriptor, or this process works on the file already. A lock does not show that, since duplicates of a descriptor

@@ -333,11 +333,15 @@ static int32_t names_of(const struct answer *answer, struct udfburn_name **names
 
 int32_t udfburn_list(udfburn *handle, const char *path, struct udfburn_name **names, size_t *count) {
     struct answer answer;
+    if (names) {
+        *names = NULL;
+    }
+    if (count) {
+        *count = 0;
+    }
     if (!handle || !path || !names || !count) {
         return UDFBURN_ARGUMENT;
     }
-    *names = NULL;
-    *count = 0;
     int32_t status = ask(handle, LIST, path, NAMES, &answer);
     if (status == UDFBURN_OK) {
         status = names_of(&answer, names, count);
@@ -424,12 +428,18 @@ int32_t udfburn_last_number(udfburn *handle, uint64_t client, uint64_t *number) 
     return status == UDFBURN_OK ? udfburn_core_last_number(handle->core, client, number) : status;
 }
 
+/* What a call before may have left in a request is not of this one. */
+static void clear(struct udfburn_request *request) {
+    if (request) {
+        request->commit = 0;
+        request->repeated = 0;
+    }
+}
+
 /* Runs a request whose pointers were checked. */
 static int32_t run(udfburn *handle, struct udfburn_request *request, struct message *message) {
     uint64_t latest;
     struct answer answer;
-    request->commit = 0;
-    request->repeated = 0;
     if (request->moment >= UDFBURN_MOMENT_LIMIT) {
         return UDFBURN_ARGUMENT;
     }
@@ -455,6 +465,7 @@ static int32_t run(udfburn *handle, struct udfburn_request *request, struct mess
 static int32_t run_on(udfburn *handle, struct udfburn_request *request, enum kind kind, const char *path,
                       const void *data, size_t length) {
     struct message message = {kind, NULL, path, NULL, data, length};
+    clear(request);
     if (!handle || !request || !path || (!data && length > 0)) {
         return UDFBURN_ARGUMENT;
     }
@@ -481,6 +492,7 @@ int32_t udfburn_remove(udfburn *handle, struct udfburn_request *request, const c
 
 int32_t udfburn_rename(udfburn *handle, struct udfburn_request *request, const char *from, const char *to) {
     struct message message = {RENAME, NULL, from, to, NULL, 0};
+    clear(request);
     if (!handle || !request || !from || !to) {
         return UDFBURN_ARGUMENT;
     }

@@ -31,7 +31,9 @@ static int32_t check_words(const char *label, uint64_t moment, uint32_t capacity
 int32_t udfburn_format_fd(int32_t fd, const char *label, uint64_t moment, uint32_t capacity) {
     struct udfburn_file file;
     int32_t status = fd < 0 ? UDFBURN_ARGUMENT : check_words(label, moment, capacity);
-    if (status == UDFBURN_OK) status = udfburn_enter_file(&file, fd, capacity);
+    if (status != UDFBURN_OK) return refused(fd, status);
+    fd = udfburn_move_up(fd);
+    status = udfburn_enter_file(&file, fd, capacity);
     if (status != UDFBURN_OK) return refused(fd, status);
     status = udfburn_core_format_fd(fd, (const uint8_t *)label, strlen(label), moment, capacity);
     udfburn_leave_file(&file);
@@ -73,6 +75,7 @@ int32_t udfburn_open_number(udfburn *handle, int32_t number, udfburn **out) {
 int32_t udfburn_open_fd(int32_t fd, udfburn **out) {
     if (out) *out = NULL;
     if (fd < 0 || !out) return refused(fd, UDFBURN_ARGUMENT);
+    fd = udfburn_move_up(fd);
     udfburn *handle = udfburn_new_handle();
     int32_t status = handle ? udfburn_enter_file(&handle->file, fd, UDFBURN_GREATEST_CAPACITY) : UDFBURN_MEMORY;
     if (status == UDFBURN_OK) return udfburn_open_number(handle, fd, out);

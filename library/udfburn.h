@@ -17,9 +17,10 @@
  *
  * THREADS. A handle (`udfburn *`) serves one call at a time. Different threads may use it one after the other, if they
  * order their calls, for example with a lock. Different handles are independent. The library starts no thread, keeps no
- * signal handler and prints nothing. Do not call it from a signal handler. In a child after fork(), the only call on a
- * handle of the parent is udfburn_close(). It takes nothing from the parent. Until then the child shares the lock of the
- * file, even when the parent has closed its handle or ended. A program that the child starts does not.
+ * signal handler and prints nothing. Do not call it from a signal handler, and do not cancel a thread that is in a call. In
+ * a child after fork(), the only call on a handle of the parent is udfburn_close(). It takes nothing from the parent. Until
+ * then the child shares the lock of the file, even when the parent has closed its handle or ended. A program that the child
+ * starts does not.
  *
  * MEMORY. It uses malloc, realloc and free. When an allocation fails, the call returns UDFBURN_MEMORY. Results that you
  * must free are freed with udfburn_free().
@@ -254,8 +255,9 @@ struct udfburn_commit {
  *
  * The call goes by `address` alone: at 0 it gives the newest commit. Nothing is kept between calls, so requests may come
  * between them, and so may the end of the loop.
- *   UDFBURN_NONE: there is none before it, and the structure stays as it was. UDFBURN_VOLUME: no commit has this address, or
- * the one before is damaged. UDFBURN_DEVICE, UDFBURN_MEMORY, UDFBURN_ARGUMENT; the structure stays too. */
+ *   UDFBURN_NONE: there is none before it, or the address is outside of what the volume has written; the structure stays as it
+ * was. UDFBURN_VOLUME: the block at this address ends no commit, or the commit before is damaged. UDFBURN_DEVICE,
+ * UDFBURN_MEMORY, UDFBURN_ARGUMENT; the structure stays too. */
 int32_t udfburn_log(udfburn *handle, struct udfburn_commit *commit);
 
 /* ---- Frames --------------------------------------------------------------------------------------------------------

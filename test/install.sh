@@ -85,6 +85,13 @@ done
 status=0
 ./install.sh '/a b' > "$room/told" 2>&1 || status=$?
 holds 'install.sh refuses a space' [ "$status" -eq 2 ]
+for setting in LIBDIR=lib 'LIBDIR=/a|b' PYTHON_DIR=python 'PYTHON_DIR=/a b'; do
+    status=0
+    env "$setting" ./install.sh "$room/none" > "$room/told" 2>&1 || status=$?
+    holds "install.sh refuses $setting" [ "$status" -eq 2 ]
+    holds "nothing is installed for $setting" [ ! -e "$room/none" ]
+done
+holds 'install.sh names a program that is a folder' sh -c '! UDFBURN=$1 ./install.sh "$1/none" && [ ! -e "$1/none" ]' - "$room"
 holds 'install.sh names a program that is not there' sh -c '! UDFBURN=/nowhere ./install.sh "$1/none" && [ ! -e "$1/none" ]' - "$room"
 
 # An administrator's umask, under which a user could neither run the client nor read a manual page.
@@ -115,6 +122,35 @@ holds 'the removal is listed' sh -c 'LC_ALL=C sort "$1/listed" | diff "$1/remove
 holds 'nothing is left of it' [ -z "$(files "$room/root")" ]
 holds 'nor of its folders' [ ! -e "$room/root/usr/local/share/doc/udfburn" ]
 holds 'a removal of nothing is refused' sh -c '! DESTDIR="$1/root" ./install.sh --uninstall /usr/local' - "$room"
+
+# What is named relatively is in the folder of who installs, also where the shell says to which folder it went.
+mkdir "$room/elsewhere"
+cp "$UDFBURN" "$room/elsewhere/udfburn"
+cp "$UDFBURND" "$room/elsewhere/udfburnd"
+in_elsewhere() {
+    script=$PWD/$1
+    shift
+    (cd "$room/elsewhere" && CDPATH=.:.. DESTDIR=root UDFBURN=udfburn UDFBURND=./udfburnd "$script" "$@")
+}
+holds 'it installs what is named relatively' in_elsewhere install.sh /usr/local
+expected usr/local > "$room/wanted"
+holds 'it installs to where DESTDIR is named' same "$room/wanted" files "$room/elsewhere/root"
+
+# The same for programs that are built without a proof. A kit that ends at once is enough to see where they would be.
+mkdir -p "$room/kit/bin"
+printf '#!/bin/sh\nexit 1\n' > "$room/kit/bin/rt"
+chmod +x "$room/kit/bin/rt"
+PATH=$room/kit/bin:$PATH in_elsewhere test/unproved.sh udfburn trial/udfburn > "$room/told" 2>&1
+holds 'a program is built where it is named' [ -d "$room/elsewhere/trial" ]
+
+# What Python made of a package in a folder of one's own goes with it, also where the folder is not named again.
+holds 'it installs the client elsewhere' env DESTDIR="$room/root" PYTHON_DIR=/opt/python ./install.sh /usr/local
+if [ -d clients/python/udfburn ]; then
+    mkdir "$room/root/opt/python/udfburn/__pycache__"
+    echo made > "$room/root/opt/python/udfburn/__pycache__/client.pyc"
+fi
+DESTDIR=$room/root ./install.sh --uninstall /usr/local > "$room/listed" 2> "$room/errors"
+holds 'nothing is left of the client' [ -z "$(files "$room/root")" ]
 
 # A prefix of one's own: the programs run from there.
 prefix=$room/prefix
@@ -149,6 +185,8 @@ fi
 # The Debian package.
 if command -v dpkg-deb > "$room/which"; then
     holds 'a package is made' packaging/deb/build.sh "$room/deb"
+    holds 'a package is made of what is named relatively' in_elsewhere packaging/deb/build.sh debs
+    holds 'it is there' [ -n "$(find "$room/elsewhere/debs" -name '*.deb')" ]
     package=$(find "$room/deb" -name '*.deb')
     version=$(sed -n 's/^## \[\([0-9][0-9.]*\)\] - .*/\1/p' CHANGELOG.md | head -n 1)
     printf 'Package: udfburn\nVersion: %s\nArchitecture: %s\n' "$version" "$(dpkg --print-architecture)" > "$room/wanted"
@@ -209,7 +247,9 @@ runs_with() {
 
 if [ -n "$library" ]; then
     holds 'install.sh names a library that is not there' sh -c '! LIBRARY=/nowhere ./install.sh "$1/none" && [ ! -e "$1/none" ]' - "$room"
-    mkdir "$room/with"
+    mkdir "$room/part" "$room/with"
+    cp "$library"/libudfburn.so.0 "$library"/libudfburn.a "$room/part"
+    holds 'install.sh names a part of a library' sh -c '! LIBRARY=$1/part ./install.sh "$1/none" && [ ! -e "$1/none" ]' - "$room"
     holds 'it installs the library' env DESTDIR="$room/with" LIBRARY="$library" LIBDIR=/usr/lib/machine ./install.sh /usr
     { expected usr; library_files usr usr/lib/machine; } | LC_ALL=C sort -k 2 > "$room/wanted"
     holds 'it installs these files and the library' same "$room/wanted" files "$room/with"

@@ -11,6 +11,8 @@
 # linked with the kit's C parts, as rt links what it has proved.
 set -eu
 
+from=$PWD
+unset CDPATH
 cd "$(dirname "$0")/.." || exit 1
 is_module=
 if [ "${1:-}" = --module ]; then
@@ -22,7 +24,7 @@ if [ $# -ne 2 ] || ! [ -f "crates/$1/src/main.rt" ]; then
     exit 2
 fi
 crate=$1
-out=$(realpath -m "$2")
+out=$(cd "$from" && realpath -m "$2")
 kit=$(dirname "$(dirname "$(realpath "$(command -v rt)")")")
 room=$(mktemp -d) || exit 1
 trap 'rm -rf "$room"' EXIT

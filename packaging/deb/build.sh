@@ -7,8 +7,16 @@
 # objdump of binutils.
 set -eu
 [ $# -eq 1 ] || { echo 'usage: build.sh FOLDER' >&2; exit 2; }
+unset CDPATH
 mkdir -p "$1"
 folder=$(cd "$1" && pwd)
+# absolute FILE: its path from any folder.
+absolute() {
+    echo "$(cd "$(dirname "$1")" && pwd)/$(basename "$1")"
+}
+[ -z "${UDFBURN:-}" ] || UDFBURN=$(absolute "$UDFBURN")
+[ -z "${UDFBURND:-}" ] || UDFBURND=$(absolute "$UDFBURND")
+[ -z "${LIBRARY:-}" ] || LIBRARY=$(absolute "$LIBRARY")
 cd "$(dirname "$0")/../.."
 version=$(sed -n 's/^__version__ = "\(.*\)"$/\1/p' clients/python/udfburn/__init__.py)
 # The date of the release, as CHANGELOG.md has it beside the version; of an unreleased one, today.

@@ -23,6 +23,7 @@ case ${2:-} in
         ;;
     *) usage ;;
 esac
+unset CDPATH
 mkdir -p "$1"
 out=$(cd "$1" && pwd)
 cd "$(dirname "$0")/../.."
@@ -44,12 +45,13 @@ elif [ -z "$core" ]; then
     core=$PWD/crates/capi/out/libcapi.a
 fi
 
-# compile NAME..: the files of library/.
+# compile NAME..: the files of library/. What CFLAGS say of visibility and of code that is made at the link is not for these objects, from
+# which the names are taken below.
 compile() {
     for name in "$@"; do
         # shellcheck disable=SC2086
-        "$cc" -std=c99 -O2 -g0 -Wall -Wextra -fPIC -fvisibility=default -ffunction-sections -fdata-sections -fstack-protector-strong \
-            ${CFLAGS:-} -DUDFBURN_VERSION="\"$version\"" -c "library/$name.c" -o "$room/$name.o"
+        "$cc" -std=c99 -O2 -g0 -Wall -Wextra -fPIC -ffunction-sections -fdata-sections -fstack-protector-strong \
+            ${CFLAGS:-} -fvisibility=default -fno-lto -DUDFBURN_VERSION="\"$version\"" -c "library/$name.c" -o "$room/$name.o"
     done
 }
 compile udfburn files requests told drive drive_check

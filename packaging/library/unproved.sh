@@ -8,9 +8,11 @@
 # calls each export. In the module that LLVM gets, the exports are made external again, and the program's main is left out.
 set -eu
 
+from=$PWD
+unset CDPATH
 cd "$(dirname "$0")/../.." || exit 1
 [ $# -eq 1 ] || { echo 'usage: packaging/library/unproved.sh OUT.o' >&2; exit 2; }
-out=$(realpath -m "$1")
+out=$(cd "$from" && realpath -m "$1")
 kit=$(dirname "$(dirname "$(realpath "$(command -v rt)")")")
 room=$(mktemp -d) || exit 1
 trap 'rm -rf "$room"' EXIT

@@ -77,6 +77,7 @@ def main() -> int:
     names.sort(key=lambda name: name.split(".")[0] not in LONG)
     room = make_room()
     os.environ["LIBRARY_ROOM"] = str(room)
+    os.environ["LIBRARY_CORE"] = core
     os.environ["PYTHONDONTWRITEBYTECODE"] = "1"
     try:
         build_library(core, room / "plain")

@@ -243,6 +243,24 @@ static void a_number_of_another_file(void) {
     }
 }
 
+/* Where the standard descriptors are closed, no image gets one of their numbers: what is printed would be written to it. */
+static void closed_standard_descriptors(void) {
+    int kept[3];
+    make("calls.img");
+    for (int fd = 0; fd < 3; fd++) kept[fd] = fcntl(fd, F_DUPFD_CLOEXEC, 10);
+    for (int by_path = 0; by_path < 2; by_path++) {
+        udfburn *handle = NULL;
+        for (int fd = 0; fd < 3; fd++) close(fd);
+        int32_t status = by_path ? udfburn_open("calls.img", &handle) : udfburn_open_fd(image_at("calls.img"), &handle);
+        int fd = descriptor_of("calls.img"), is_kept = fcntl(fd, F_GETFD) == FD_CLOEXEC;
+        udfburn_close(handle);
+        for (int i = 0; i < 3; i++) dup2(kept[i], i);
+        STATUS(UDFBURN_OK, status);
+        EXPECT(fd > 2 && is_kept);
+    }
+    for (int fd = 0; fd < 3; fd++) close(kept[fd]);
+}
+
 static void volumes_that_are_none(void) {
     static uint8_t blocks[300 * UDFBURN_BLOCK];
     udfburn *handle = NULL;
@@ -521,6 +539,7 @@ int main(int argc, char **argv) {
     by_descriptor();
     duplicates();
     a_number_of_another_file();
+    closed_standard_descriptors();
     volumes_that_are_none();
     one_writer();
     after_fork();

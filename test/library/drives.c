@@ -17,7 +17,8 @@ enum fault {
 struct disc {
     uint8_t blocks[CAPACITY * UDFBURN_BLOCK];
     uint32_t next;
-    uint32_t calls;             /* of capacity */
+    uint32_t calls;             /* of capacity, while it grows */
+    uint32_t asked;             /* calls of capacity and next */
     uint32_t reads;
     uint32_t writes;
     uint32_t longest;           /* of a write */
@@ -29,6 +30,7 @@ struct disc {
 
 static int32_t capacity_of(void *context, uint32_t *blocks) {
     struct disc *disc = (struct disc *)context;
+    disc->asked++;
     if (disc->fault == LARGER_THAN_A_VOLUME) return *blocks = UINT32_MAX, 0;
     *blocks = disc->fault == TOO_SMALL ? UDFBURN_LEAST_CAPACITY - 1 : CAPACITY + (disc->fault == CAPACITY_GROWS ? disc->calls++ : 0);
     return disc->fault == CAPACITY_FAILS;
@@ -36,6 +38,7 @@ static int32_t capacity_of(void *context, uint32_t *blocks) {
 
 static int32_t next_of(void *context, uint32_t *address) {
     struct disc *disc = (struct disc *)context;
+    disc->asked++;
     if (disc->fault == LARGER_THAN_A_VOLUME) return *address = UDFBURN_GREATEST_CAPACITY + 1, 0;
     *address = disc->fault == NEXT_BEYOND ? CAPACITY + 1 : disc->fault == NEXT_LAGS && disc->next > 0 ? disc->next - 1 : disc->next;
     return disc->fault == NEXT_FAILS ? -1 : 0;
@@ -137,9 +140,12 @@ static void a_volume_stays_open(void) {
 static void a_drive_is_held(void) {
     struct udfburn_drive drive = drive_of(&discs[0]);
     udfburn *handle = opened_on(&discs[0]), *second = handle;
+    uint32_t asked = discs[0].asked;
     STATUS(UDFBURN_DEVICE, udfburn_open_drive(&drive, &second));
     EXPECT(!second);
     STATUS(UDFBURN_DEVICE, udfburn_format_drive(&drive, "DISC", MOMENT));
+    /* Another thread may be in a call on the handle, and one function of a drive is called at a time. */
+    EXPECT(discs[0].asked == asked);
     udfburn_close(handle);
     udfburn_close(opened_on(&discs[0]));
 }

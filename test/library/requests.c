@@ -344,8 +344,8 @@ static void test_longest_path(void) {
 static void test_arguments(void) {
     udfburn *disc = volume_of(CAPACITY);
     struct udfburn_request request = numbered(7, 0), zero = numbered(0, 0), late = numbered(7, 0);
-    struct udfburn_name *names;
-    size_t count;
+    struct udfburn_name *names = (struct udfburn_name *)room;
+    size_t count = 99;
     late.moment = UDFBURN_MOMENT_LIMIT;
     GIVES(udfburn_mkdir(NULL, &request, "/a"), UDFBURN_ARGUMENT);
     GIVES(udfburn_mkdir(disc, NULL, "/a"), UDFBURN_ARGUMENT);
@@ -353,8 +353,11 @@ static void test_arguments(void) {
     GIVES(udfburn_mkdir(disc, &zero, "/a"), UDFBURN_ARGUMENT);
     GIVES(udfburn_mkdir(disc, &late, "/a"), UDFBURN_ARGUMENT);
     CHECK(zero.number == 0 && late.number == 0);
+    CHECK(request.number == 0 && request.commit == 0 && request.repeated == 0);
     GIVES(udfburn_remove(disc, &request, NULL), UDFBURN_ARGUMENT);
+    request.commit = request.repeated = 99;
     GIVES(udfburn_rename(disc, &request, "/a", NULL), UDFBURN_ARGUMENT);
+    CHECK(request.commit == 0 && request.repeated == 0);
     GIVES(udfburn_rename(disc, &request, NULL, "/a"), UDFBURN_ARGUMENT);
     GIVES(udfburn_create(disc, &request, "/a", NULL, 1), UDFBURN_ARGUMENT);
     GIVES(udfburn_create(disc, &request, "/a", big, sizeof big), UDFBURN_ARGUMENT);
@@ -364,7 +367,13 @@ static void test_arguments(void) {
     GIVES(udfburn_get(disc, "/a", NULL, 1, &count), UDFBURN_ARGUMENT);
     GIVES(udfburn_get(disc, "/a", room, 1, NULL), UDFBURN_ARGUMENT);
     GIVES(udfburn_list(disc, "/", NULL, &count), UDFBURN_ARGUMENT);
+    CHECK(count == 0);
     GIVES(udfburn_list(disc, "/", &names, NULL), UDFBURN_ARGUMENT);
+    CHECK(names == NULL);
+    names = (struct udfburn_name *)room;
+    count = 99;
+    GIVES(udfburn_list(disc, NULL, &names, &count), UDFBURN_ARGUMENT);
+    CHECK(names == NULL && count == 0);
     udfburn_free(NULL);
     GIVES(look(disc, "/a"), UDFBURN_NOT_FOUND);
     udfburn_close(disc);

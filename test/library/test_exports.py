@@ -1,10 +1,11 @@
 """The library shows what the header declares, and nothing else; the header says the limits that the crates have."""
 from __future__ import annotations
 
+import os
 import re
 import subprocess
 
-from library.building import REPOSITORY, Case, built
+from library.building import REPOSITORY, Case, build_library, built
 
 DRIVES = {"udfburn_open_drive", "udfburn_format_drive", "udfburn_drive_check"}
 
@@ -35,6 +36,12 @@ class Exports(Case):
     def test_the_archives(self) -> None:
         self.assertEqual(shown("--defined-only", "--extern-only", str(built().plain / "libudfburn.a")), declared() - DRIVES)
         self.assertEqual(shown("--defined-only", "--extern-only", str(built().plain / "libudfburn_drive.a")), declared())
+
+    def test_flags_of_distributions(self) -> None:
+        made = self.folder / "built"
+        build_library(os.environ["LIBRARY_CORE"], made, "-flto=auto -ffat-lto-objects -fvisibility=hidden -D_FORTIFY_SOURCE=2")
+        self.assertEqual(shown("-D", "--defined-only", str(made / "libudfburn.so")), declared())
+        self.assertEqual(shown("--defined-only", "--extern-only", str(made / "libudfburn.a")), declared() - DRIVES)
 
     def test_the_map(self) -> None:
         self.assertEqual(set(re.findall(r"^ +(udfburn_\w+);$", (REPOSITORY / "library/udfburn.map").read_text(), re.M)), declared())

@@ -1,4 +1,5 @@
-/* Volumes in several threads at once, each thread with a file and a drive of its own; then one handle that they use in turn.
+/* Volumes in several threads at once, each thread with a file and a drive of its own; then one handle that they use in turn, and
+ * children of fork() while a thread is in a call.
  * usage: threads FOLDER */
 #ifndef _GNU_SOURCE
 #define _GNU_SOURCE
@@ -6,8 +7,9 @@
 #include "support.h"
 
 #include <pthread.h>
+#include <sys/wait.h>
 
-enum { THREADS = 4, FILES = 50, CAPACITY = 2000 };
+enum { THREADS = 4, FILES = 50, CAPACITY = 2000, HANDLES = 300, FORKS = 300 };
 
 struct disc {
     uint8_t blocks[CAPACITY * UDFBURN_BLOCK];
@@ -42,6 +44,18 @@ static int32_t write_blocks(void *context, uint32_t address, uint32_t count, con
     memcpy(disc->blocks + (size_t)address * UDFBURN_BLOCK, blocks, (size_t)count * UDFBURN_BLOCK);
     disc->next = address + count;
     return 0;
+}
+
+/* The same for many drives on one disc, to which nothing is written any more. */
+static int32_t next_there(void *context, uint32_t *address) { return next_of(*(struct disc **)context, address); }
+
+static int32_t read_there(void *context, uint32_t address, uint32_t count, void *blocks) {
+    return read_blocks(*(struct disc **)context, address, count, blocks);
+}
+
+static int32_t write_nothing(void *context, uint32_t address, uint32_t count, const void *blocks) {
+    (void)context, (void)address, (void)count, (void)blocks;
+    return 1;
 }
 
 static int32_t fill(udfburn *handle, int number) {
@@ -115,6 +129,45 @@ static void in_turn(struct work *works) {
     udfburn_close(shared);
 }
 
+static int is_over;
+
+/* Asks until it is over: the more drives are open, the longer each call looks for its own. */
+static void *ask(void *given) {
+    struct udfburn_node node;
+    while (!__atomic_load_n(&is_over, __ATOMIC_ACQUIRE)) STATUS(UDFBURN_OK, udfburn_stat((udfburn *)given, "/", &node));
+    return NULL;
+}
+
+/* A child closes a handle, which must not wait for a thread that it has not. */
+static int child_ends(udfburn *handle) {
+    int status;
+    pid_t child = fork();
+    if (child == 0) {
+        alarm(20);
+        udfburn_close(handle);
+        _exit(EXIT_SUCCESS);
+    }
+    return child > 0 && waitpid(child, &status, 0) == child && status == 0;
+}
+
+static void forks(struct disc *disc) {
+    static struct disc *contexts[HANDLES];
+    udfburn *handles[HANDLES];
+    pthread_t thread;
+    int ended = 0;
+    for (int i = 0; i < HANDLES; i++) {
+        struct udfburn_drive drive = {&contexts[i], capacity_of, next_there, read_there, write_nothing};
+        contexts[i] = disc;
+        STATUS(UDFBURN_OK, udfburn_open_drive(&drive, &handles[i]));
+    }
+    if (pthread_create(&thread, NULL, ask, handles[HANDLES - 1])) abort();
+    while (ended < FORKS && child_ends(handles[0])) ended++;
+    __atomic_store_n(&is_over, 1, __ATOMIC_RELEASE);
+    pthread_join(thread, NULL);
+    EXPECT(ended == FORKS);
+    for (int i = 0; i < HANDLES; i++) udfburn_close(handles[i]);
+}
+
 int main(int argc, char **argv) {
     if (argc != 2 || chdir(argv[1])) return EXIT_FAILURE;
     struct work *works = (struct work *)calloc(THREADS, sizeof *works);
@@ -138,6 +191,7 @@ int main(int argc, char **argv) {
         EXPECT(memmem(works[i].disc.blocks, count, path, strlen(path)));
     }
     in_turn(works);
+    forks(&works[0].disc);
     free(works);
     return finish("threads");
 }
