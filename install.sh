@@ -124,8 +124,9 @@ for page in man/*.[1-9]; do
 done
 sed "s|@bindir@|$prefix/bin|g" packaging/systemd/udfburnd@.service | put 644 - "$prefix/lib/systemd/system/udfburnd@.service"
 put 644 packaging/systemd/udfburn.conf "$prefix/lib/sysusers.d/udfburn.conf"
-for page in README.md CHANGELOG.md SECURITY.md LICENSE-MIT LICENSE-APACHE docs/*.md docs/*.svg; do
-    [ ! -f "$page" ] || put 644 "$page" "$documents/$(basename "$page")"
+# Each document keeps its folder, so that links between documents lead to them.
+for page in README.md CHANGELOG.md CONTRIBUTING.md SECURITY.md LICENSE-MIT LICENSE-APACHE docs/*.md docs/*.svg clients/python/README.md; do
+    [ ! -f "$page" ] || put 644 "$page" "$documents/$page"
 done
 
 [ -z "$library" ] || put_library

@@ -58,7 +58,7 @@ expected() {
         echo "755 $1/bin/udfburnd"
         echo "644 $1/lib/systemd/system/udfburnd@.service"
         echo "644 $1/lib/sysusers.d/udfburn.conf"
-        for page in README.md CHANGELOG.md SECURITY.md LICENSE-MIT LICENSE-APACHE $(cd docs && ls); do
+        for page in README.md CHANGELOG.md CONTRIBUTING.md SECURITY.md LICENSE-MIT LICENSE-APACHE docs/*; do
             case $page in *.md | *.svg | LICENSE-*) echo "644 $1/share/doc/udfburn/$page" ;; esac
         done
         echo "644 $1/share/doc/udfburn/installed"
@@ -72,8 +72,20 @@ expected() {
             echo "644 $1/share/man/man1/udfburn-archive.1"
             echo "755 $1/bin/udfburn-archive"
             (cd clients/python && find udfburn -name '*.py' -o -name py.typed -o -name '*.html') | sed "s|^|644 $1/lib/udfburn/|"
+            echo "644 $1/share/doc/udfburn/clients/python/README.md"
         fi
     } | LC_ALL=C sort -k 2
+}
+
+# linked ROOT: whether each file that a document below it links to is there. The header and the examples are the library's.
+linked() {
+    (
+        cd "$1" && find . -name '*.md' | while IFS= read -r page; do
+            grep -o '](\.*[A-Za-z][A-Za-z0-9_./-]*[)#]' "$page" | sed 's/^](//; s/[)#]$//' | grep -v '/library/\|/examples/' |
+                while IFS= read -r link; do [ -e "$(dirname "$page")/$link" ] || echo "$page: $link"; done
+        done
+    ) > "$room/lost"
+    ! [ -s "$room/lost" ] || { cat "$room/lost"; return 1; }
 }
 
 # Words.
@@ -106,6 +118,7 @@ mkdir "$room/root"
 holds 'it installs below DESTDIR' env DESTDIR="$room/root" ./install.sh /usr/local
 expected usr/local > "$room/wanted"
 holds 'it installs these files' same "$room/wanted" files "$room/root"
+holds 'links between the documents lead to them' linked "$room/root/usr/local/share/doc/udfburn"
 holds 'no file has the name of DESTDIR' sh -c '! grep -rF "$1" "$1/root"' - "$room"
 holds 'the program is the one that was built' cmp "$UDFBURN" "$room/root/usr/local/bin/udfburn"
 holds 'the daemon is the one that was built' cmp "$UDFBURND" "$room/root/usr/local/bin/udfburnd"
@@ -276,7 +289,7 @@ if [ -n "$library" ] && command -v dpkg-deb > "$room/which"; then
     machine=$(gcc -dumpmachine)
     {
         library_files usr "usr/lib/$machine" | sed -e 's|\(share/man/.*\)|\1.gz|' -e 's|doc/udfburn/|doc/libudfburn-dev/|'
-        for page in EMBEDDING.md PROTOCOL.md; do echo "644 usr/share/doc/libudfburn-dev/$page"; done
+        for page in EMBEDDING.md PROTOCOL.md; do echo "644 usr/share/doc/libudfburn-dev/docs/$page"; done
         for package in libudfburn0 libudfburn-dev; do
             for file in NEWS.gz changelog.gz copyright; do echo "644 usr/share/doc/$package/$file"; done
         done

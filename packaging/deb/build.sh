@@ -119,9 +119,10 @@ libraries() {
     move libudfburn0 "$libdir/libudfburn.so.0"
     move libudfburn-dev "$libdir/libudfburn.so" "$libdir/libudfburn.a" "$libdir/libudfburn_drive.a" "$libdir/pkgconfig/udfburn.pc" \
         /usr/include/udfburn.h /usr/share/man/man3/udfburn.3.gz
-    mkdir -p "$work/libudfburn-dev/usr/share/doc/libudfburn-dev"
-    mv "$work/installed/usr/share/doc/udfburn/examples" "$work/installed/usr/share/doc/udfburn/EMBEDDING.md" \
-        "$work/installed/usr/share/doc/udfburn/PROTOCOL.md" "$work/libudfburn-dev/usr/share/doc/libudfburn-dev/"
+    mkdir -p "$work/libudfburn-dev/usr/share/doc/libudfburn-dev/docs"
+    mv "$work/installed/usr/share/doc/udfburn/examples" "$work/libudfburn-dev/usr/share/doc/libudfburn-dev/"
+    mv "$work/installed/usr/share/doc/udfburn/docs/EMBEDDING.md" "$work/installed/usr/share/doc/udfburn/docs/PROTOCOL.md" \
+        "$work/libudfburn-dev/usr/share/doc/libudfburn-dev/docs/"
     strip --strip-unneeded --remove-section=.comment --remove-section=.note "$work/libudfburn0$libdir/libudfburn.so.0"
     documents libudfburn0
     documents libudfburn-dev
