@@ -110,9 +110,9 @@ def _labels(v: Vectors) -> None:
     v.case("label-in-128-bytes", of, "bytes " + digits(wide), 'label -> "DISC"')
     v.case("no-label-in-64-bytes", of, "bytes " + digits(wide[:64]), "label -> none")
     v.case("no-label-without-a-character", of, "bytes 00*32", "label -> none")
-    for letters, shown in [(30, told("a" * 30)), (31, "none")]:
+    for letters, label in [(30, told("a" * 30)), (31, "none")]:
         name = f"a-label-of-{letters}-letters-in-128-bytes"
-        v.case(name, of, "bytes " + digits(layouts.dstring("a" * letters, 128)), f"label -> {shown}")
+        v.case(name, of, "bytes " + digits(layouts.dstring("a" * letters, 128)), f"label -> {label}")
     v.about("The volume set identifier (UDF 2.01 2.2.2.5): sixteen digits, and the label after them.")
     of = TEXTS + "labels_stand_behind_digits"
     for name, text, count in [("disc", "DISC", 21), ("of-two-bytes", "\u0101", 35)]:
