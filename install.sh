@@ -111,6 +111,18 @@ put_library() {
     done
 }
 
+# put_starter NAME PACKAGE: a program that runs a package of ours. The folder in which it is started is left out of Python's path, since
+# a file there may have the name of any module: by Python 3.11 itself, and before that by the code.
+put_starter() {
+    put 755 - "$prefix/bin/$1" << END
+#!/bin/sh
+PYTHONSAFEPATH=1 PYTHONPATH=$python_dir\${PYTHONPATH:+:\$PYTHONPATH} exec python3 -c 'import sys
+if not sys.path[0]: del sys.path[0]
+from $2.cli import main
+sys.exit(main())' "\$@"
+END
+}
+
 put 755 "$udfburn" "$prefix/bin/udfburn"
 put 755 "$udfburnd" "$prefix/bin/udfburnd"
 for page in man/*.[1-9]; do
@@ -137,14 +149,8 @@ if [ -d clients/python/udfburn ]; then
         put 644 "clients/python/$file" "$python_dir/$file"
     done < "$list.python"
     rm -f "$list.python"
-    put 755 - "$prefix/bin/udfburn-client" << END
-#!/bin/sh
-PYTHONPATH=$python_dir\${PYTHONPATH:+:\$PYTHONPATH} exec python3 -m udfburn "\$@"
-END
-    put 755 - "$prefix/bin/udfburn-archive" << END
-#!/bin/sh
-PYTHONPATH=$python_dir\${PYTHONPATH:+:\$PYTHONPATH} exec python3 -m udfburn.archive "\$@"
-END
+    put_starter udfburn-client udfburn
+    put_starter udfburn-archive udfburn.archive
 fi
 
 # What an earlier version had and this one has not, goes.

@@ -132,6 +132,8 @@ int main(int argc, char **argv) {
         fprintf(stderr, "record: %s\n", udfburn_error_name(status));
     } else if (ferror(stdin)) {
         perror("record: the stream");
+    } else if (ferror(stdout)) {
+        fprintf(stderr, "record: the output cannot be written\n");
     }
-    return status != UDFBURN_OK || ferror(stdin);
+    return status != UDFBURN_OK || ferror(stdin) || ferror(stdout);
 }

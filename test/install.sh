@@ -174,6 +174,9 @@ holds 'an installed program checks' same "$room/wanted" "$prefix/bin/udfburn" ch
 if [ -d clients/python/udfburn ] && [ -f clients/python/udfburn/__main__.py ]; then
     if command -v python3 > "$room/which"; then
         holds 'the installed client says its words' "$prefix/bin/udfburn-client" --help
+        mkdir "$room/modules"
+        for module in argparse json socket udfburn; do echo 'raise SystemExit(9)' > "$room/modules/$module.py"; done
+        holds 'it takes no module from the folder where it is started' sh -c 'cd "$1/modules" && "$2/bin/udfburn-client" --help' - "$room" "$prefix"
         # Its page has the options that its commands have.
         for command in put get ls mkdir mv rm verify resume map format status check seal salvage log; do
             "$prefix/bin/udfburn-client" "$command" --help
@@ -184,6 +187,7 @@ if [ -d clients/python/udfburn ] && [ -f clients/python/udfburn/__main__.py ]; t
         holds 'its page has its options' same "$room/wanted" sort -u "$room/page"
         if python3 -c 'import tomllib' 2> "$room/which"; then
             holds 'the installed archive says its words' "$prefix/bin/udfburn-archive" --help
+            holds 'the archive takes no module from there' sh -c 'cd "$1/modules" && "$2/bin/udfburn-archive" --help' - "$room" "$prefix"
             for command in init add ls find history where get status close check repair rebuild adopt report; do
                 "$prefix/bin/udfburn-archive" "$command" --help
             done | grep -o -e '--[a-z][a-z-]*' | sort -u > "$room/wanted"

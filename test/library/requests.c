@@ -252,6 +252,12 @@ static void test_used_numbers(void) {
     request.moment++;
     GIVES(udfburn_create(disc, &request, "/a", "x", 1), UDFBURN_USED);
     CHECK(holds(disc, "/a", "x", 1));
+    /* The number of a request that was refused gives that refusal again, whatever is asked for. */
+    request = numbered(7, 0);
+    GIVES(udfburn_create(disc, &request, "/a", "x", 1), UDFBURN_EXISTS);
+    GIVES(udfburn_create(disc, &request, "/new", "x", 1), UDFBURN_EXISTS);
+    CHECK(request.repeated == 1);
+    GIVES(look(disc, "/new"), UDFBURN_NOT_FOUND);
     udfburn_close(disc);
 }
 

@@ -134,6 +134,14 @@ class Record(WithImage):
         self.assertEqual(done.stdout.split(), [b"%d" % size for size in (0, PART, 2 * PART, 3 * PART, len(self.stream))])
         self.check_recorded(recorded(self.stream))
 
+    def test_an_output_that_is_full(self) -> None:
+        """All is on the volume, and that nobody could read so is a failure."""
+        with open("/dev/full", "wb") as full:
+            done = subprocess.run([str(examples() / "record"), "disc.img", "talk"], cwd=self.folder, input=self.stream, stdout=full,
+                                  stderr=subprocess.PIPE, timeout=PATIENCE, env=self.environment())
+        self.assertEqual((done.returncode, done.stderr), (1, b"record: the output cannot be written\n"))
+        self.check_recorded(recorded(self.stream))
+
     def test_it_goes_on(self) -> None:
         end = 2 * PART + 1000
         self.record(self.stream[:end], 0)
