@@ -2,14 +2,15 @@
 
 from __future__ import annotations
 
+import atexit
 import os
-import re
 import time
 from collections import deque
 from concurrent.futures import Future, ProcessPoolExecutor
-from contextlib import suppress
 from functools import partial
 from multiprocessing import get_context
+from shutil import rmtree
+from tempfile import mkdtemp
 from typing import Callable, Deque, Dict, Iterable, Iterator, List, NamedTuple, Optional, Set, Tuple
 
 from ..ledger_file import sync_folder
@@ -19,7 +20,7 @@ from .base import SqliteBase
 from .catalogue import CLOSED, CLOSING, FULL, NEW, OPEN, Catalogue, Held, VolumeRow
 from .claims import claims_of
 from .close import sidecar
-from .config import Config, volume_label
+from .config import LOCAL, Config, traces, volume_label
 from .contents import ABOUT, About, Contents
 from .errors import CatalogueError, Claimed, VolumeDiffers
 from .tell import Tell, plural, shown_path
@@ -58,16 +59,6 @@ def images(config: Config, others: List[str]) -> Iterator[Tuple[str, bool]]:
                 yield os.path.join(folder, name), closed
 
 
-def traces(config: Config) -> Set[int]:
-    """The numbers of volumes of which a file is in the folder of the archive, or in a folder for copies."""
-    own = re.compile(re.escape(config.label) + r"-([0-9]{6,})\.[a-z0-9]+")
-    found: Set[int] = set()
-    for folder in (config.path("closed"), config.path("open"), *filter(os.path.isabs, config.copies)):
-        with suppress(OSError):
-            found.update(int(match.group(1)) for match in map(own.fullmatch, os.listdir(folder)) if match)
-    return found
-
-
 def open_or_make(config: Config, tell: Tell) -> Catalogue:
     """The catalogue; a new one where it is lost. One that cannot be read is put aside, and not deleted."""
     try:
@@ -83,6 +74,21 @@ def open_or_make(config: Config, tell: Tell) -> Catalogue:
                 os.rename(path + end, aside + end)
         sync_folder(os.path.dirname(path))
         return Catalogue(config, make=True)
+
+
+def open_to_compare(config: Config, tell: Tell) -> Catalogue:
+    """The catalogue, for a run that changes nothing. In the place of one that is lost or damaged it is an empty one, which goes with this
+    process."""
+    try:
+        return Catalogue(config)
+    except CatalogueError as error:
+        path = config.sqlite()
+        if path is None or os.path.isfile(path) and not is_broken(path):
+            raise
+        tell.note(f"{error}: the volumes are compared with an empty one", did="no catalogue", path=path)
+    folder = mkdtemp()
+    atexit.register(rmtree, folder, ignore_errors=True)
+    return Catalogue(config._replace(catalogue=os.path.join(folder, LOCAL)), make=True)
 
 
 def is_broken(path: str) -> bool:
@@ -225,9 +231,10 @@ class Rebuilder:
         """Whether a volume is of this archive. A catalogue that was made anew takes the archive of its first volume."""
         if archive == self.catalogue.id:
             return True
-        if self.catalogue.volumes() or self.dry_run:
+        if self.catalogue.volumes() or self.summary.volumes:
             return False
-        self.catalogue.base.run("UPDATE archive SET id = ?", (archive,))
+        if not self.dry_run:
+            self.catalogue.base.run("UPDATE archive SET id = ?", (archive,))
         self.catalogue.id = archive
         return True
 

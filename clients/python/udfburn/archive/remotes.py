@@ -62,6 +62,10 @@ class Remote:
         """The length and the digest of a file there, by all its bytes; None where it is not there."""
         raise NotImplementedError
 
+    def is_file(self, local: str, name: str) -> bool:
+        """Whether a file there is a local one itself."""
+        return False
+
 
 class FolderRemote(Remote):
     """A folder."""
@@ -94,6 +98,12 @@ class FolderRemote(Remote):
             return None
         except OSError as error:
             raise CopyFailed(f"{shown(path)}: {error.strerror or error}") from error
+
+    def is_file(self, local: str, name: str) -> bool:
+        try:
+            return os.path.samefile(local, os.path.join(self.name, name))
+        except OSError:
+            return False
 
 
 class RcloneRemote(Remote):

@@ -1,0 +1,142 @@
+"""A catalogue that is older than its volumes, and archives that share a label or a folder for copies: no volume takes the place of another,
+and no source goes for a copy that is none."""
+
+from __future__ import annotations
+
+import os
+import shutil
+from typing import Optional
+
+from .support import WithArchive, digests, write
+
+
+class WithOlder(WithArchive):
+    def setUp(self) -> None:
+        super().setUp()
+        self.copies = self.path("copies")
+        os.mkdir(self.copies)
+        self.catalogue = os.path.join(self.archive, "catalogue.sqlite")
+
+    def keep(self) -> None:
+        """Keeps the catalogue as it is now."""
+        shutil.copy(self.catalogue, self.path("kept"))
+
+    def bring_back(self) -> None:
+        """Puts the catalogue that was kept in the place of the newer one."""
+        self.remove()
+        shutil.copy(self.path("kept"), self.catalogue)
+
+    def remove(self) -> None:
+        """Has no catalogue."""
+        for end in ("", "-wal", "-shm"):
+            if os.path.exists(self.catalogue + end):
+                os.unlink(self.catalogue + end)
+
+    def change_source(self, name: str) -> None:
+        shutil.rmtree(self.source)
+        write(os.path.join(self.source, name), os.urandom(5000))
+
+
+class Older(WithOlder):
+    """A catalogue of an earlier day."""
+
+    def test_no_volume_gets_the_number_of_one_that_the_catalogue_does_not_know(self) -> None:
+        self.init("--copies", self.copies)
+        self.keep()
+        self.change_source("a")
+        self.add()
+        self.do("close")
+        before, volumes, copies = digests(self.source), digests(os.path.join(self.archive, "closed")), digests(self.copies)
+        self.bring_back()
+        self.change_source("b")
+        self.assertIn("run 'udfburn-archive rebuild' first", self.add(status=1).errors)
+        self.do("rebuild")
+        self.add()
+        self.do("close")
+        for name, digest in volumes.items():
+            self.assertEqual(digests(os.path.join(self.archive, "closed"))[name], digest)
+            self.assertEqual(digests(self.copies)[name][0], copies[name][0])
+        self.assertEqual(self.get_all(), {**before, **digests(self.source)})
+
+    def test_a_volume_that_was_closed_since(self) -> None:
+        self.init("--delete", "acknowledged")
+        self.change_source("a")
+        self.add()
+        self.keep()
+        before = digests(self.source)
+        self.do("close")
+        self.bring_back()
+        self.change_source("b")
+        self.assertIn("run 'udfburn-archive rebuild' first", self.add(status=1).errors)
+        self.do("rebuild")
+        self.add()
+        self.assertEqual(self.get_all(), {**before, **digests(self.source)})
+
+    def test_an_image_does_not_take_the_place_of_a_closed_one(self) -> None:
+        self.init("--delete", "acknowledged")
+        self.change_source("a")
+        self.add()
+        other = write(os.path.join(self.archive, "closed", "T-000001.img"), b"another image")
+        self.assertIn("T-000001.img: is there already", self.do("close", status=1).errors)
+        with open(other, "rb") as file:
+            self.assertEqual(file.read(), b"another image")
+        os.unlink(other)
+        self.do("close")
+
+    def test_a_dry_run_makes_no_catalogue(self) -> None:
+        self.init("--delete", "acknowledged")
+        self.change_source("a")
+        self.add()
+        self.do("close")
+        damaged = b"SQLite format 3\0" + bytes(5000)
+        for left in (None, damaged):
+            self.bring_nothing(left)
+            before = digests(self.archive)
+            done = self.do("rebuild", "--dry-run")
+            self.assertEqual([(line["volume"], line["files"]) for line in done.objects() if line["did"] == "unknown"], [("T-000001", 1)])
+            self.assertEqual(done.last()["failures"], [])
+            self.assertEqual(digests(self.archive), before)
+            self.assertIn("rebuild", self.add(status=1).errors)
+        self.do("rebuild")
+        self.assertEqual(self.get_all(), digests(self.source))
+
+    def bring_nothing(self, data: Optional[bytes]) -> None:
+        """Has no catalogue, or one with these bytes."""
+        self.remove()
+        if data is not None:
+            write(self.catalogue, data)
+
+
+class Shared(WithOlder):
+    """Folders for copies that are not only this archive's."""
+
+    def test_an_archive_with_the_same_label_keeps_its_copies(self) -> None:
+        other = self.path("other")
+        for archive, name in ((self.archive, "a"), (other, "b")):
+            self.init("--copies", self.copies, archive=archive)
+            write(os.path.join(self.source, name), os.urandom(5000))
+            self.run_in(archive, "add", os.path.join(self.source, name), "--at", f"/s/{name}")
+        self.do("close")
+        copy = digests(self.copies)
+        failures = self.run_in(other, "close", status=1).last()["failures"]
+        self.assertIn("has another volume with this name", failures[0])
+        self.assertEqual(digests(self.copies), copy)
+        # Each has its own source still, until its own copy is there.
+        deleted = [self.run_in(archive, "add", self.source, "--at", "/s", "--delete-source").last()["deleted"] for archive in (other, self.archive)]
+        self.assertEqual((deleted, os.listdir(self.source)), ([0, 1], ["b"]))
+        self.assertEqual(self.do("check", "--remotes").last()["failures"], [])
+
+    def test_the_image_itself_is_no_copy(self) -> None:
+        self.init("--copies", os.path.join(self.archive, "closed"))
+        self.change_source("a")
+        self.add()
+        self.assertIn("is the image itself", self.do("close", status=1).last()["failures"][0])
+        self.assertEqual(self.add("--delete-source").last()["deleted"], 0)
+
+    def test_a_folder_whose_name_is_not_utf8(self) -> None:
+        self.assertIn("is not UTF-8", self.do("init", self.archive, "--copies", os.fsdecode(os.fsencode(self.copies) + b"\xff"), status=1).errors)
+        self.init("--copies", self.copies)
+
+    def test_two_names_of_one_folder_are_one_copy(self) -> None:
+        os.symlink(self.copies, self.path("link"))
+        self.assertIn("is the same folder as", self.do("init", self.archive, "--copies", self.copies, self.path("link"), status=1).errors)
