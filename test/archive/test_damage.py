@@ -3,6 +3,8 @@
 from __future__ import annotations
 
 import os
+import sqlite3
+from contextlib import closing
 from typing import List
 
 from .support import WithArchive, digests, make_tree, write
@@ -102,3 +104,23 @@ class Damage(WithArchive):
         last = self.add("--delete-source").last()
         self.assertEqual((last["deleted"], last["kept"]), (0, 1))
         self.assertEqual(list(digests(self.source)), [b"big"])
+
+
+class Catalogue(WithArchive):
+    """A catalogue that takes no more files."""
+
+    def test_nothing_is_reported_as_stored_that_the_catalogue_does_not_have(self) -> None:
+        self.init("--delete", "acknowledged")
+        make_tree(self.source, 20, 1)
+        before = digests(self.source)
+        with closing(sqlite3.connect(self.path("archive", "catalogue.sqlite"))) as base:
+            base.execute("CREATE TRIGGER full BEFORE INSERT ON file BEGIN SELECT RAISE (ABORT, 'database or disk is full'); END")
+        for words in ((), ("--each",)):
+            done = self.add("--delete-source", *words, status=1)
+            self.assertEqual([line["did"] for line in done.objects()], ["opened", "failed", "add"] if not words else ["failed", "add"])
+            self.assertEqual(digests(self.source), before)
+        with closing(sqlite3.connect(self.path("archive", "catalogue.sqlite"))) as base:
+            base.execute("DROP TRIGGER full")
+        done = self.add("--delete-source")
+        self.assertEqual((done.last()["same"], done.last()["deleted"]), (20, 20))
+        self.assertEqual(self.get_all(), before)

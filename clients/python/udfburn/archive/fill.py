@@ -213,7 +213,6 @@ class Filler:
             job.commit = outcome.commit
         if job.stored():
             done.append(job)
-            self.tell.step("stored", job.source.path, job.planned_bytes(), volume.row.label, outcome.commit)
 
     def _keep(self, volume: OpenVolume, done: List[Job], cut: Sequence[Job] = ()) -> None:
         """Has the catalogue keep what is stored, and then calls whoever deletes sources."""
@@ -226,6 +225,8 @@ class Filler:
         self.catalogue.add(volume.row, rows)
         finished = list(done)
         done.clear()
+        for job in finished:
+            self.tell.step("stored", job.source.path, job.planned_bytes(), volume.row.label, job.commit)
         self.kept(finished)
 
 
