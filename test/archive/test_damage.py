@@ -124,3 +124,39 @@ class Catalogue(WithArchive):
         done = self.add("--delete-source")
         self.assertEqual((done.last()["same"], done.last()["deleted"]), (20, 20))
         self.assertEqual(self.get_all(), before)
+
+
+class Unreadable(WithArchive):
+    """Files of which the disk gives no byte: their reads end with an error, as those of this file of the system do."""
+
+    def setUp(self) -> None:
+        super().setUp()
+        self.copies = [self.path("one"), self.path("two")]
+        for copy in self.copies:
+            os.mkdir(copy)
+        self.init("--copies", *self.copies)
+        make_tree(self.source, 20, 1)
+        self.add()
+        self.do("close")
+
+    def spoil(self, folder: str) -> None:
+        """Has the image in a folder give an error when it is read."""
+        image = os.path.join(folder, "T-000001.img")
+        os.unlink(image)
+        os.symlink("/proc/self/mem", image)
+
+    def test_an_image_is_replaced_by_a_copy(self) -> None:
+        before = digests(self.source)
+        self.spoil(self.path("archive", "closed"))
+        self.assertIn("repair T-000001", self.do("check", status=1).errors)
+        self.assertEqual(self.do("repair").last()["repaired"], 1)
+        self.assertEqual(self.do("check", "--remotes").last()["failures"], [])
+        self.assertEqual(self.get_all(), before)
+
+    def test_a_copy_is_replaced_by_the_image(self) -> None:
+        self.spoil(self.copies[0])
+        self.assertIn("repair T-000001", self.do("check", "--remotes", status=1).errors)
+        self.assertEqual(self.add("--delete-source").last()["deleted"], 0)
+        self.assertEqual(self.do("repair").last()["repaired"], 1)
+        self.assertEqual(self.do("check", "--remotes").last()["failures"], [])
+        self.assertEqual(self.add("--delete-source").last()["deleted"], 20)

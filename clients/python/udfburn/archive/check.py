@@ -161,6 +161,14 @@ class Checker:
         return "no copy is known: 'udfburn-client salvage' copies out what is intact"
 
 
+def has_print(image: str, wanted: Print) -> bool:
+    """Whether an image is there, with this length and digest. One that cannot be read has another."""
+    try:
+        return os.path.isfile(image) and print_of_file(image, fresh=True) == wanted
+    except OSError:
+        return False
+
+
 class Repairer:
     """A run of `repair`: a damaged or lost image from a good copy, and damaged or lost copies from a good image."""
 
@@ -177,13 +185,13 @@ class Repairer:
                 continue
             try:
                 self._volume(row)
-            except CopyFailed as error:
+            except (CopyFailed, OSError) as error:
                 self.failures.append(f"{row.label}: {error}")
 
     def _volume(self, row: VolumeRow) -> None:
         wanted = Print(row.length or 0, row.sha256 or b"")
         image = self.config.path("closed", row.label + ".img")
-        if not (os.path.isfile(image) and print_of_file(image, fresh=True) == wanted):
+        if not has_print(image, wanted):
             self._fetch(row, image, wanted)
         if row.trouble:
             self.catalogue.save(row._replace(trouble=None, checked=now()))
