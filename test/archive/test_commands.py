@@ -330,3 +330,38 @@ class Deleting(WithArchive):
         self.do("close")
         self.assertEqual(self.add("--delete-source").last()["deleted"], 30)
         self.assertEqual(self.get_all(), before)
+
+
+class Streams(WithArchive):
+    """Standard streams that are closed or full, or do not have all letters."""
+
+    def setUp(self) -> None:
+        super().setUp()
+        self.init("--delete", "acknowledged")
+        make_tree(self.source, 10, 1)
+        write(os.path.join(self.source, "\u00e9\u65e5"), b"a name that is not ASCII")
+
+    def command(self, shell: str, *words: str, **variables: str) -> "subprocess.CompletedProcess[str]":
+        """Runs a command by a line of the shell, in which `"$@"` stands for it."""
+        line = ["sh", "-c", shell, "sh", *words_of(*words)]
+        return subprocess.run(line, env={**environment(), **variables}, stdout=subprocess.PIPE, stderr=subprocess.PIPE, text=True, check=False)
+
+    def test_names_that_the_output_does_not_have(self) -> None:
+        done = self.command('exec "$@"', "add", self.source, "--at", "/s", "--archive", self.archive, "--delete-source", PYTHONIOENCODING="ascii")
+        self.assertEqual((done.returncode, done.stderr), (0, ""))
+        self.assertIn("stored /s/\\xe9\\u65e5 T-000001\n", done.stdout)
+        self.assertEqual(digests(self.source), {})
+
+    def test_a_closed_standard_error(self) -> None:
+        before = digests(self.source)
+        done = self.command('exec "$@" 2>&-', "add", self.source, "--at", "/s", "--archive", self.archive)
+        self.assertEqual((done.returncode, done.stdout.splitlines()[-1][:16]), (0, "stored 11 files,"))
+        done = self.command('exec "$@" 2>&-', "ls", "/nowhere", "--archive", self.archive)
+        self.assertEqual((done.returncode, done.stdout), (1, ""))
+        self.assertEqual(self.get_all(), before)
+
+    def test_a_standard_output_that_is_closed_or_full(self) -> None:
+        for words in (("status", "--archive", self.archive), ("--help",)):
+            full, closed = (self.command(f'exec "$@" {where}', *words) for where in (">/dev/full", ">&-"))
+            self.assertEqual((full.returncode, full.stderr), (1, "udfburn-archive: the standard output takes no more: No space left on device\n"))
+            self.assertEqual((closed.returncode, closed.stderr.split(",")[0].rstrip()), (1, "udfburn-archive: the standard output is closed"))

@@ -202,7 +202,7 @@ class Output(Volumes):
         client = self.on_image()
         client.put("/a", b"hello")
         client.close()
-        for words in (["ls"], ["ls", "--json"], ["get", "/a", "-"]):
+        for words in (["ls"], ["ls", "--json"], ["get", "/a", "-"], ["ls", "--help"]):
             with open("/dev/full", "w") as full:
                 done = subprocess.run(self.words(*words, where=["--image", self.image]), env=self.environment(), stdout=full, stderr=subprocess.PIPE, text=True, check=False)
             self.assertEqual(done.returncode, 1, done.stderr)

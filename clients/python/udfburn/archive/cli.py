@@ -3,13 +3,13 @@
 from __future__ import annotations
 
 import argparse
-import os
 import sys
 from typing import TYPE_CHECKING, Any, Callable, Dict, List, Optional
 
 from .. import __version__
 from ..errors import OutputFailed, UdfburnError, UsageError
 from ..protocol import limits
+from ..streams import drop_output, parsed, take_any_name, take_descriptors
 from .tell import Tell
 
 if TYPE_CHECKING:
@@ -141,11 +141,12 @@ def main(words: Optional[List[str]] = None) -> int:
     if sys.version_info < (3, 11):
         print("udfburn-archive: needs Python 3.11 or later", file=sys.stderr)
         return 1
+    closed = take_descriptors()
     try:
-        arguments = parser().parse_args(words)
+        arguments = parsed(parser(), words, closed)
     except SystemExit as end:
         return int(end.code or 0)
-    closed = sys.stdout is None
+    take_any_name()
     tell = arguments.tell = Tell(arguments.quiet, arguments.json, closed=closed)
     try:
         tell.require_output()
@@ -153,12 +154,16 @@ def main(words: Optional[List[str]] = None) -> int:
         tell.finish(arguments.command, status)
         return status
     except BrokenPipeError:
-        os.dup2(os.open(os.devnull, os.O_WRONLY), sys.stdout.fileno())
+        drop_output()
         print("udfburn-archive: the standard output is closed", file=sys.stderr)
         return 1
     except OutputFailed as error:
+        drop_output()
         print(f"udfburn-archive: {error}", file=sys.stderr)
         return 1
+    except KeyboardInterrupt:
+        # After the command ended.
+        return 130
 
 
 def run(arguments: argparse.Namespace, tell: Tell) -> int:
