@@ -11,7 +11,7 @@ from functools import partial
 from multiprocessing import get_context
 from shutil import rmtree
 from tempfile import mkdtemp
-from typing import Callable, Deque, Dict, Iterable, Iterator, List, NamedTuple, Optional, Set, Tuple
+from typing import Callable, Deque, Dict, Iterable, Iterator, List, NamedTuple, Optional, Tuple
 
 from ..ledger_file import sync_folder
 from ..sources import shown
