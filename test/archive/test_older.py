@@ -5,9 +5,18 @@ from __future__ import annotations
 
 import os
 import shutil
+import sys
 from typing import Optional
+from unittest import mock
 
-from .support import WithArchive, digests, write
+from .support import PACKAGE, WithArchive, digests, write
+
+sys.path.insert(0, PACKAGE)
+
+from udfburn.archive.catalogue import Catalogue, VolumeRow  # noqa: E402
+from udfburn.archive.check import Checker, Options  # noqa: E402
+from udfburn.archive.config import read  # noqa: E402
+from udfburn.archive.tell import Tell  # noqa: E402
 
 
 class WithOlder(WithArchive):
@@ -140,3 +149,29 @@ class Shared(WithOlder):
     def test_two_names_of_one_folder_are_one_copy(self) -> None:
         os.symlink(self.copies, self.path("link"))
         self.assertIn("is the same folder as", self.do("init", self.archive, "--copies", self.copies, self.path("link"), status=1).errors)
+
+
+class AtOnce(WithOlder):
+    """Commands that run at once."""
+
+    def test_a_check_does_not_undo_what_came_meanwhile(self) -> None:
+        """The volume is closed while its data is read."""
+        self.init("--delete", "acknowledged")
+        self.change_source("a")
+        self.add()
+        config = read(self.archive)
+        with Catalogue(config) as catalogue:
+            checker = Checker(config, catalogue, Tell(True, False), Options(data=True))
+            found = checker._trouble
+
+            def slowly(row: VolumeRow, image: str) -> Optional[str]:
+                trouble = found(row, image)
+                self.do("close")
+                return trouble
+
+            with mock.patch.object(checker, "_trouble", slowly):
+                checker.run(catalogue.volumes())
+        self.assertEqual(checker.failures, [])
+        (volume,) = self.volumes()
+        self.assertEqual((volume["state"], len(volume["sha256"] or "")), ("closed", 64))
+        self.assertEqual(self.do("check").last()["failures"], [])

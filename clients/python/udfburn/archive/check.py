@@ -75,9 +75,11 @@ class Checker:
         self.tell.working(f"reading {row.label}")
         trouble = self._trouble(row, image)
         self.volumes += 1
-        time = now()
-        data = time if self.options.data else row.data_checked
-        self.catalogue.save(row._replace(checked=time, data_checked=data, trouble=trouble if row.state == CLOSED else row.trouble))
+        with self.catalogue.base.transaction():
+            # Another process may have filled or closed it meanwhile.
+            fresh, time = self.catalogue.volume(row.number) or row, now()
+            data = time if self.options.data else fresh.data_checked
+            self.catalogue.save(fresh._replace(checked=time, data_checked=data, trouble=trouble if row.state == CLOSED else fresh.trouble))
         if trouble:
             self.failures.append(f"{row.label}: {trouble}: {self._cure(row)}")
         self.tell.say_step(f"{row.label}: {trouble or 'is intact'}", did="checked", volume=row.label, trouble=trouble)
