@@ -277,6 +277,19 @@ class Commands(WithArchive):
         self.assertIn("does not fit", done.errors)
         self.assertEqual(done.last()["files"], 1)
 
+    def test_two_paths_that_would_be_one_file(self) -> None:
+        """Neither takes the place of the other, even if existing files are replaced."""
+        self.init()
+        for folder in ("x", "y"):
+            write(os.path.join(self.source, folder, "same"), folder.encode())
+        self.add()
+        out = self.path("out")
+        for words in ((), ("--force",)):
+            done = self.do("get", "/s/x/same", "/s/y/same", out, *words, status=1)
+            self.assertIn("two of the files would have this path", done.errors)
+            self.assertFalse(os.path.exists(out))
+        self.assertEqual(self.do("get", "/s/x/same", "/s/x/same", out).last()["files"], 1)
+
 
 class Deleting(WithArchive):
     def test_acknowledged(self) -> None:
