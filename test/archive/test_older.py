@@ -4,12 +4,17 @@ and no source goes for a copy that is none."""
 from __future__ import annotations
 
 import os
+import random
 import shutil
+import signal
+import subprocess
 import sys
-from typing import Optional
+import time
+from pathlib import Path
+from typing import List, Optional, Tuple
 from unittest import mock
 
-from .support import PACKAGE, WithArchive, digests, write
+from .support import PACKAGE, PATIENCE, WithArchive, digests, environment, wait_until, words_of, write
 
 sys.path.insert(0, PACKAGE)
 
@@ -175,3 +180,46 @@ class AtOnce(WithOlder):
         (volume,) = self.volumes()
         self.assertEqual((volume["state"], len(volume["sha256"] or "")), ("closed", 64))
         self.assertEqual(self.do("check").last()["failures"], [])
+
+
+class Readers(WithArchive):
+    """The processes by which `rebuild` reads several volumes at once."""
+
+    def setUp(self) -> None:
+        super().setUp()
+        for number in range(3):
+            other = self.path(f"other {number}")
+            self.init("--delete", "acknowledged", archive=other)
+            write(os.path.join(self.source, f"{number}"), b"x")
+            self.run_in(other, "add", self.source)
+        self.images = [os.path.join(self.path(f"other {number}"), "open", "T-000001.img") for number in range(3)]
+        self.init("--delete", "acknowledged")
+
+    def rebuild(self, number: int, to_all: bool) -> Tuple[int, str]:
+        """Sends a signal to a reader once there is one, or to all processes; gives the status, and what was said."""
+        words = words_of("rebuild", "--dry-run", *self.images, "--archive", self.archive)
+        with subprocess.Popen(words, env=environment(), stdout=subprocess.DEVNULL, stderr=subprocess.PIPE, text=True, start_new_session=True) as process:
+            wait_until(lambda: process.poll() is not None or readers(process.pid))
+            time.sleep(random.random() / 5)
+            if to_all:
+                os.killpg(process.pid, number)
+            else:
+                os.kill(readers(process.pid)[0], number)
+            _, errors = process.communicate(timeout=PATIENCE)
+        return process.returncode, errors
+
+    def test_an_interrupt(self) -> None:
+        for _ in range(4):
+            status, errors = self.rebuild(signal.SIGINT, True)
+            self.assertEqual((status, errors), (130, "udfburn-archive: interrupted: run the same command again to continue\n"))
+
+    def test_one_that_is_killed(self) -> None:
+        status, errors = self.rebuild(signal.SIGKILL, False)
+        self.assertEqual((status, errors), (1, "udfburn-archive: a process that reads volumes was killed: run 'rebuild' again\n"))
+
+
+def readers(process: int) -> List[int]:
+    """The readers that a process has begun."""
+    with open(f"/proc/{process}/task/{process}/children", encoding="ascii") as file:
+        children = list(map(int, file.read().split()))
+    return [child for child in children if "spawn_main" in Path(f"/proc/{child}/cmdline").read_text("utf-8")]

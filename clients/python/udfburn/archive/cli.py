@@ -136,6 +136,9 @@ def function(name: str) -> Callable[[Any], int]:
     return found
 
 
+INTERRUPTED = "interrupted: run the same command again to continue"
+
+
 def main(words: Optional[List[str]] = None) -> int:
     """Runs a command, and gives its status."""
     if sys.version_info < (3, 11):
@@ -144,10 +147,19 @@ def main(words: Optional[List[str]] = None) -> int:
     closed = take_descriptors()
     try:
         arguments = parsed(parser(), words, closed)
+        return printed(arguments, Tell(arguments.quiet, arguments.json, closed=closed))
     except SystemExit as end:
         return int(end.code or 0)
+    except KeyboardInterrupt:
+        # Before the command began, or after it.
+        print(f"udfburn-archive: {INTERRUPTED}", file=sys.stderr)
+        return 130
+
+
+def printed(arguments: argparse.Namespace, tell: Tell) -> int:
+    """Runs a command, and sees that what it printed was taken."""
     take_any_name()
-    tell = arguments.tell = Tell(arguments.quiet, arguments.json, closed=closed)
+    arguments.tell = tell
     try:
         tell.require_output()
         status = run(arguments, tell)
@@ -161,9 +173,6 @@ def main(words: Optional[List[str]] = None) -> int:
         drop_output()
         print(f"udfburn-archive: {error}", file=sys.stderr)
         return 1
-    except KeyboardInterrupt:
-        # After the command ended.
-        return 130
 
 
 def run(arguments: argparse.Namespace, tell: Tell) -> int:
@@ -173,7 +182,7 @@ def run(arguments: argparse.Namespace, tell: Tell) -> int:
     except (BrokenPipeError, OutputFailed):
         raise
     except KeyboardInterrupt:
-        return tell.fail("interrupted: run the same command again to continue", 130)
+        return tell.fail(INTERRUPTED, 130)
     except UsageError as error:
         return tell.fail(error, 2)
     except (UdfburnError, ValueError, OSError) as error:

@@ -4,9 +4,12 @@ from __future__ import annotations
 
 import atexit
 import os
+import signal
 import time
 from collections import deque
 from concurrent.futures import Future, ProcessPoolExecutor
+from concurrent.futures.process import BrokenProcessPool
+from contextlib import contextmanager
 from functools import partial
 from multiprocessing import get_context
 from shutil import rmtree
@@ -22,7 +25,7 @@ from .claims import claims_of
 from .close import sidecar
 from .config import LOCAL, Config, traces, volume_label
 from .contents import ABOUT, About, Contents
-from .errors import CatalogueError, Claimed, VolumeDiffers
+from .errors import ArchiveError, CatalogueError, Claimed, VolumeDiffers
 from .tell import Tell, plural, shown_path
 
 
@@ -142,16 +145,36 @@ def read_all(wanted: Iterable[Tuple[str, bool]], holder: str, several: bool) -> 
             yield image, closed, partial(read_volume, image, closed, holder)
         return
     count = os.cpu_count() or 1
-    with ProcessPoolExecutor(count, get_context("spawn")) as pool:
+    pool = ProcessPoolExecutor(count, get_context("spawn"), begin_reading)
+    try:
         waiting: Deque[Tuple[str, bool, "Future[Optional[Read]]"]] = deque()
         for image, closed in wanted:
-            waiting.append((image, closed, pool.submit(read_volume, image, closed, holder)))
+            with uninterrupted():
+                waiting.append((image, closed, pool.submit(read_volume, image, closed, holder)))
             if len(waiting) > 2 * count:
                 image, closed, read = waiting.popleft()
                 yield image, closed, read.result
         while waiting:
             image, closed, read = waiting.popleft()
             yield image, closed, read.result
+    finally:
+        pool.shutdown(cancel_futures=True)
+
+
+@contextmanager
+def uninterrupted() -> Iterator[None]:
+    """An interrupt comes afterwards. Processes that begin meanwhile get none before `begin_reading`."""
+    before = signal.pthread_sigmask(signal.SIG_BLOCK, {signal.SIGINT})
+    try:
+        yield
+    finally:
+        signal.pthread_sigmask(signal.SIG_SETMASK, before)
+
+
+def begin_reading() -> None:
+    """Has an interrupt end this process without a word: the one that began it says that it was interrupted."""
+    signal.signal(signal.SIGINT, signal.SIG_DFL)
+    signal.pthread_sigmask(signal.SIG_UNBLOCK, {signal.SIGINT})
 
 
 class Rebuilder:
@@ -173,6 +196,8 @@ class Rebuilder:
                 except (VolumeDiffers, Claimed) as error:
                     self.summary.failures.append(str(error))
                     continue
+                except BrokenProcessPool as error:
+                    raise ArchiveError("a process that reads volumes was killed: run 'rebuild' again") from error
                 if number is not None:
                     seen.add(number)
             self._look_for_others()
