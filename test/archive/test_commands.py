@@ -277,6 +277,16 @@ class Commands(WithArchive):
         self.assertIn("does not fit", done.errors)
         self.assertEqual(done.last()["files"], 1)
 
+    def test_files_that_fit_on_no_volume_open_none(self) -> None:
+        self.init("--capacity", "1200", "--delete", "acknowledged")
+        for index in range(6):
+            write(os.path.join(self.source, f"large {index}"), os.urandom(1 << 20))
+        write(os.path.join(self.source, "small"), b"small")
+        for _ in range(2):
+            failures = self.add(status=1).last()["failures"]
+            self.assertEqual(len([line for line in failures if "does not fit on an empty volume" in line]), 6)
+            self.assertEqual([volume["files"] for volume in self.volumes()], [1])
+
     def test_two_paths_that_would_be_one_file(self) -> None:
         """Neither takes the place of the other, even if existing files are replaced."""
         self.init()

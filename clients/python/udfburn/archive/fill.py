@@ -88,8 +88,8 @@ class Filler:
             left = self._plan(volume, jobs)
             if len(left) < len(jobs):
                 return left
-        volume = self._new()
-        left = self._plan(volume, jobs, partly=True)
+        # Planned on nothing first, since a volume that was opened for nothing stays.
+        left = self._plan(self._new(), jobs, partly=True) if jobs[0].again().plan(Tree.empty(self.config.capacity), True) else jobs
         if left and left[0] is jobs[0]:
             self.failed(jobs[0], f"{shown_path(jobs[0].source.path)}: does not fit on an empty volume of {self.config.capacity} blocks")
             return left[1:]
