@@ -2,12 +2,20 @@
 
 from __future__ import annotations
 
+import mmap
 import os
 import sqlite3
+import sys
 from contextlib import closing
 from typing import List
 
-from .support import WithArchive, digests, make_tree, write
+from .support import PACKAGE, WithArchive, digests, make_tree, write
+
+sys.path.insert(0, PACKAGE)
+
+from udfburn.archive.job import Job, digest_of  # noqa: E402
+from udfburn.archive.scan import Walk  # noqa: E402
+from udfburn.archive.tree import Tree  # noqa: E402
 
 
 class Damage(WithArchive):
@@ -160,3 +168,21 @@ class Unreadable(WithArchive):
         self.assertEqual(self.do("repair").last()["repaired"], 1)
         self.assertEqual(self.do("check", "--remotes").last()["failures"], [])
         self.assertEqual(self.add("--delete-source").last()["deleted"], 20)
+
+
+class Mapped(WithArchive):
+    """A file whose bytes change by a mapping, which may leave its size and its times as they are."""
+
+    def test_a_file_in_parts(self) -> None:
+        path = write(os.path.join(self.source, "large"), bytes(2_500_000))
+        with open(path, "r+b") as file, mmap.mmap(file.fileno(), 0) as mapped:
+            mapped[0] = 1
+            (source,) = [found.files[0] for found in Walk(self.room).below(self.source, ("s",))]
+            job = Job(source, digest_of(source))
+            self.assertTrue(job.plan(Tree.empty(6000), False))
+            mapped[0] = 2
+            if os.stat(path).st_mtime_ns != source.identity.modified:
+                self.skipTest("the times are others on this file system")
+            sent = [operation for operation in job.operations() if operation.tag is not None and operation.tag[1]]
+        self.assertEqual(len(sent), 2, "the last part makes it whole")
+        self.assertIn("changed while it was read", job.failure or "")

@@ -10,6 +10,7 @@ import signal
 import subprocess
 import sys
 import time
+from contextlib import closing
 from pathlib import Path
 from typing import List, Optional, Tuple
 from unittest import mock
@@ -20,8 +21,10 @@ sys.path.insert(0, PACKAGE)
 
 from udfburn.archive.catalogue import Catalogue, VolumeRow  # noqa: E402
 from udfburn.archive.check import Checker, Options  # noqa: E402
-from udfburn.archive.config import read  # noqa: E402
+from udfburn.archive.claims import FileClaims, claims_of  # noqa: E402
+from udfburn.archive.config import Config, read  # noqa: E402
 from udfburn.archive.tell import Tell  # noqa: E402
+from udfburn.archive.volume import new_row, open_new  # noqa: E402
 
 
 class WithOlder(WithArchive):
@@ -180,6 +183,22 @@ class AtOnce(WithOlder):
         (volume,) = self.volumes()
         self.assertEqual((volume["state"], len(volume["sha256"] or "")), ("closed", 64))
         self.assertEqual(self.do("check").last()["failures"], [])
+
+    def test_a_new_volume_that_another_run_takes_up(self) -> None:
+        """The other run began between the volume's row and its claim. This one makes another volume."""
+        self.init("--delete", "acknowledged")
+        config = read(self.archive)
+        with Catalogue(config) as catalogue, closing(claims_of(catalogue.base, config.path("locks"), "")) as claims, closing(FileClaims(config.path("locks"))) as other:
+            def slowly(config: Config, catalogue: Catalogue) -> VolumeRow:
+                row = new_row(config, catalogue)
+                if row.number == 1:
+                    self.assertTrue(other.try_volume(1))
+                elif row.number == 2:
+                    catalogue.save(row._replace(state="full"))
+                return row
+
+            with mock.patch("udfburn.archive.volume.new_row", slowly), closing(open_new(config, catalogue, claims)) as volume:
+                self.assertEqual(volume.row.number, 3)
 
 
 class Readers(WithArchive):

@@ -337,10 +337,12 @@ def is_closed(config: Config, row: VolumeRow) -> bool:
 
 
 def open_new(config: Config, catalogue: Catalogue, claims: Claims, batches: bool = True) -> OpenVolume:
-    """A new volume."""
-    row = new_row(config, catalogue)
-    claims.volume(row.number, row.label)
-    return taken_up(OpenVolume(config, catalogue, row, batches))
+    """A new volume. One that another process, which began just now, took up before it was claimed is left to that one."""
+    while True:
+        row = new_row(config, catalogue)
+        fresh = catalogue.volume(row.number) if claims.try_volume(row.number) else None
+        if fresh is not None and fresh.state == NEW:
+            return taken_up(OpenVolume(config, catalogue, fresh, batches))
 
 
 def taken_up(volume: OpenVolume) -> OpenVolume:
