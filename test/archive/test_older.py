@@ -117,6 +117,20 @@ class Older(WithOlder):
         self.do("rebuild")
         self.assertEqual(self.get_all(), digests(self.source))
 
+    def test_a_catalogue_that_cannot_be_opened_now(self) -> None:
+        """It is not damaged, so it stays where it is."""
+        self.init("--delete", "acknowledged")
+        self.change_source("a")
+        self.add()
+        rows = self.rows()
+        before = digests(self.archive)["catalogue.sqlite".encode()]
+        os.mkdir(self.catalogue + "-wal")
+        for words in ((), ("--dry-run",)):
+            self.assertIn("check that the disk works and has room", self.do("rebuild", *words, status=1).errors)
+            self.assertEqual(digests(self.archive)["catalogue.sqlite".encode()], before)
+        os.rmdir(self.catalogue + "-wal")
+        self.assertEqual(self.rows(), rows)
+
     def bring_nothing(self, data: Optional[bytes]) -> None:
         """Has no catalogue, or one with these bytes."""
         self.remove()

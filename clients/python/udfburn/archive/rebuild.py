@@ -5,6 +5,7 @@ from __future__ import annotations
 import atexit
 import os
 import signal
+import sqlite3
 import time
 from collections import deque
 from concurrent.futures import Future, ProcessPoolExecutor
@@ -95,17 +96,15 @@ def open_to_compare(config: Config, tell: Tell) -> Catalogue:
 
 
 def is_broken(path: str) -> bool:
-    """Whether a file is not an intact SQLite database."""
+    """Whether a file is not an intact SQLite database. One that cannot be read now, as where the disk is full, may well be one."""
     try:
         base = SqliteBase(path, False)
-    except CatalogueError:
-        return True
-    try:
-        return base.run("PRAGMA integrity_check") != [("ok",)]
-    except CatalogueError:
-        return True
-    finally:
-        base.close()
+        try:
+            return base.run("PRAGMA integrity_check") != [("ok",)]
+        finally:
+            base.close()
+    except CatalogueError as error:
+        return not isinstance(error.__cause__, sqlite3.OperationalError)
 
 
 class Read(NamedTuple):
