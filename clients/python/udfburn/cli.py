@@ -46,8 +46,8 @@ def parser() -> argparse.ArgumentParser:
 
 def main(words: Optional[List[str]] = None) -> int:
     """Runs a command, and gives its status."""
-    closed = take_descriptors()
     try:
+        closed = take_descriptors()
         arguments = parsed(parser(), words, closed)
         progress = arguments.progress = Progress(arguments.quiet, arguments.json, closed=closed)
         return printed(arguments, progress)

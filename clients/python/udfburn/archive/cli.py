@@ -144,8 +144,8 @@ def main(words: Optional[List[str]] = None) -> int:
     if sys.version_info < (3, 11):
         print("udfburn-archive: needs Python 3.11 or later", file=sys.stderr)
         return 1
-    closed = take_descriptors()
     try:
+        closed = take_descriptors()
         arguments = parsed(parser(), words, closed)
         return printed(arguments, Tell(arguments.quiet, arguments.json, closed=closed))
     except SystemExit as end:
