@@ -375,6 +375,13 @@ class Streams(WithArchive):
         self.assertIn("stored /s/\\xe9\\u65e5 T-000001\n", done.stdout)
         self.assertEqual(digests(self.source), {})
 
+    def test_names_that_are_not_read_as_utf8(self) -> None:
+        """They would be kept as other names, so nothing is done."""
+        words = ("add", self.source, "--archive", self.archive)
+        done = self.command('exec "$@"', *words, LC_ALL="C", PYTHONUTF8="0", PYTHONCOERCECLOCALE="0")
+        self.assertEqual((done.returncode, self.rows()), (2, []))
+        self.assertIn("set PYTHONUTF8=1", done.stderr)
+
     def test_a_closed_standard_error(self) -> None:
         before = digests(self.source)
         done = self.command('exec "$@" 2>&-', "add", self.source, "--at", "/s", "--archive", self.archive)

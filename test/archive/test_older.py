@@ -7,6 +7,7 @@ import os
 import random
 import shutil
 import signal
+import sqlite3
 import subprocess
 import sys
 import time
@@ -84,7 +85,11 @@ class Older(WithOlder):
         self.do("close")
         self.bring_back()
         self.change_source("b")
-        self.assertIn("run 'udfburn-archive rebuild' first", self.add(status=1).errors)
+        for state in ("open", "new"):
+            with closing(sqlite3.connect(self.catalogue)) as base, base:
+                base.execute("UPDATE volume SET state = ?", (state,))
+            self.assertIn("run 'udfburn-archive rebuild' first", self.add(status=1).errors)
+            self.assertEqual(os.listdir(os.path.join(self.archive, "open")), [])
         self.do("rebuild")
         self.add()
         self.assertEqual(self.get_all(), {**before, **digests(self.source)})

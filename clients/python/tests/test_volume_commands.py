@@ -208,6 +208,16 @@ class Output(Volumes):
             self.assertEqual(done.returncode, 1, done.stderr)
             self.assertEqual(done.stderr, "udfburn-client: the standard output takes no more: No space left on device\n")
 
+    def test_names_that_are_not_read_as_utf8(self) -> None:
+        """They would be stored as other names, so nothing is done."""
+        local = self.write("\u00e9", b"hello")
+        environment = {**self.environment(), "LC_ALL": "C", "PYTHONUTF8": "0", "PYTHONCOERCECLOCALE": "0"}
+        words = self.words("put", "--escape", local, "/", where=["--image", self.image])
+        done = subprocess.run(words, env=environment, capture_output=True, text=True, check=False)
+        self.assertEqual(done.returncode, 2)
+        self.assertIn("set PYTHONUTF8=1", done.stderr)
+        self.assertEqual(self.commits(), 0)
+
     def test_an_object_for_each_failure_and_one_at_the_end(self) -> None:
         where = ["--image", self.image]
         for words, status, kind in ((["ls", "/no"], 1, "NotFound"), (["rm", "/no"], 1, "NotFound"), (["ls", "no"], 2, "InvalidPath"),

@@ -35,7 +35,10 @@ def parsed(parser: argparse.ArgumentParser, words: Optional[List[str]], closed: 
     """The words of a command. What is printed in place of one, as its help, goes nowhere where the output is closed."""
     try:
         try:
-            return parser.parse_args(words)
+            found = parser.parse_args(words)
+            if sys.getfilesystemencoding() != "utf-8":
+                parser.error(f"names of files are read as {sys.getfilesystemencoding()} here, and would be stored as other names: set PYTHONUTF8=1")
+            return found
         finally:
             sys.stdout.flush()
     except SystemExit as end:

@@ -324,16 +324,15 @@ def own_volumes(config: Config, catalogue: Catalogue, claims: Claims, batches: b
         if row.holder == config.id and row.state in (NEW, OPEN) and claims.try_volume(row.number):
             # What another process did until it let go. A volume that was moved away is not written.
             fresh = catalogue.volume(row.number)
-            if fresh is not None and fresh.state == OPEN and is_closed(config, fresh):
+            if fresh is not None and fresh.state in (NEW, OPEN) and is_closed(config, fresh):
                 raise CatalogueError(f"{fresh.label} is closed, which the catalogue does not know: it is older than the volumes: {REBUILD}")
             if fresh is not None and (fresh.state == NEW or fresh.state == OPEN and image_of(config, fresh)):
                 yield taken_up(OpenVolume(config, catalogue, fresh, batches))
 
 
 def is_closed(config: Config, row: VolumeRow) -> bool:
-    """Whether the image of an open volume is among the closed ones."""
-    image = image_of(config, row)
-    return image is not None and os.path.dirname(image) == config.path("closed")
+    """Whether there is a closed image of a volume."""
+    return os.path.lexists(config.path("closed", row.label + ".img"))
 
 
 def open_new(config: Config, catalogue: Catalogue, claims: Claims, batches: bool = True) -> OpenVolume:
