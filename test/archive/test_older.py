@@ -136,6 +136,25 @@ class Older(WithOlder):
         os.rmdir(self.catalogue + "-wal")
         self.assertEqual(self.rows(), rows)
 
+    def test_an_older_copy_of_an_image(self) -> None:
+        """It does not take the place of the image at hand, and one that is the same is read once."""
+        self.init("--delete", "acknowledged")
+        self.change_source("a")
+        self.add()
+        image = os.path.join(self.archive, "open", "T-000001.img")
+        for name in ("older", "same"):
+            os.mkdir(self.path(name))
+            shutil.copy(image, self.path(name))
+            write(os.path.join(self.source, f"after {name}"), b"later")
+            self.add()
+        shutil.copy(image, self.path("same"))
+        rows = self.rows()
+        last = self.do("rebuild", self.path("same")).last()
+        self.assertEqual((last["volumes"], last["differences"]), (1, 0))
+        done = self.do("rebuild", self.path("older"), status=1)
+        self.assertIn("older/T-000001.img: is another state of T-000001", done.errors)
+        self.assertEqual((self.rows(), [volume["state"] for volume in self.volumes()]), (rows, ["open"]))
+
     def bring_nothing(self, data: Optional[bytes]) -> None:
         """Has no catalogue, or one with these bytes."""
         self.remove()

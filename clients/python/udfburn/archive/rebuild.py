@@ -183,28 +183,26 @@ class Rebuilder:
         self.config, self.catalogue, self.tell, self.dry_run = config, catalogue, tell, dry_run
         self.summary = Summary()
         self.claims = claims_of(catalogue.base, config.path("locks"), config.catalogue)
+        self._seen: Dict[int, Tuple[int, int]] = {}
+        """The moment of the format and the last commit of each volume that was read, by its number."""
 
     def run(self, others: List[str]) -> Summary:
         """Reads each volume at hand, and has the catalogue say what it says."""
-        seen = set()
         found = list(images(self.config, others))
         try:
             for image, closed, read in read_all(self._claimed(found), self.config.id, len(found) > 2):
                 try:
-                    number = self._one(image, closed, read())
+                    self._one(image, closed, read())
                 except (VolumeDiffers, Claimed) as error:
                     self.summary.failures.append(str(error))
-                    continue
                 except BrokenProcessPool as error:
                     raise ArchiveError("a process that reads volumes was killed: run 'rebuild' again") from error
-                if number is not None:
-                    seen.add(number)
             self._look_for_others()
             if not self.dry_run:
                 self.summary.names = self.catalogue.mend_names()
         finally:
             self.claims.close()
-        self.summary.away = [row.label for row in self.catalogue.volumes() if row.number not in seen and row.state != NEW]
+        self.summary.away = [row.label for row in self.catalogue.volumes() if row.number not in self._seen and row.state != NEW]
         return self.summary
 
     def _look_for_others(self) -> None:
@@ -231,13 +229,19 @@ class Rebuilder:
             if (ABOUT,) in contents.nodes and not self.claims.try_volume(contents.about().number):
                 raise Claimed(f"{contents.label}: another process is writing it, so it was left out: run 'rebuild' again")
 
-    def _one(self, image: str, closed: bool, read: Optional[Read]) -> Optional[int]:
-        """Keeps what was read of a volume; gives its number, or None where it holds none of this archive yet."""
+    def _one(self, image: str, closed: bool, read: Optional[Read]) -> None:
+        """Keeps what was read of a volume; of one that was read before nothing, as of a copy of it."""
         if read is None:
-            return None
+            return
         about, number = read.about, read.about.number
         if about.label != self.config.label or not self._is_ours(about.archive):
             raise VolumeDiffers(f"{shown(image)}: belongs to another archive, {about.label} {about.archive}")
+        state = (read.row.formatted, read.row.last_commit)
+        if number in self._seen:
+            if self._seen[number] != state:
+                raise VolumeDiffers(f"{shown(image)}: is another state of {read.row.label} than the image that was read before, and was left out")
+            return
+        self._seen[number] = state
         old = self.catalogue.volume(number)
         known = self.catalogue.of_volume(number)
         if old is None and not known:
@@ -249,7 +253,6 @@ class Rebuilder:
         self.summary.volumes += 1
         self.summary.files += len(read.rows)
         self.tell.working(f"read {plural(self.summary.volumes, 'volume', 'volumes')}, {plural(self.summary.files, 'file', 'files')}")
-        return number
 
     def _is_ours(self, archive: str) -> bool:
         """Whether a volume is of this archive. A catalogue that was made anew takes the archive of its first volume."""
