@@ -277,6 +277,29 @@ class Commands(WithArchive):
         self.assertIn("does not fit", done.errors)
         self.assertEqual(done.last()["files"], 1)
 
+    def test_files_that_fit_on_no_volume_open_none(self) -> None:
+        self.init("--capacity", "1200", "--delete", "acknowledged")
+        for index in range(6):
+            write(os.path.join(self.source, f"large {index}"), os.urandom(1 << 20))
+        write(os.path.join(self.source, "small"), b"small")
+        for _ in range(2):
+            failures = self.add(status=1).last()["failures"]
+            self.assertEqual(len([line for line in failures if "does not fit on an empty volume" in line]), 6)
+            self.assertEqual([volume["files"] for volume in self.volumes()], [1])
+
+    def test_two_paths_that_would_be_one_file(self) -> None:
+        """Neither takes the place of the other, even if existing files are replaced."""
+        self.init()
+        for folder in ("x", "y"):
+            write(os.path.join(self.source, folder, "same"), folder.encode())
+        self.add()
+        out = self.path("out")
+        for words in ((), ("--force",)):
+            done = self.do("get", "/s/x/same", "/s/y/same", out, *words, status=1)
+            self.assertIn("two of the files would have this path", done.errors)
+            self.assertFalse(os.path.exists(out))
+        self.assertEqual(self.do("get", "/s/x/same", "/s/x/same", out).last()["files"], 1)
+
 
 class Deleting(WithArchive):
     def test_acknowledged(self) -> None:
@@ -330,3 +353,45 @@ class Deleting(WithArchive):
         self.do("close")
         self.assertEqual(self.add("--delete-source").last()["deleted"], 30)
         self.assertEqual(self.get_all(), before)
+
+
+class Streams(WithArchive):
+    """Standard streams that are closed or full, or do not have all letters."""
+
+    def setUp(self) -> None:
+        super().setUp()
+        self.init("--delete", "acknowledged")
+        make_tree(self.source, 10, 1)
+        write(os.path.join(self.source, "\u00e9\u65e5"), b"a name that is not ASCII")
+
+    def command(self, shell: str, *words: str, **variables: str) -> "subprocess.CompletedProcess[str]":
+        """Runs a command by a line of the shell, in which `"$@"` stands for it."""
+        line = ["sh", "-c", shell, "sh", *words_of(*words)]
+        return subprocess.run(line, env={**environment(), **variables}, stdout=subprocess.PIPE, stderr=subprocess.PIPE, text=True, check=False)
+
+    def test_names_that_the_output_does_not_have(self) -> None:
+        done = self.command('exec "$@"', "add", self.source, "--at", "/s", "--archive", self.archive, "--delete-source", PYTHONIOENCODING="ascii")
+        self.assertEqual((done.returncode, done.stderr), (0, ""))
+        self.assertIn("stored /s/\\xe9\\u65e5 T-000001\n", done.stdout)
+        self.assertEqual(digests(self.source), {})
+
+    def test_names_that_are_not_read_as_utf8(self) -> None:
+        """They would be kept as other names, so nothing is done."""
+        words = ("add", self.source, "--archive", self.archive)
+        done = self.command('exec "$@"', *words, LC_ALL="C", PYTHONUTF8="0", PYTHONCOERCECLOCALE="0")
+        self.assertEqual((done.returncode, self.rows()), (2, []))
+        self.assertIn("set PYTHONUTF8=1", done.stderr)
+
+    def test_a_closed_standard_error(self) -> None:
+        before = digests(self.source)
+        done = self.command('exec "$@" 2>&-', "add", self.source, "--at", "/s", "--archive", self.archive)
+        self.assertEqual((done.returncode, done.stdout.splitlines()[-1][:16]), (0, "stored 11 files,"))
+        done = self.command('exec "$@" 2>&-', "ls", "/nowhere", "--archive", self.archive)
+        self.assertEqual((done.returncode, done.stdout), (1, ""))
+        self.assertEqual(self.get_all(), before)
+
+    def test_a_standard_output_that_is_closed_or_full(self) -> None:
+        for words in (("status", "--archive", self.archive), ("--help",)):
+            full, closed = (self.command(f'exec "$@" {where}', *words) for where in (">/dev/full", ">&-"))
+            self.assertEqual((full.returncode, full.stderr), (1, "udfburn-archive: the standard output takes no more: No space left on device\n"))
+            self.assertEqual((closed.returncode, closed.stderr.split(",")[0].rstrip()), (1, "udfburn-archive: the standard output is closed"))

@@ -2,10 +2,20 @@
 
 from __future__ import annotations
 
+import mmap
 import os
+import sqlite3
+import sys
+from contextlib import closing
 from typing import List
 
-from .support import WithArchive, digests, make_tree, write
+from .support import PACKAGE, WithArchive, digests, make_tree, write
+
+sys.path.insert(0, PACKAGE)
+
+from udfburn.archive.job import Job, digest_of  # noqa: E402
+from udfburn.archive.scan import Walk  # noqa: E402
+from udfburn.archive.tree import Tree  # noqa: E402
 
 
 class Damage(WithArchive):
@@ -102,3 +112,77 @@ class Damage(WithArchive):
         last = self.add("--delete-source").last()
         self.assertEqual((last["deleted"], last["kept"]), (0, 1))
         self.assertEqual(list(digests(self.source)), [b"big"])
+
+
+class Catalogue(WithArchive):
+    """A catalogue that takes no more files."""
+
+    def test_nothing_is_reported_as_stored_that_the_catalogue_does_not_have(self) -> None:
+        self.init("--delete", "acknowledged")
+        make_tree(self.source, 20, 1)
+        before = digests(self.source)
+        with closing(sqlite3.connect(self.path("archive", "catalogue.sqlite"))) as base:
+            base.execute("CREATE TRIGGER full BEFORE INSERT ON file BEGIN SELECT RAISE (ABORT, 'database or disk is full'); END")
+        for words in ((), ("--each",)):
+            done = self.add("--delete-source", *words, status=1)
+            self.assertEqual([line["did"] for line in done.objects()], ["opened", "failed", "add"] if not words else ["failed", "add"])
+            self.assertEqual(digests(self.source), before)
+        with closing(sqlite3.connect(self.path("archive", "catalogue.sqlite"))) as base:
+            base.execute("DROP TRIGGER full")
+        done = self.add("--delete-source")
+        self.assertEqual((done.last()["same"], done.last()["deleted"]), (20, 20))
+        self.assertEqual(self.get_all(), before)
+
+
+class Unreadable(WithArchive):
+    """Files of which the disk gives no byte: their reads end with an error, as those of this file of the system do."""
+
+    def setUp(self) -> None:
+        super().setUp()
+        self.copies = [self.path("one"), self.path("two")]
+        for copy in self.copies:
+            os.mkdir(copy)
+        self.init("--copies", *self.copies)
+        make_tree(self.source, 20, 1)
+        self.add()
+        self.do("close")
+
+    def spoil(self, folder: str) -> None:
+        """Has the image in a folder give an error when it is read."""
+        image = os.path.join(folder, "T-000001.img")
+        os.unlink(image)
+        os.symlink("/proc/self/mem", image)
+
+    def test_an_image_is_replaced_by_a_copy(self) -> None:
+        before = digests(self.source)
+        self.spoil(self.path("archive", "closed"))
+        self.assertIn("repair T-000001", self.do("check", status=1).errors)
+        self.assertEqual(self.do("repair").last()["repaired"], 1)
+        self.assertEqual(self.do("check", "--remotes").last()["failures"], [])
+        self.assertEqual(self.get_all(), before)
+
+    def test_a_copy_is_replaced_by_the_image(self) -> None:
+        self.spoil(self.copies[0])
+        self.assertIn("repair T-000001", self.do("check", "--remotes", status=1).errors)
+        self.assertEqual(self.add("--delete-source").last()["deleted"], 0)
+        self.assertEqual(self.do("repair").last()["repaired"], 1)
+        self.assertEqual(self.do("check", "--remotes").last()["failures"], [])
+        self.assertEqual(self.add("--delete-source").last()["deleted"], 20)
+
+
+class Mapped(WithArchive):
+    """A file whose bytes change by a mapping, which may leave its size and its times as they are."""
+
+    def test_a_file_in_parts(self) -> None:
+        path = write(os.path.join(self.source, "large"), bytes(2_500_000))
+        with open(path, "r+b") as file, mmap.mmap(file.fileno(), 0) as mapped:
+            mapped[0] = 1
+            (source,) = [found.files[0] for found in Walk(self.room).below(self.source, ("s",))]
+            job = Job(source, digest_of(source))
+            self.assertTrue(job.plan(Tree.empty(6000), False))
+            mapped[0] = 2
+            if os.stat(path).st_mtime_ns != source.identity.modified:
+                self.skipTest("the times are others on this file system")
+            sent = [operation for operation in job.operations() if operation.tag is not None and operation.tag[1]]
+        self.assertEqual(len(sent), 2, "the last part makes it whole")
+        self.assertIn("changed while it was read", job.failure or "")

@@ -84,6 +84,12 @@ class Names(unittest.TestCase):
         self.assertEqual(read_back(("data", "a", "big", "=file.txt")), (("a", "big"), 1, -1))
         self.assertIsNone(read_back(("runs", "00001.txt")))
 
+    def test_what_stands_for_no_path(self) -> None:
+        """Another program may have written it. `get` makes no path of it that leads out of its folder."""
+        for names in (("===2E=2E", "x"), ("===2E=2E=2F=2E=2E=2Fx",), ("==a=2F=2Fb",), ("==a=00b",), ("===2E",), ("=s1",), ("=v2",), ("==",), ("=file.txt",)):
+            self.assertIsNone(read_back(("data", *names)), names)
+        self.assertEqual(read_back(("data", "a", "=p0", "\u00b2")), (("a", "=p0", "\u00b2"), 1, None))
+
     def test_bytes_in_the_catalogue(self) -> None:
         for name in ("a", "\udcff\udc80x", "é\U0001f4f7"):
             kept = kept_name(name)

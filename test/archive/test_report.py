@@ -70,6 +70,26 @@ class Report(WithArchive):
             names = sorted(text for text in self.texts(shown, "one") if re.fullmatch("f[0-9]+", text))
             self.assertEqual(names, sorted(path.split("/")[-1] for at, path in rows if at <= commit))
 
+    def test_a_log_that_is_damaged(self) -> None:
+        """The addresses of the commits are those of the image then."""
+        self.init()
+        make_tree(self.source, 20, 1)
+        self.add()
+        self.do("close")
+        before = self.ends(self.page())
+        self.assertGreater(len(before), 20)
+        log = os.path.join(self.archive, "closed", "T-000001.log")
+        for data in (b"", b"1 266\nx\n", b"1 two 3 4\n", b"\xff\n"):
+            with open(log, "wb") as file:
+                file.write(data)
+            self.assertEqual(self.ends(self.page()), before)
+
+    def ends(self, page: str) -> List[int]:
+        """What the page has of the commits of its volume."""
+        with open(page, encoding="utf-8") as file:
+            (found,) = re.findall(r'"ends":\[([0-9,]*)\]', file.read())
+        return [int(number) for number in found.split(",") if number]
+
     def test_only_a_page_is_replaced(self) -> None:
         self.init()
         page = self.page()

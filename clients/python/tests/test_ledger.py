@@ -129,6 +129,25 @@ class Ledgers(WithServer):
             Ledger(os.path.join(room, "new.sqlite"), client=0)
         self.assertEqual(found(), before)
 
+    def test_a_page_that_is_damaged(self) -> None:
+        """Whichever page it is, the error is a ledger's, and names the file."""
+        with self.client() as client:
+            for index in range(60):
+                client.create(f"/{index:0200}", b"%d" % index)
+        whole = Path(self.ledger).read_bytes()
+        self.assertGreater(len(whole), 6 * 4096)
+        met = 0
+        for place in range(4096, len(whole), 4096):
+            Path(self.ledger).write_bytes(whole[:place] + bytes(range(256)) * 16 + whole[place + 4096 :])
+            try:
+                with closing(Ledger(self.ledger)) as ledger:
+                    for volume in ledger.volumes():
+                        str([ledger.sent(volume), ledger.pending(volume), ledger.ways(volume), ledger.found(volume), ledger.latest(volume)])
+            except e.LedgerError as error:
+                self.assertIn(self.ledger, str(error))
+                met += 1
+        self.assertGreater(met, 1)
+
     def test_a_lock_that_was_taken_away(self) -> None:
         """Who waits for the lock of what is no ledger does not have a lock that nobody else sees."""
         path = os.path.join(self.room, "locked")

@@ -7,6 +7,9 @@ import json
 import os
 import subprocess
 import sys
+import tempfile
+from pathlib import Path
+from typing import Callable, List, Tuple
 
 from udfburn.protocol import Create, MakeDir
 from udfburn.salvage import DAMAGED, UNPROVED, WHOLE
@@ -136,6 +139,23 @@ class Commands(Damaged):
         self.assertEqual(os.listdir(other), [])
         with open(os.path.join(out, "top"), "rb") as file:
             self.assertEqual(file.read(), b"mine")
+
+    def test_what_is_in_the_way(self) -> None:
+        """What has the name of a folder, and folders that have the names of files, are named, and all else is given back."""
+        self.fill()
+        whole = os.path.join(self.room, "whole")
+        self.assertEqual(self.command("salvage", self.image, whole, "--accept-unproved", "--quiet").returncode, 0)
+        ways: List[Tuple[str, Callable[[str], object]]] = [
+            ("d", lambda path: Path(path).write_bytes(b"")), ("d", os.mkfifo), ("d", lambda path: os.symlink(self.room, path)), ("top", os.mkdir),
+        ]
+        for name, make in ways:
+            with self.subTest(name=name), tempfile.TemporaryDirectory(dir=self.room) as out:
+                make(os.path.join(out, name))
+                done = self.command("salvage", self.image, out, "--accept-unproved")
+                self.assertEqual((done.returncode, "Errno" in done.stderr), (1, False), done.stderr)
+                self.assertIn("d: is there, and is no folder" if name == "d" else "top already exists", done.stderr)
+                for other in set(os.listdir(whole)) - {name, "d"}:
+                    self.assertEqual(Path(out, other).read_bytes(), Path(whole, other).read_bytes())
 
     def test_json(self) -> None:
         self.fill()

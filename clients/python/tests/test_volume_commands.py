@@ -202,11 +202,21 @@ class Output(Volumes):
         client = self.on_image()
         client.put("/a", b"hello")
         client.close()
-        for words in (["ls"], ["ls", "--json"], ["get", "/a", "-"]):
+        for words in (["ls"], ["ls", "--json"], ["get", "/a", "-"], ["ls", "--help"]):
             with open("/dev/full", "w") as full:
                 done = subprocess.run(self.words(*words, where=["--image", self.image]), env=self.environment(), stdout=full, stderr=subprocess.PIPE, text=True, check=False)
             self.assertEqual(done.returncode, 1, done.stderr)
             self.assertEqual(done.stderr, "udfburn-client: the standard output takes no more: No space left on device\n")
+
+    def test_names_that_are_not_read_as_utf8(self) -> None:
+        """They would be stored as other names, so nothing is done."""
+        local = self.write("\u00e9", b"hello")
+        environment = {**self.environment(), "LC_ALL": "C", "PYTHONUTF8": "0", "PYTHONCOERCECLOCALE": "0"}
+        words = self.words("put", "--escape", local, "/", where=["--image", self.image])
+        done = subprocess.run(words, env=environment, capture_output=True, text=True, check=False)
+        self.assertEqual(done.returncode, 2)
+        self.assertIn("set PYTHONUTF8=1", done.stderr)
+        self.assertEqual(self.commits(), 0)
 
     def test_an_object_for_each_failure_and_one_at_the_end(self) -> None:
         where = ["--image", self.image]

@@ -3,7 +3,6 @@
 from __future__ import annotations
 
 import argparse
-import os
 import sys
 from typing import List, Optional
 
@@ -11,6 +10,7 @@ from . import __version__, check_command, read_commands, salvage_commands, seal_
 from .errors import OutputFailed, UdfburnError, UsageError
 from .progress import Progress
 from .protocol import BadAnswer, Fault, InvalidName, InvalidPath
+from .streams import drop_output, parsed, take_any_name, take_descriptors
 
 MODULES = (write_commands, seal_command, read_commands, volume_commands, check_command, salvage_commands)
 """Each has `add`, which declares the words of its commands. What runs one is the default `run` of its words."""
@@ -48,9 +48,9 @@ def parser() -> argparse.ArgumentParser:
 
 def main(words: Optional[List[str]] = None) -> int:
     """Runs a command, and gives its status."""
-    closed = take_descriptors()
     try:
-        arguments = parsed(words, closed)
+        closed = take_descriptors()
+        arguments = parsed(parser(), words, closed)
         progress = arguments.progress = Progress(arguments.quiet, arguments.json, closed=closed)
         return printed(arguments, progress)
     except KeyboardInterrupt:
@@ -59,23 +59,9 @@ def main(words: Optional[List[str]] = None) -> int:
         return 130
 
 
-def parsed(words: Optional[List[str]], closed: bool) -> argparse.Namespace:
-    """The words of a command. What is printed in place of one, as its help, goes nowhere where the output is closed."""
-    try:
-        return parser().parse_args(words)
-    except SystemExit as end:
-        if closed and not end.code:
-            print("udfburn-client: the standard output is closed", file=sys.stderr)
-            end.code = 1
-        raise
-
-
 def printed(arguments: argparse.Namespace, progress: Progress) -> int:
     """Runs a command, and sees that what it printed was taken."""
-    for stream in (sys.stdout, sys.stderr):
-        # A name that the terminal's encoding does not have is no reason to stop.
-        if hasattr(stream, "reconfigure"):
-            stream.reconfigure(errors="backslashreplace")
+    take_any_name()
     try:
         status = run(arguments, progress)
         progress.finish(arguments.command, status)
@@ -105,34 +91,6 @@ def run(arguments: argparse.Namespace, progress: Progress) -> int:
         return progress.fail(error, 1)
     except KeyboardInterrupt:
         return progress.fail(INTERRUPTED, 130)
-
-
-def take_descriptors() -> bool:
-    """Takes the descriptors of standard streams that are closed, so that no file of this process gets one. Whether the output is."""
-    closed = sys.stdout is None
-    for descriptor in range(3):
-        try:
-            os.fstat(descriptor)
-        except OSError:
-            # The lowest one that is free is this one.
-            os.open(os.devnull, os.O_RDWR)
-    if sys.stdout is None:
-        sys.stdout = open(os.devnull, "w", encoding="utf-8")
-    if sys.stderr is None:
-        sys.stderr = open(os.devnull, "w", encoding="utf-8")
-    return closed
-
-
-def drop_output() -> None:
-    """Has nothing more written to the standard output, at the end of the process either."""
-    try:
-        output = sys.stdout.fileno()
-    except OSError:
-        # A stream without a descriptor, as a test has it.
-        return
-    nowhere = os.open(os.devnull, os.O_WRONLY)
-    os.dup2(nowhere, output)
-    os.close(nowhere)
 
 
 __all__ = ["main", "parser"]

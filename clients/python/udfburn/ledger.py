@@ -208,13 +208,19 @@ class Ledger:
         return self._volumes("ORDER BY id")
 
     def _volumes(self, where: str, *values: object) -> List[Volume]:
+        return [volume_of(row) for row in self._rows(f"{VOLUME} {where}", *values)]
+
+    def _rows(self, statement: str, *values: object) -> List[Any]:
+        """The rows that a statement gives."""
         self.set_back()
-        return [volume_of(row) for row in self._base.execute(f"{VOLUME} {where}", values)]
+        try:
+            return self._base.execute(statement, values).fetchall()
+        except sqlite3.Error as error:
+            raise self._unusable(error) from error
 
     def ways(self, volume: Volume) -> List[Union[str, bytes]]:
         """The ways that lead to a volume."""
-        self.set_back()
-        return [way for (way,) in self._base.execute("SELECT way FROM way WHERE volume = ? ORDER BY way", (volume.id,))]
+        return [way for (way,) in self._rows("SELECT way FROM way WHERE volume = ? ORDER BY way", volume.id)]
 
     def learn(self, way: Union[str, bytes], latest: int, replies: Mapping[int, Tuple[int, int]] = {}) -> Volume:
         """Keeps a volume that is met for the first time: the number that it knows of this client, and the codes and commits of the
@@ -256,32 +262,26 @@ class Ledger:
 
     def begun(self, volume: Volume) -> int:
         """The number that the volume knew of this client when it was first met."""
-        self.set_back()
-        return int(self._base.execute("SELECT latest FROM volume WHERE id = ?", (volume.id,)).fetchone()[0])
+        return int(self._rows("SELECT latest FROM volume WHERE id = ?", volume.id)[0][0])
 
     def found(self, volume: Volume) -> Dict[int, Tuple[int, int]]:
         """Code and commit of each reply that the volume kept when it was first met, by number."""
-        self.set_back()
-        rows = self._base.execute("SELECT number, code, commit_number FROM found WHERE volume = ?", (volume.id,))
+        rows = self._rows("SELECT number, code, commit_number FROM found WHERE volume = ?", volume.id)
         return {number: (code, commit) for number, code, commit in rows}
 
     # ---- requests
 
     def pending(self, volume: Volume) -> List[Pending]:
         """The requests without a reply, in order of their numbers."""
-        self.set_back()
-        return [pending_of(row) for row in self._base.execute(PENDING, (volume.id,))]
+        return [pending_of(row) for row in self._rows(PENDING, volume.id)]
 
     def latest(self, volume: Volume) -> int:
         """The number of the last request with a reply."""
-        self.set_back()
-        return int(self._base.execute(f"SELECT ({LATEST}) FROM volume WHERE id = ?", (volume.id,)).fetchone()[0])
+        return int(self._rows(f"SELECT ({LATEST}) FROM volume WHERE id = ?", volume.id)[0][0])
 
     def last_commit(self, volume: Volume) -> int:
         """The greatest commit that was acknowledged."""
-        self.set_back()
-        row = self._base.execute(LAST_COMMIT, (volume.id, volume.id)).fetchone()
-        return int(row[0] or 0)
+        return int(self._rows(LAST_COMMIT, volume.id, volume.id)[0][0] or 0)
 
     def record(self, volume: Volume, replies: Sequence[Reply], requests: Sequence[Pending]) -> None:
         """Keeps replies that came and requests that are to be sent, as one: durable when it returns."""
@@ -397,8 +397,7 @@ class Ledger:
 
     def sent(self, volume: Volume, after: int = 0) -> List[Sent]:
         """Each request that is kept above a number, in order of the numbers."""
-        self.set_back()
-        rows = self._base.execute(f"{SENT} WHERE volume = ? AND number > ? ORDER BY number", (volume.id, after))
+        rows = self._rows(f"{SENT} WHERE volume = ? AND number > ? ORDER BY number", volume.id, after)
         return [Sent(n, path, row_facts(path, facts), code, commit, bool(ok)) for n, path, code, commit, ok, *facts in rows]
 
 

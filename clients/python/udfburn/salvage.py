@@ -18,7 +18,7 @@ from .salvage_carve import Carver
 from .salvage_digests import DECLARATION, Digests, Manifest, add_manifests, folder_of, is_manifest
 from .salvage_ledger import Commits, commits_of
 from .salvage_tree import LOST_AND_FOUND, Item, Tree
-from .salvage_write import Output, Written
+from .salvage_write import InTheWay, Output, Written
 
 WHOLE, UNPROVED, EARLIER, NAMELESS, DAMAGED, LOST = "whole", "unproved", "earlier", "nameless", "damaged", "lost"
 UNFINISHED = "unfinished"
@@ -276,7 +276,11 @@ class Salvage:
     def _directory(self, item: Item, output: Optional[Output], tail: str) -> Iterator[Outcome]:
         written = None
         if output is not None and item.kind is Kind.DIRECTORY:
-            written = output.folder(item.target, item.entry.moment if item.entry is not None else None, tail)
+            try:
+                written = output.folder(item.target, item.entry.moment if item.entry is not None else None, tail)
+            except InTheWay as error:
+                yield Outcome(item.path, item.kind, UNPROVED, 0, item.commit, (), str(error), None)
+                return
         if item.entry is None:
             yield Outcome(item.path, item.kind, LOST, 0, None, (), item.why, written)
         elif item.commit is not None or item.why:

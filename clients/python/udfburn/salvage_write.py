@@ -2,7 +2,9 @@
 
 from __future__ import annotations
 
+import errno
 import os
+import stat
 from concurrent.futures import ThreadPoolExecutor
 from typing import Dict, List, NamedTuple, Optional, Set, Tuple
 
@@ -33,6 +35,10 @@ class Written(NamedTuple):
     key: int
     path: str
     error: Optional[str]
+
+
+class InTheWay(Exception):
+    """Something that is no folder has the name of one."""
 
 
 class Output:
@@ -66,7 +72,7 @@ class Output:
     # ---- folders
 
     def folder(self, target: Path, moment: Optional[int], tail: str) -> str:
-        """Makes a folder, or takes the one that is there. Its path."""
+        """Makes a folder, or takes the one that is there. Its path, or `InTheWay`."""
         place = self._place(target, tail)
         self._open(place).close()
         self._folders[place] = moment
@@ -81,7 +87,7 @@ class Output:
                     os.mkdir(name, dir_fd=descriptor)
                 except FileExistsError:
                     pass
-                below = os.open(name, OPEN_FOLDER, dir_fd=descriptor)
+                below = open_folder(name, descriptor)
                 os.close(descriptor)
                 descriptor = below
         except BaseException:
@@ -97,8 +103,11 @@ class Output:
         place = self._place(target, tail)
         self._count += 1
         temporary = b".udfburn-salvage.%d.%d" % (os.getpid(), self._count)
-        with self._open(place[:-1]) as folder:
-            descriptor = os.open(temporary, os.O_RDWR | os.O_CREAT | os.O_EXCL | os.O_CLOEXEC, 0o666, dir_fd=folder.descriptor)
+        try:
+            with self._open(place[:-1]) as folder:
+                descriptor = os.open(temporary, os.O_RDWR | os.O_CREAT | os.O_EXCL | os.O_CLOEXEC, 0o666, dir_fd=folder.descriptor)
+        except InTheWay as error:
+            return [Written(key, os.fsdecode(b"/".join(place)), f"was not written: {error}")]
         self._waiting.append(Waiting(key, place[:-1], temporary, place[-1], descriptor))
         view = memoryview(data)
         while view:
@@ -195,6 +204,9 @@ class Folder:
             descriptor = os.open(name, os.O_RDONLY | os.O_NOFOLLOW | os.O_CLOEXEC | os.O_NONBLOCK, dir_fd=self.descriptor)
         except OSError:
             return False
+        if not stat.S_ISREG(os.fstat(descriptor).st_mode):
+            os.close(descriptor)
+            return False
         with open(descriptor, "rb") as file:
             size = os.fstat(other).st_size
             return os.fstat(descriptor).st_size == size and file.read(size) == os.pread(other, size, 0)
@@ -205,6 +217,16 @@ class Folder:
             os.unlink(name, dir_fd=self.descriptor)
         except FileNotFoundError:
             pass
+
+
+def open_folder(name: bytes, above: int) -> int:
+    """Opens a folder in another one. No link is followed."""
+    try:
+        return os.open(name, OPEN_FOLDER, dir_fd=above)
+    except OSError as error:
+        if error.errno not in (errno.ENOTDIR, errno.ELOOP):
+            raise
+        raise InTheWay(f"{os.fsdecode(name)}: is there, and is no folder") from error
 
 
 def fitting(name: str, tail: str) -> bytes:

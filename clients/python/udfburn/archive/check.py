@@ -75,9 +75,11 @@ class Checker:
         self.tell.working(f"reading {row.label}")
         trouble = self._trouble(row, image)
         self.volumes += 1
-        time = now()
-        data = time if self.options.data else row.data_checked
-        self.catalogue.save(row._replace(checked=time, data_checked=data, trouble=trouble if row.state == CLOSED else row.trouble))
+        with self.catalogue.base.transaction():
+            # Another process may have filled or closed it meanwhile.
+            fresh, time = self.catalogue.volume(row.number) or row, now()
+            data = time if self.options.data else fresh.data_checked
+            self.catalogue.save(fresh._replace(checked=time, data_checked=data, trouble=trouble if row.state == CLOSED else fresh.trouble))
         if trouble:
             self.failures.append(f"{row.label}: {trouble}: {self._cure(row)}")
         self.tell.say_step(f"{row.label}: {trouble or 'is intact'}", did="checked", volume=row.label, trouble=trouble)
@@ -161,6 +163,14 @@ class Checker:
         return "no copy is known: 'udfburn-client salvage' copies out what is intact"
 
 
+def has_print(image: str, wanted: Print) -> bool:
+    """Whether an image is there, with this length and digest. One that cannot be read has another."""
+    try:
+        return os.path.isfile(image) and print_of_file(image, fresh=True) == wanted
+    except OSError:
+        return False
+
+
 class Repairer:
     """A run of `repair`: a damaged or lost image from a good copy, and damaged or lost copies from a good image."""
 
@@ -177,13 +187,13 @@ class Repairer:
                 continue
             try:
                 self._volume(row)
-            except CopyFailed as error:
+            except (CopyFailed, OSError) as error:
                 self.failures.append(f"{row.label}: {error}")
 
     def _volume(self, row: VolumeRow) -> None:
         wanted = Print(row.length or 0, row.sha256 or b"")
         image = self.config.path("closed", row.label + ".img")
-        if not (os.path.isfile(image) and print_of_file(image, fresh=True) == wanted):
+        if not has_print(image, wanted):
             self._fetch(row, image, wanted)
         if row.trouble:
             self.catalogue.save(row._replace(trouble=None, checked=now()))

@@ -3,13 +3,13 @@
 from __future__ import annotations
 
 import argparse
-import os
 import sys
 from typing import TYPE_CHECKING, Any, Callable, Dict, List, Optional
 
 from .. import __version__
 from ..errors import OutputFailed, UdfburnError, UsageError
 from ..protocol import limits
+from ..streams import drop_output, parsed, take_any_name, take_descriptors
 from .tell import Tell
 
 if TYPE_CHECKING:
@@ -136,27 +136,41 @@ def function(name: str) -> Callable[[Any], int]:
     return found
 
 
+INTERRUPTED = "interrupted: run the same command again to continue"
+
+
 def main(words: Optional[List[str]] = None) -> int:
     """Runs a command, and gives its status."""
     if sys.version_info < (3, 11):
         print("udfburn-archive: needs Python 3.11 or later", file=sys.stderr)
         return 1
     try:
-        arguments = parser().parse_args(words)
+        closed = take_descriptors()
+        arguments = parsed(parser(), words, closed)
+        return printed(arguments, Tell(arguments.quiet, arguments.json, closed=closed))
     except SystemExit as end:
         return int(end.code or 0)
-    closed = sys.stdout is None
-    tell = arguments.tell = Tell(arguments.quiet, arguments.json, closed=closed)
+    except KeyboardInterrupt:
+        # Before the command began, or after it.
+        print(f"udfburn-archive: {INTERRUPTED}", file=sys.stderr)
+        return 130
+
+
+def printed(arguments: argparse.Namespace, tell: Tell) -> int:
+    """Runs a command, and sees that what it printed was taken."""
+    take_any_name()
+    arguments.tell = tell
     try:
         tell.require_output()
         status = run(arguments, tell)
         tell.finish(arguments.command, status)
         return status
     except BrokenPipeError:
-        os.dup2(os.open(os.devnull, os.O_WRONLY), sys.stdout.fileno())
+        drop_output()
         print("udfburn-archive: the standard output is closed", file=sys.stderr)
         return 1
     except OutputFailed as error:
+        drop_output()
         print(f"udfburn-archive: {error}", file=sys.stderr)
         return 1
 
@@ -168,7 +182,7 @@ def run(arguments: argparse.Namespace, tell: Tell) -> int:
     except (BrokenPipeError, OutputFailed):
         raise
     except KeyboardInterrupt:
-        return tell.fail("interrupted: run the same command again to continue", 130)
+        return tell.fail(INTERRUPTED, 130)
     except UsageError as error:
         return tell.fail(error, 2)
     except (UdfburnError, ValueError, OSError) as error:

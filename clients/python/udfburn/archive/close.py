@@ -11,6 +11,7 @@ import stat
 import time
 from contextlib import closing
 from hashlib import sha256
+from tempfile import TemporaryDirectory
 from typing import Dict, List, Mapping, NamedTuple, Optional, Sequence, Tuple
 
 from ..connection import find_program, run_program
@@ -25,7 +26,7 @@ from .claims import Claims
 from .config import Config, write_file
 from .contents import Contents, File, read_fields
 from .errors import ArchiveError, CopyFailed, NotAtHand, VolumeDiffers
-from .remotes import Print, print_of_file, remote_of
+from .remotes import Print, Remote, print_of_file, remote_of
 from .tell import Tell, plural, shown_path, stamp
 from .volume import OpenVolume
 
@@ -76,6 +77,8 @@ class Closer:
         target = self.config.path("closed", row.label + ".img")
         source = self.config.path("open", row.label + ".img")
         if os.path.isfile(source):
+            if os.path.lexists(target):
+                raise VolumeDiffers(f"{shown(target)}: is there already, and would be replaced by the image in 'open': move the one away that is not meant")
             row = self._finish(row)
             with closing(Contents(source)) as contents:
                 self._end(source, contents)
@@ -274,7 +277,10 @@ def send(row: VolumeRow, image: str, name: str) -> None:
     """Copies a closed volume to a remote, the image first, where it is not there; and compares all its bytes as they are there."""
     remote, wanted = remote_of(name), Print(row.length or 0, row.sha256 or b"")
     base = os.path.basename(image)
+    if remote.is_file(image, base):
+        raise CopyFailed("what is there is the image itself, and no copy")
     if remote.look(base) != wanted:
+        require_no_other(remote, row)
         remote.send(image, base)
         found = remote.look(base)
         if found != wanted:
@@ -282,6 +288,20 @@ def send(row: VolumeRow, image: str, name: str) -> None:
     for end in SIDECARS:
         if os.path.isfile(beside(image, end)):
             remote.send(beside(image, end), os.path.basename(beside(image, end)))
+
+
+def require_no_other(remote: Remote, row: VolumeRow) -> None:
+    """Raises where a remote has another volume with the name of this one, as one of an archive with the same label: it is not replaced."""
+    name = row.label + ".info"
+    if remote.look(name) is None:
+        return
+    with TemporaryDirectory() as folder:
+        there = os.path.join(folder, name)
+        remote.fetch(name, there)
+        with open(there, "rb") as file:
+            digest = read_fields(file.read()).get("sha256")
+    if digest not in (None, (row.sha256 or b"").hex()):
+        raise CopyFailed(f"it has another volume with this name, as {name} there says: move that away, or name another remote in archive.toml")
 
 
 def is_tag(path: Path, kind: str) -> bool:

@@ -12,7 +12,7 @@ from .add import Adder, Options
 from .catalogue import Catalogue
 from .config import FILE, LOCAL, check_label, check_remote, checked, config_of, is_url, strange, write
 from .errors import BadConfig, NoArchive
-from .rebuild import Rebuilder, open_or_make
+from .rebuild import Rebuilder, open_or_make, open_to_compare
 from .scan import targets
 from .tell import plural, size, tell_of
 
@@ -73,7 +73,7 @@ def add(arguments: argparse.Namespace) -> int:
 def rebuild(arguments: argparse.Namespace) -> int:
     """Makes the catalogue again."""
     config, tell = config_of(arguments), tell_of(arguments)
-    with open_or_make(config, tell) as catalogue:
+    with (open_to_compare if arguments.dry_run else open_or_make)(config, tell) as catalogue:
         summary = Rebuilder(config, catalogue, tell, arguments.dry_run).run(arguments.image)
     for difference in summary.differences:
         tell.say(f"{difference.volume} {difference.path}: {difference.how}", did="differs", **difference._asdict())

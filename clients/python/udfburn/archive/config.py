@@ -4,11 +4,13 @@ from __future__ import annotations
 
 import argparse
 import os
+import re
+from contextlib import suppress
 from importlib import import_module
-from typing import Any, Dict, List, NamedTuple, Optional, Tuple
+from typing import Any, Dict, List, NamedTuple, Optional, Set, Tuple
 
 from ..ledger_file import make_folder, sync_file, sync_folder
-from ..protocol import limits
+from ..protocol import is_bytes, limits
 from ..protocol.names import name_fault, spelled_size
 from ..sources import shown
 from .errors import BadConfig, NoArchive
@@ -69,14 +71,36 @@ def volume_label(label: str, number: int) -> str:
     return f"{label}-{number:06}"
 
 
+def traces(config: Config) -> Set[int]:
+    """The numbers of volumes of which a file is in the folder of the archive, or in a folder for copies."""
+    own = re.compile(re.escape(config.label) + r"-([0-9]{6,})\.[a-z0-9]+")
+    found: Set[int] = set()
+    for folder in (config.path("closed"), config.path("open"), *filter(os.path.isabs, config.copies)):
+        with suppress(OSError):
+            found.update(int(match.group(1)) for match in map(own.fullmatch, os.listdir(folder)) if match)
+    return found
+
+
 def check_remote(remote: str) -> str:
     """The place itself, where it is a folder's absolute path or a remote of rclone."""
+    if is_bytes(remote):
+        raise BadConfig(f"{shown(remote)}: is not UTF-8, and archive.toml has nothing else: use a link whose path is")
     if os.path.isabs(remote):
         return os.path.normpath(remote)
     name, colon, _ = remote.partition(":")
     if not colon or not name or "/" in name or remote.startswith("-"):
         raise BadConfig(f"{remote}: is neither the absolute path of a folder nor an rclone remote, NAME:PATH")
     return remote
+
+
+def check_different(copies: Tuple[str, ...], where: str) -> None:
+    """Raises where two folders for copies are one: what is there twice by name is there once."""
+    known: Dict[str, str] = {}
+    for copy in copies:
+        place = os.path.realpath(copy) if os.path.isabs(copy) else copy
+        if place in known:
+            raise BadConfig(f"{where}: {copy} is the same folder as {known[place]}")
+        known[place] = copy
 
 
 def field(table: Dict[str, Any], key: str, kind: type, where: str) -> Any:
@@ -117,13 +141,14 @@ def checked(folder: str, table: Dict[str, Any], where: str) -> Config:
     if unknown:
         raise BadConfig(f"{where}: has unknown fields: {', '.join(unknown)}")
     copies = field(table, "copies", list, where)
-    if not all(isinstance(copy, str) for copy in copies) or len(set(copies)) != len(copies):
-        raise BadConfig(f"{where}: copies must be a list of different strings")
+    if not all(isinstance(copy, str) for copy in copies):
+        raise BadConfig(f"{where}: copies must be a list of strings")
     found = Config(
         folder, field(table, "id", str, where), check_label(field(table, "label", str, where)), field(table, "catalogue", str, where),
         field(table, "capacity", int, where), tuple(check_remote(copy) for copy in copies), field(table, "copies_wanted", int, where),
         field(table, "delete", str, where),
     )
+    check_different(found.copies, where)
     if not limits.CAPACITY[0] <= found.capacity <= limits.CAPACITY[1]:
         raise BadConfig(f"{where}: capacity must be from {limits.CAPACITY[0]} to {limits.CAPACITY[1]} blocks")
     if found.delete not in DELETIONS:

@@ -88,8 +88,8 @@ class Filler:
             left = self._plan(volume, jobs)
             if len(left) < len(jobs):
                 return left
-        volume = self._new()
-        left = self._plan(volume, jobs, partly=True)
+        # Planned on nothing first, since a volume that was opened for nothing stays.
+        left = self._plan(self._new(), jobs, partly=True) if jobs[0].again().plan(Tree.empty(self.config.capacity), True) else jobs
         if left and left[0] is jobs[0]:
             self.failed(jobs[0], f"{shown_path(jobs[0].source.path)}: does not fit on an empty volume of {self.config.capacity} blocks")
             return left[1:]
@@ -213,7 +213,6 @@ class Filler:
             job.commit = outcome.commit
         if job.stored():
             done.append(job)
-            self.tell.step("stored", job.source.path, job.planned_bytes(), volume.row.label, outcome.commit)
 
     def _keep(self, volume: OpenVolume, done: List[Job], cut: Sequence[Job] = ()) -> None:
         """Has the catalogue keep what is stored, and then calls whoever deletes sources."""
@@ -226,6 +225,8 @@ class Filler:
         self.catalogue.add(volume.row, rows)
         finished = list(done)
         done.clear()
+        for job in finished:
+            self.tell.step("stored", job.source.path, job.planned_bytes(), volume.row.label, job.commit)
         self.kept(finished)
 
 

@@ -4,7 +4,7 @@ from __future__ import annotations
 
 import os
 from hashlib import sha256
-from typing import Dict, Iterator, List, NamedTuple, Optional, Sequence, Tuple
+from typing import Dict, Iterable, Iterator, List, NamedTuple, Optional, Sequence, Tuple
 
 from ..errors import DiskFull, SourceError, UdfburnError
 from ..fetch import make_folder
@@ -51,6 +51,15 @@ def wanted(catalogue: Catalogue, paths: Sequence[Path], folder: str, moment: Opt
                     yield Wanted(group, os.path.join(folder, *path[-1:], *below[len(path) :], name))
         if not found:
             raise Lacking(f"{shown_path(path)}: is not in the archive" + (" at that time" if moment is not None else ""))
+
+
+def once(files: Iterable[Wanted]) -> List[Wanted]:
+    """Files, each once. Two that would have one path are an error, since one would take the place of the other."""
+    found: Dict[str, Wanted] = {}
+    for want in files:
+        if found.setdefault(want.local, want).rows != want.rows:
+            raise SourceError(f"{shown(want.local)}: two of the files would have this path: get them one by one")
+    return list(found.values())
 
 
 class Getter:
@@ -145,4 +154,4 @@ def require_folder(folder: str) -> None:
         raise SourceError(f"{shown(folder)}: is not a folder")
 
 
-__all__ = ["Getter", "Lacking", "Summary", "Wanted", "as_of", "require_folder", "wanted"]
+__all__ = ["Getter", "Lacking", "Summary", "Wanted", "as_of", "once", "require_folder", "wanted"]

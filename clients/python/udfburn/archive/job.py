@@ -136,8 +136,12 @@ class Job:
         assert self.whole
         if not self.commit:
             yield self._create(self.whole + (DESCRIPTION,), description(self.source, self.digest, self.begun))
+        whole, last = sha256(), part_count(self.source.identity.size) - 1
         with closing(parts_from(self.source, self.first)) as pieces:
             for part, (place, data) in enumerate(zip(self.parts, pieces), self.first):
+                whole.update(data)
+                if part == last and not self.first and whole.digest() != self.digest:
+                    raise SourceChanged(f"{shown(self.source.local)}: changed while it was read, though its times did not: store it again")
                 yield from self._folders(place.folders)
                 yield self._create(place.path, data, True, part * limits.FILE)
 

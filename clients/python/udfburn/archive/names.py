@@ -135,7 +135,7 @@ class Stored(NamedTuple):
 
 
 def read_back(names: Path) -> Optional[Stored]:
-    """What a stored file is; None where it is none of the payload."""
+    """What a stored file is; None where it is none of the payload, or stands for what is no path, as where another program wrote it."""
     if not names or names[0] != PAYLOAD:
         return None
     names, version, part = names[1:], 1, None
@@ -144,10 +144,13 @@ def read_back(names: Path) -> Optional[Stored]:
         names, version = names[1:], int(found.group(1))
     if names and names[-1] == DESCRIPTION:
         names, part = names[:-1], -1
-    elif len(names) > 1 and PARTS.fullmatch(names[-2]) and names[-1].isdigit():
+    elif len(names) > 1 and PARTS.fullmatch(names[-2]) and names[-1].isascii() and names[-1].isdigit():
         names, part = names[:-2], int(names[-1])
     kept = tuple(name for name in names if not SPREAD.fullmatch(name))
-    return Stored(decoded(kept), version, part)
+    path = decoded(kept)
+    if not path or any(name in ("", ".", "..") or "/" in name or "\0" in name for name in path):
+        return None
+    return Stored(path, version, part)
 
 
 def folder_back(names: Path) -> Optional[Tuple[int, Path]]:

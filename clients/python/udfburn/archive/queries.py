@@ -10,7 +10,7 @@ from ..errors import UsageError
 from ..sources import shown
 from .catalogue import Catalogue
 from .config import config_of
-from .get import Getter, require_folder, wanted
+from .get import Getter, once, require_folder, wanted
 from .names import path_of
 from .status import Line, incomplete, lines, room
 from .tell import plural, size, stamp, tell_of
@@ -34,7 +34,7 @@ def get(arguments: argparse.Namespace) -> int:
     config, tell = config_of(arguments), tell_of(arguments)
     require_folder(arguments.dir)
     with Catalogue(config) as catalogue:
-        files = list(wanted(catalogue, [path_of(path) for path in arguments.path], arguments.dir, moment_of(arguments.as_of)))
+        files = once(wanted(catalogue, [path_of(path) for path in arguments.path], arguments.dir, moment_of(arguments.as_of)))
         summary = Getter(config, catalogue, tell, arguments.force).run(files)
     for line in summary.failures:
         tell.fail(line)

@@ -2,15 +2,20 @@
 
 from __future__ import annotations
 
+import atexit
 import os
-import re
+import signal
+import sqlite3
 import time
 from collections import deque
 from concurrent.futures import Future, ProcessPoolExecutor
-from contextlib import suppress
+from concurrent.futures.process import BrokenProcessPool
+from contextlib import contextmanager
 from functools import partial
 from multiprocessing import get_context
-from typing import Callable, Deque, Dict, Iterable, Iterator, List, NamedTuple, Optional, Set, Tuple
+from shutil import rmtree
+from tempfile import mkdtemp
+from typing import Callable, Deque, Dict, Iterable, Iterator, List, NamedTuple, Optional, Tuple
 
 from ..ledger_file import sync_folder
 from ..sources import shown
@@ -19,9 +24,9 @@ from .base import SqliteBase
 from .catalogue import CLOSED, CLOSING, FULL, NEW, OPEN, Catalogue, Held, VolumeRow
 from .claims import claims_of
 from .close import sidecar
-from .config import Config, volume_label
+from .config import LOCAL, Config, traces, volume_label
 from .contents import ABOUT, About, Contents
-from .errors import CatalogueError, Claimed, VolumeDiffers
+from .errors import ArchiveError, CatalogueError, Claimed, VolumeDiffers
 from .tell import Tell, plural, shown_path
 
 
@@ -58,16 +63,6 @@ def images(config: Config, others: List[str]) -> Iterator[Tuple[str, bool]]:
                 yield os.path.join(folder, name), closed
 
 
-def traces(config: Config) -> Set[int]:
-    """The numbers of volumes of which a file is in the folder of the archive, or in a folder for copies."""
-    own = re.compile(re.escape(config.label) + r"-([0-9]{6,})\.[a-z0-9]+")
-    found: Set[int] = set()
-    for folder in (config.path("closed"), config.path("open"), *filter(os.path.isabs, config.copies)):
-        with suppress(OSError):
-            found.update(int(match.group(1)) for match in map(own.fullmatch, os.listdir(folder)) if match)
-    return found
-
-
 def open_or_make(config: Config, tell: Tell) -> Catalogue:
     """The catalogue; a new one where it is lost. One that cannot be read is put aside, and not deleted."""
     try:
@@ -85,18 +80,31 @@ def open_or_make(config: Config, tell: Tell) -> Catalogue:
         return Catalogue(config, make=True)
 
 
+def open_to_compare(config: Config, tell: Tell) -> Catalogue:
+    """The catalogue, for a run that changes nothing. In the place of one that is lost or damaged it is an empty one, which goes with this
+    process."""
+    try:
+        return Catalogue(config)
+    except CatalogueError as error:
+        path = config.sqlite()
+        if path is None or os.path.isfile(path) and not is_broken(path):
+            raise
+        tell.note(f"{error}: the volumes are compared with an empty one", did="no catalogue", path=path)
+    folder = mkdtemp()
+    atexit.register(rmtree, folder, ignore_errors=True)
+    return Catalogue(config._replace(catalogue=os.path.join(folder, LOCAL)), make=True)
+
+
 def is_broken(path: str) -> bool:
-    """Whether a file is not an intact SQLite database."""
+    """Whether a file is not an intact SQLite database. One that cannot be read now, as where the disk is full, may well be one."""
     try:
         base = SqliteBase(path, False)
-    except CatalogueError:
-        return True
-    try:
-        return base.run("PRAGMA integrity_check") != [("ok",)]
-    except CatalogueError:
-        return True
-    finally:
-        base.close()
+        try:
+            return base.run("PRAGMA integrity_check") != [("ok",)]
+        finally:
+            base.close()
+    except CatalogueError as error:
+        return not isinstance(error.__cause__, sqlite3.OperationalError)
 
 
 class Read(NamedTuple):
@@ -136,16 +144,36 @@ def read_all(wanted: Iterable[Tuple[str, bool]], holder: str, several: bool) -> 
             yield image, closed, partial(read_volume, image, closed, holder)
         return
     count = os.cpu_count() or 1
-    with ProcessPoolExecutor(count, get_context("spawn")) as pool:
+    pool = ProcessPoolExecutor(count, get_context("spawn"), begin_reading)
+    try:
         waiting: Deque[Tuple[str, bool, "Future[Optional[Read]]"]] = deque()
         for image, closed in wanted:
-            waiting.append((image, closed, pool.submit(read_volume, image, closed, holder)))
+            with uninterrupted():
+                waiting.append((image, closed, pool.submit(read_volume, image, closed, holder)))
             if len(waiting) > 2 * count:
                 image, closed, read = waiting.popleft()
                 yield image, closed, read.result
         while waiting:
             image, closed, read = waiting.popleft()
             yield image, closed, read.result
+    finally:
+        pool.shutdown(cancel_futures=True)
+
+
+@contextmanager
+def uninterrupted() -> Iterator[None]:
+    """An interrupt comes afterwards. Processes that begin meanwhile get none before `begin_reading`."""
+    before = signal.pthread_sigmask(signal.SIG_BLOCK, {signal.SIGINT})
+    try:
+        yield
+    finally:
+        signal.pthread_sigmask(signal.SIG_SETMASK, before)
+
+
+def begin_reading() -> None:
+    """Has an interrupt end this process without a word: the one that began it says that it was interrupted."""
+    signal.signal(signal.SIGINT, signal.SIG_DFL)
+    signal.pthread_sigmask(signal.SIG_UNBLOCK, {signal.SIGINT})
 
 
 class Rebuilder:
@@ -155,26 +183,26 @@ class Rebuilder:
         self.config, self.catalogue, self.tell, self.dry_run = config, catalogue, tell, dry_run
         self.summary = Summary()
         self.claims = claims_of(catalogue.base, config.path("locks"), config.catalogue)
+        self._seen: Dict[int, Tuple[int, int]] = {}
+        """The moment of the format and the last commit of each volume that was read, by its number."""
 
     def run(self, others: List[str]) -> Summary:
         """Reads each volume at hand, and has the catalogue say what it says."""
-        seen = set()
         found = list(images(self.config, others))
         try:
             for image, closed, read in read_all(self._claimed(found), self.config.id, len(found) > 2):
                 try:
-                    number = self._one(image, closed, read())
+                    self._one(image, closed, read())
                 except (VolumeDiffers, Claimed) as error:
                     self.summary.failures.append(str(error))
-                    continue
-                if number is not None:
-                    seen.add(number)
+                except BrokenProcessPool as error:
+                    raise ArchiveError("a process that reads volumes was killed: run 'rebuild' again") from error
             self._look_for_others()
             if not self.dry_run:
                 self.summary.names = self.catalogue.mend_names()
         finally:
             self.claims.close()
-        self.summary.away = [row.label for row in self.catalogue.volumes() if row.number not in seen and row.state != NEW]
+        self.summary.away = [row.label for row in self.catalogue.volumes() if row.number not in self._seen and row.state != NEW]
         return self.summary
 
     def _look_for_others(self) -> None:
@@ -201,13 +229,19 @@ class Rebuilder:
             if (ABOUT,) in contents.nodes and not self.claims.try_volume(contents.about().number):
                 raise Claimed(f"{contents.label}: another process is writing it, so it was left out: run 'rebuild' again")
 
-    def _one(self, image: str, closed: bool, read: Optional[Read]) -> Optional[int]:
-        """Keeps what was read of a volume; gives its number, or None where it holds none of this archive yet."""
+    def _one(self, image: str, closed: bool, read: Optional[Read]) -> None:
+        """Keeps what was read of a volume; of one that was read before nothing, as of a copy of it."""
         if read is None:
-            return None
+            return
         about, number = read.about, read.about.number
         if about.label != self.config.label or not self._is_ours(about.archive):
             raise VolumeDiffers(f"{shown(image)}: belongs to another archive, {about.label} {about.archive}")
+        state = (read.row.formatted, read.row.last_commit)
+        if number in self._seen:
+            if self._seen[number] != state:
+                raise VolumeDiffers(f"{shown(image)}: is another state of {read.row.label} than the image that was read before, and was left out")
+            return
+        self._seen[number] = state
         old = self.catalogue.volume(number)
         known = self.catalogue.of_volume(number)
         if old is None and not known:
@@ -219,15 +253,15 @@ class Rebuilder:
         self.summary.volumes += 1
         self.summary.files += len(read.rows)
         self.tell.working(f"read {plural(self.summary.volumes, 'volume', 'volumes')}, {plural(self.summary.files, 'file', 'files')}")
-        return number
 
     def _is_ours(self, archive: str) -> bool:
         """Whether a volume is of this archive. A catalogue that was made anew takes the archive of its first volume."""
         if archive == self.catalogue.id:
             return True
-        if self.catalogue.volumes() or self.dry_run:
+        if self.catalogue.volumes() or self.summary.volumes:
             return False
-        self.catalogue.base.run("UPDATE archive SET id = ?", (archive,))
+        if not self.dry_run:
+            self.catalogue.base.run("UPDATE archive SET id = ?", (archive,))
         self.catalogue.id = archive
         return True
 

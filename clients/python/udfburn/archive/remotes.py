@@ -2,6 +2,7 @@
 
 from __future__ import annotations
 
+import errno
 import os
 import shutil
 import subprocess
@@ -23,6 +24,10 @@ class Print(NamedTuple):
 
     length: int
     sha256: bytes
+
+
+UNREADABLE = Print(0, b"")
+"""What is said of a file that is there, and of which the disk cannot read all: no file has this."""
 
 
 def print_of(stream: IO[bytes], most: Optional[int] = None) -> Print:
@@ -62,6 +67,10 @@ class Remote:
         """The length and the digest of a file there, by all its bytes; None where it is not there."""
         raise NotImplementedError
 
+    def is_file(self, local: str, name: str) -> bool:
+        """Whether a file there is a local one itself."""
+        return False
+
 
 class FolderRemote(Remote):
     """A folder."""
@@ -93,7 +102,16 @@ class FolderRemote(Remote):
                 raise CopyFailed(f"{shown(self.name)}: is not there: mount it, or make the folder") from None
             return None
         except OSError as error:
+            if error.errno == errno.EIO:
+                # It is there, and none of a good copy.
+                return UNREADABLE
             raise CopyFailed(f"{shown(path)}: {error.strerror or error}") from error
+
+    def is_file(self, local: str, name: str) -> bool:
+        try:
+            return os.path.samefile(local, os.path.join(self.name, name))
+        except OSError:
+            return False
 
 
 class RcloneRemote(Remote):

@@ -27,17 +27,23 @@ BEGIN = b"<!DOCTYPE html>\n<html lang=\"en\">\n"
 
 def ends(config: Config, line: Line) -> List[int]:
     """The address of the last block of each commit, the format's first; none where nothing of the medium is at hand."""
+    found = logged(beside(config.path("closed", line.row.label + ".img"), ".log"))
     image = image_of(config, line.row)
-    log = beside(config.path("closed", line.row.label + ".img"), ".log")
-    if os.path.isfile(log):
-        with open(log, encoding="ascii") as file:
-            return [int(words.split()[1]) for words in reversed(file.read().splitlines())]
-    if image is None:
-        return []
+    if found or image is None:
+        return found
     try:
         with closing(Contents(image)) as contents:
             return contents.addresses
     except VolumeDiffers:
+        return []
+
+
+def logged(log: str) -> List[int]:
+    """The addresses in the log of a closed volume; none where it is not there, or is damaged."""
+    try:
+        with open(log, encoding="ascii") as file:
+            return [int(words.split()[1]) for words in reversed(file.read().splitlines())]
+    except (OSError, ValueError, IndexError):
         return []
 
 

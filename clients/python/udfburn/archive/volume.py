@@ -22,9 +22,9 @@ from .bag import manifest_size
 from .batch import Batch, NoBatch, cut_tail, has_room, is_worth, memory_folder, sound_length
 from .catalogue import NEW, OPEN, Catalogue, VolumeRow, image_of, is_whole
 from .claims import Claims
-from .config import Config, volume_label
+from .config import Config, traces, volume_label
 from .contents import ABOUT, RUNS, TITLE, Contents, File
-from .errors import VolumeDiffers
+from .errors import CatalogueError, VolumeDiffers
 from .tell import stamp
 from .tree import Tree
 
@@ -34,6 +34,8 @@ RUNS_MOST = 480
 CLIENTS_MOST = 36
 """Clients after which one more makes a volume full. Linux mounts a volume with up to 38, so `close` may still come with another, as
 where the ledger was lost or the volume was adopted."""
+
+REBUILD = "run 'udfburn-archive rebuild' first"
 
 RULES = """
 This volume belongs to an archive that is larger than a disc. The files are below
@@ -306,6 +308,11 @@ def new_row(config: Config, catalogue: Catalogue) -> VolumeRow:
     """A volume with the next number, that no other process gets."""
     with catalogue.base.transaction():
         number = catalogue.new_number()
+        later = [other for other in traces(config) if other >= number]
+        if later:
+            # Its number would be that of another volume, which it would replace one day.
+            label = volume_label(config.label, max(later))
+            raise CatalogueError(f"there are files of {label}, which the catalogue does not know: it is older than the volumes: {REBUILD}")
         row = VolumeRow(number, volume_label(config.label, number), NEW, config.id, config.capacity, time.time_ns() // 1000)
         catalogue.save(row)
     return row
@@ -317,15 +324,24 @@ def own_volumes(config: Config, catalogue: Catalogue, claims: Claims, batches: b
         if row.holder == config.id and row.state in (NEW, OPEN) and claims.try_volume(row.number):
             # What another process did until it let go. A volume that was moved away is not written.
             fresh = catalogue.volume(row.number)
+            if fresh is not None and fresh.state in (NEW, OPEN) and is_closed(config, fresh):
+                raise CatalogueError(f"{fresh.label} is closed, which the catalogue does not know: it is older than the volumes: {REBUILD}")
             if fresh is not None and (fresh.state == NEW or fresh.state == OPEN and image_of(config, fresh)):
                 yield taken_up(OpenVolume(config, catalogue, fresh, batches))
 
 
+def is_closed(config: Config, row: VolumeRow) -> bool:
+    """Whether there is a closed image of a volume."""
+    return os.path.lexists(config.path("closed", row.label + ".img"))
+
+
 def open_new(config: Config, catalogue: Catalogue, claims: Claims, batches: bool = True) -> OpenVolume:
-    """A new volume."""
-    row = new_row(config, catalogue)
-    claims.volume(row.number, row.label)
-    return taken_up(OpenVolume(config, catalogue, row, batches))
+    """A new volume. One that another process, which began just now, took up before it was claimed is left to that one."""
+    while True:
+        row = new_row(config, catalogue)
+        fresh = catalogue.volume(row.number) if claims.try_volume(row.number) else None
+        if fresh is not None and fresh.state == NEW:
+            return taken_up(OpenVolume(config, catalogue, fresh, batches))
 
 
 def taken_up(volume: OpenVolume) -> OpenVolume:

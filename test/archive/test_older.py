@@ -1,0 +1,282 @@
+"""A catalogue that is older than its volumes, and archives that share a label or a folder for copies: no volume takes the place of another,
+and no source goes for a copy that is none."""
+
+from __future__ import annotations
+
+import os
+import random
+import shutil
+import signal
+import sqlite3
+import subprocess
+import sys
+import time
+from contextlib import closing
+from pathlib import Path
+from typing import List, Optional, Tuple
+from unittest import mock
+
+from .support import PACKAGE, PATIENCE, WithArchive, digests, environment, wait_until, words_of, write
+
+sys.path.insert(0, PACKAGE)
+
+from udfburn.archive.catalogue import Catalogue, VolumeRow  # noqa: E402
+from udfburn.archive.check import Checker, Options  # noqa: E402
+from udfburn.archive.claims import FileClaims, claims_of  # noqa: E402
+from udfburn.archive.config import Config, read  # noqa: E402
+from udfburn.archive.tell import Tell  # noqa: E402
+from udfburn.archive.volume import new_row, open_new  # noqa: E402
+
+
+class WithOlder(WithArchive):
+    def setUp(self) -> None:
+        super().setUp()
+        self.copies = self.path("copies")
+        os.mkdir(self.copies)
+        self.catalogue = os.path.join(self.archive, "catalogue.sqlite")
+
+    def keep(self) -> None:
+        """Keeps the catalogue as it is now."""
+        shutil.copy(self.catalogue, self.path("kept"))
+
+    def bring_back(self) -> None:
+        """Puts the catalogue that was kept in the place of the newer one."""
+        self.remove()
+        shutil.copy(self.path("kept"), self.catalogue)
+
+    def remove(self) -> None:
+        """Has no catalogue."""
+        for end in ("", "-wal", "-shm"):
+            if os.path.exists(self.catalogue + end):
+                os.unlink(self.catalogue + end)
+
+    def change_source(self, name: str) -> None:
+        shutil.rmtree(self.source)
+        write(os.path.join(self.source, name), os.urandom(5000))
+
+
+class Older(WithOlder):
+    """A catalogue of an earlier day."""
+
+    def test_no_volume_gets_the_number_of_one_that_the_catalogue_does_not_know(self) -> None:
+        self.init("--copies", self.copies)
+        self.keep()
+        self.change_source("a")
+        self.add()
+        self.do("close")
+        before, volumes, copies = digests(self.source), digests(os.path.join(self.archive, "closed")), digests(self.copies)
+        self.bring_back()
+        self.change_source("b")
+        self.assertIn("run 'udfburn-archive rebuild' first", self.add(status=1).errors)
+        self.do("rebuild")
+        self.add()
+        self.do("close")
+        for name, digest in volumes.items():
+            self.assertEqual(digests(os.path.join(self.archive, "closed"))[name], digest)
+            self.assertEqual(digests(self.copies)[name][0], copies[name][0])
+        self.assertEqual(self.get_all(), {**before, **digests(self.source)})
+
+    def test_a_volume_that_was_closed_since(self) -> None:
+        self.init("--delete", "acknowledged")
+        self.change_source("a")
+        self.add()
+        self.keep()
+        before = digests(self.source)
+        self.do("close")
+        self.bring_back()
+        self.change_source("b")
+        for state in ("open", "new"):
+            with closing(sqlite3.connect(self.catalogue)) as base, base:
+                base.execute("UPDATE volume SET state = ?", (state,))
+            self.assertIn("run 'udfburn-archive rebuild' first", self.add(status=1).errors)
+            self.assertEqual(os.listdir(os.path.join(self.archive, "open")), [])
+        self.do("rebuild")
+        self.add()
+        self.assertEqual(self.get_all(), {**before, **digests(self.source)})
+
+    def test_an_image_does_not_take_the_place_of_a_closed_one(self) -> None:
+        self.init("--delete", "acknowledged")
+        self.change_source("a")
+        self.add()
+        other = write(os.path.join(self.archive, "closed", "T-000001.img"), b"another image")
+        self.assertIn("T-000001.img: is there already", self.do("close", status=1).errors)
+        with open(other, "rb") as file:
+            self.assertEqual(file.read(), b"another image")
+        os.unlink(other)
+        self.do("close")
+
+    def test_a_dry_run_makes_no_catalogue(self) -> None:
+        self.init("--delete", "acknowledged")
+        self.change_source("a")
+        self.add()
+        self.do("close")
+        damaged = b"SQLite format 3\0" + bytes(5000)
+        for left in (None, damaged):
+            self.bring_nothing(left)
+            before = digests(self.archive)
+            done = self.do("rebuild", "--dry-run")
+            self.assertEqual([(line["volume"], line["files"]) for line in done.objects() if line["did"] == "unknown"], [("T-000001", 1)])
+            self.assertEqual(done.last()["failures"], [])
+            self.assertEqual(digests(self.archive), before)
+            self.assertIn("rebuild", self.add(status=1).errors)
+        self.do("rebuild")
+        self.assertEqual(self.get_all(), digests(self.source))
+
+    def test_a_catalogue_that_cannot_be_opened_now(self) -> None:
+        """It is not damaged, so it stays where it is."""
+        self.init("--delete", "acknowledged")
+        self.change_source("a")
+        self.add()
+        rows = self.rows()
+        before = digests(self.archive)["catalogue.sqlite".encode()]
+        os.mkdir(self.catalogue + "-wal")
+        for words in ((), ("--dry-run",)):
+            self.assertIn("check that the disk works and has room", self.do("rebuild", *words, status=1).errors)
+            self.assertEqual(digests(self.archive)["catalogue.sqlite".encode()], before)
+        os.rmdir(self.catalogue + "-wal")
+        self.assertEqual(self.rows(), rows)
+
+    def test_an_older_copy_of_an_image(self) -> None:
+        """It does not take the place of the image at hand, and one that is the same is read once."""
+        self.init("--delete", "acknowledged")
+        self.change_source("a")
+        self.add()
+        image = os.path.join(self.archive, "open", "T-000001.img")
+        for name in ("older", "same"):
+            os.mkdir(self.path(name))
+            shutil.copy(image, self.path(name))
+            write(os.path.join(self.source, f"after {name}"), b"later")
+            self.add()
+        shutil.copy(image, self.path("same"))
+        rows = self.rows()
+        last = self.do("rebuild", self.path("same")).last()
+        self.assertEqual((last["volumes"], last["differences"]), (1, 0))
+        done = self.do("rebuild", self.path("older"), status=1)
+        self.assertIn("older/T-000001.img: is another state of T-000001", done.errors)
+        self.assertEqual((self.rows(), [volume["state"] for volume in self.volumes()]), (rows, ["open"]))
+
+    def bring_nothing(self, data: Optional[bytes]) -> None:
+        """Has no catalogue, or one with these bytes."""
+        self.remove()
+        if data is not None:
+            write(self.catalogue, data)
+
+
+class Shared(WithOlder):
+    """Folders for copies that are not only this archive's."""
+
+    def test_an_archive_with_the_same_label_keeps_its_copies(self) -> None:
+        other = self.path("other")
+        for archive, name in ((self.archive, "a"), (other, "b")):
+            self.init("--copies", self.copies, archive=archive)
+            write(os.path.join(self.source, name), os.urandom(5000))
+            self.run_in(archive, "add", os.path.join(self.source, name), "--at", f"/s/{name}")
+        self.do("close")
+        copy = digests(self.copies)
+        failures = self.run_in(other, "close", status=1).last()["failures"]
+        self.assertIn("has another volume with this name", failures[0])
+        self.assertEqual(digests(self.copies), copy)
+        # Each has its own source still, until its own copy is there.
+        deleted = [self.run_in(archive, "add", self.source, "--at", "/s", "--delete-source").last()["deleted"] for archive in (other, self.archive)]
+        self.assertEqual((deleted, os.listdir(self.source)), ([0, 1], ["b"]))
+        self.assertEqual(self.do("check", "--remotes").last()["failures"], [])
+
+    def test_the_image_itself_is_no_copy(self) -> None:
+        self.init("--copies", os.path.join(self.archive, "closed"))
+        self.change_source("a")
+        self.add()
+        self.assertIn("is the image itself", self.do("close", status=1).last()["failures"][0])
+        self.assertEqual(self.add("--delete-source").last()["deleted"], 0)
+
+    def test_a_folder_whose_name_is_not_utf8(self) -> None:
+        self.assertIn("is not UTF-8", self.do("init", self.archive, "--copies", os.fsdecode(os.fsencode(self.copies) + b"\xff"), status=1).errors)
+        self.init("--copies", self.copies)
+
+    def test_two_names_of_one_folder_are_one_copy(self) -> None:
+        os.symlink(self.copies, self.path("link"))
+        self.assertIn("is the same folder as", self.do("init", self.archive, "--copies", self.copies, self.path("link"), status=1).errors)
+
+
+class AtOnce(WithOlder):
+    """Commands that run at once."""
+
+    def test_a_check_does_not_undo_what_came_meanwhile(self) -> None:
+        """The volume is closed while its data is read."""
+        self.init("--delete", "acknowledged")
+        self.change_source("a")
+        self.add()
+        config = read(self.archive)
+        with Catalogue(config) as catalogue:
+            checker = Checker(config, catalogue, Tell(True, False), Options(data=True))
+            found = checker._trouble
+
+            def slowly(row: VolumeRow, image: str) -> Optional[str]:
+                trouble = found(row, image)
+                self.do("close")
+                return trouble
+
+            with mock.patch.object(checker, "_trouble", slowly):
+                checker.run(catalogue.volumes())
+        self.assertEqual(checker.failures, [])
+        (volume,) = self.volumes()
+        self.assertEqual((volume["state"], len(volume["sha256"] or "")), ("closed", 64))
+        self.assertEqual(self.do("check").last()["failures"], [])
+
+    def test_a_new_volume_that_another_run_takes_up(self) -> None:
+        """The other run began between the volume's row and its claim. This one makes another volume."""
+        self.init("--delete", "acknowledged")
+        config = read(self.archive)
+        with Catalogue(config) as catalogue, closing(claims_of(catalogue.base, config.path("locks"), "")) as claims, closing(FileClaims(config.path("locks"))) as other:
+            def slowly(config: Config, catalogue: Catalogue) -> VolumeRow:
+                row = new_row(config, catalogue)
+                if row.number == 1:
+                    self.assertTrue(other.try_volume(1))
+                elif row.number == 2:
+                    catalogue.save(row._replace(state="full"))
+                return row
+
+            with mock.patch("udfburn.archive.volume.new_row", slowly), closing(open_new(config, catalogue, claims)) as volume:
+                self.assertEqual(volume.row.number, 3)
+
+
+class Readers(WithArchive):
+    """The processes by which `rebuild` reads several volumes at once."""
+
+    def setUp(self) -> None:
+        super().setUp()
+        for number in range(3):
+            other = self.path(f"other {number}")
+            self.init("--delete", "acknowledged", archive=other)
+            write(os.path.join(self.source, f"{number}"), b"x")
+            self.run_in(other, "add", self.source)
+        self.images = [os.path.join(self.path(f"other {number}"), "open", "T-000001.img") for number in range(3)]
+        self.init("--delete", "acknowledged")
+
+    def rebuild(self, number: int, to_all: bool) -> Tuple[int, str]:
+        """Sends a signal to a reader once there is one, or to all processes; gives the status, and what was said."""
+        words = words_of("rebuild", "--dry-run", *self.images, "--archive", self.archive)
+        with subprocess.Popen(words, env=environment(), stdout=subprocess.DEVNULL, stderr=subprocess.PIPE, text=True, start_new_session=True) as process:
+            wait_until(lambda: process.poll() is not None or readers(process.pid))
+            time.sleep(random.random() / 5)
+            if to_all:
+                os.killpg(process.pid, number)
+            else:
+                os.kill(readers(process.pid)[0], number)
+            _, errors = process.communicate(timeout=PATIENCE)
+        return process.returncode, errors
+
+    def test_an_interrupt(self) -> None:
+        for _ in range(4):
+            status, errors = self.rebuild(signal.SIGINT, True)
+            self.assertEqual((status, errors), (130, "udfburn-archive: interrupted: run the same command again to continue\n"))
+
+    def test_one_that_is_killed(self) -> None:
+        status, errors = self.rebuild(signal.SIGKILL, False)
+        self.assertEqual((status, errors), (1, "udfburn-archive: a process that reads volumes was killed: run 'rebuild' again\n"))
+
+
+def readers(process: int) -> List[int]:
+    """The readers that a process has begun."""
+    with open(f"/proc/{process}/task/{process}/children", encoding="ascii") as file:
+        children = list(map(int, file.read().split()))
+    return [child for child in children if "spawn_main" in Path(f"/proc/{child}/cmdline").read_text("utf-8")]
