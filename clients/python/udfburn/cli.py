@@ -27,7 +27,9 @@ LONG = """examples:
 exit status: 0 everything is done, 1 something is not, 2 usage error,
 130 interrupted.
 environment: UDFBURN (the program udfburn), UDFBURN_LIBRARY (the C library),
-UDFBURN_SOCKET, UDFBURN_LEDGER."""
+UDFBURN_SOCKET, UDFBURN_LEDGER.
+docs/OPERATIONS.md says what to do when something went wrong. The manual page
+is udfburn-client(1)."""
 
 
 def parser() -> argparse.ArgumentParser:

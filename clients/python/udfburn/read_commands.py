@@ -64,7 +64,7 @@ def add_get(subs: Subs) -> None:
     words.add_argument("local", metavar="LOCAL", help="the new file or folder; - means the standard output")
     words.add_argument("-r", "--recursive", action="store_true", help="copy a directory with everything below it")
     words.add_argument("--split", action="store_true", help="treat a file in parts (NAME.000, NAME.001, ..) as one file NAME")
-    words.add_argument("--force", action="store_true", help="replace existing local files")
+    words.add_argument("--force", action="store_true", help="replace existing local files, and write into a folder that has other names")
     words.add_argument("--as-of", **PAST)
 
 
