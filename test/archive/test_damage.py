@@ -78,6 +78,37 @@ class Damage(WithArchive):
         self.assertEqual((last["deleted"], last["kept"]), (0, 20))
         self.assertEqual(digests(self.source), before)
 
+    def spoil(self, number: int) -> None:
+        """Changes a byte that no file has, so that the program refuses the image."""
+        with open(self.image(number), "r+b") as file:
+            place = os.path.getsize(self.image(number)) - 3 * 2048
+            file.seek(place)
+            byte = file.read(1)[0]
+            file.seek(place)
+            file.write(bytes([byte ^ 1]))
+
+    def test_the_other_volumes_are_used(self) -> None:
+        self.init("--capacity", "3000")
+        for index in range(4):
+            write(os.path.join(self.source, f"f{index}"), os.urandom(1_500_000))
+        self.add()
+        self.spoil(1)
+        before, there = open(self.image(1), "rb").read(), digests(self.source)
+        write(os.path.join(self.source, "more"), b"more")
+        (first, second) = self.volumes()
+        self.assertEqual([first["volume"], second["attention"]], ["T-000001", []])
+        self.assertIn("its image is damaged", first["attention"][0])
+        done = self.add("--delete-source", status=1)
+        self.assertIn(f"{self.image(1)}: is damaged, and nothing is written to it", done.errors)
+        # No source goes for what is on the damaged one.
+        self.assertEqual([done.last()[name] for name in ("files", "same", "deleted", "kept")], [1, 4, 3, 2])
+        done = self.do("close", status=1)
+        self.assertEqual(done.last()["closed"], 1)
+        self.assertIn(f"{self.image(1)}: is damaged", done.errors)
+        self.assertEqual(open(self.image(1), "rb").read(), before)
+        self.assertEqual({path: there[path] for path in digests(self.source)}, digests(self.source))
+        self.assertTrue(os.path.exists(self.path("archive", "closed", "T-000002.img")))
+
     def test_the_last_commit(self) -> None:
         self.init()
         write(self.big, self.data[:900_000])

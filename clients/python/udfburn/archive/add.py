@@ -67,6 +67,8 @@ class Adder:
             filler = Filler(
                 self.config, self.catalogue, claims, self.tell, run_text(wanted), self._kept, self._failed, not self.options.each,
             )
+            self.summary.failures += filler.refused.values()
+            self.deleter.refused = filler.refused
             with closing(filler), closing(self.deleter):
                 for local, path in wanted:
                     self._below(local, path, filler)

@@ -44,7 +44,9 @@ class Filler:
         self.planned: Dict[int, List[Job]] = {}
         self.weights: Dict[int, int] = {}
         # What an earlier run left comes first, so that the catalogue has all that the volumes have.
-        for volume in own_volumes(config, catalogue, claims, batches):
+        self.refused: Dict[int, str] = {}
+        """The volumes that this run does not use, and why."""
+        for volume in own_volumes(config, catalogue, claims, batches, self.refused):
             self.open.append(volume)
 
     def close(self) -> None:

@@ -11,7 +11,7 @@ from ..blocks import Space
 from ..client import Client
 from ..connection import find_program, run_program
 from ..digests import Files
-from ..errors import ConnectionFailed, DiskFull, DriveFailed, Full, NumberUsedElsewhere, OutOfMemory, WrongVolume
+from ..errors import ConnectionFailed, Damaged, DiskFull, DriveFailed, Full, NumberUsedElsewhere, OutOfMemory, WrongVolume
 from ..ledger import Ledger, MemoryLedger, Volume as Known
 from ..ledger_file import sync_folder
 from ..manifest import PAYLOAD
@@ -24,7 +24,7 @@ from .catalogue import NEW, OPEN, Catalogue, VolumeRow, image_of, is_whole
 from .claims import Claims
 from .config import Config, traces, volume_label
 from .contents import ABOUT, RUNS, TITLE, Contents, File
-from .errors import CatalogueError, VolumeDiffers
+from .errors import LOST, CatalogueError, VolumeDiffers
 from .tell import stamp
 from .tree import Tree
 
@@ -121,6 +121,8 @@ class OpenVolume:
                 f"{self.image}: is not what its ledger says: it is another copy, or bytes of its last commit have changed, which "
                 f"'check --data {self.row.label}' finds. Bring the right image back; if this one is meant, remove {self.ledger}"
             ) from error
+        except Damaged as error:
+            raise VolumeDiffers(f"{self.image}: is damaged, and nothing is written to it: 'udfburn check' says where, and {LOST}") from error
         with closing(Contents(self.image)) as contents:
             self.require_own(contents)
             if all((name,) in contents.nodes for name in (ABOUT, PAYLOAD, RUNS)):
@@ -318,8 +320,9 @@ def new_row(config: Config, catalogue: Catalogue) -> VolumeRow:
     return row
 
 
-def own_volumes(config: Config, catalogue: Catalogue, claims: Claims, batches: bool = True) -> Iterator[OpenVolume]:
-    """The open volumes of this archive's folder that no other process has, each claimed and taken up."""
+def own_volumes(config: Config, catalogue: Catalogue, claims: Claims, batches: bool, refused: Dict[int, str]) -> Iterator[OpenVolume]:
+    """The open volumes of this archive's folder that no other process has, each claimed and taken up. `refused` gets the numbers of
+    those that cannot be, with why: nothing is written to them, and the others are as good without them."""
     for row in catalogue.volumes():
         if row.holder == config.id and row.state in (NEW, OPEN) and claims.try_volume(row.number):
             # What another process did until it let go. A volume that was moved away is not written.
@@ -327,7 +330,12 @@ def own_volumes(config: Config, catalogue: Catalogue, claims: Claims, batches: b
             if fresh is not None and fresh.state == OPEN and is_closed(config, fresh):
                 raise CatalogueError(f"{fresh.label} is closed, which the catalogue does not know: it is older than the volumes: {REBUILD}")
             if fresh is not None and (fresh.state == NEW or fresh.state == OPEN and image_of(config, fresh)):
-                yield taken_up(OpenVolume(config, catalogue, fresh, batches))
+                try:
+                    volume = taken_up(OpenVolume(config, catalogue, fresh, batches))
+                except VolumeDiffers as error:
+                    refused[fresh.number] = str(error)
+                else:
+                    yield volume
 
 
 def is_closed(config: Config, row: VolumeRow) -> bool:
