@@ -4,6 +4,7 @@ from __future__ import annotations
 
 import mmap
 import os
+import shutil
 import sqlite3
 import sys
 from contextlib import closing
@@ -108,6 +109,32 @@ class Damage(WithArchive):
         self.assertEqual(open(self.image(1), "rb").read(), before)
         self.assertEqual({path: there[path] for path in digests(self.source)}, digests(self.source))
         self.assertTrue(os.path.exists(self.path("archive", "closed", "T-000002.img")))
+
+    def test_an_adoption_that_fails_leaves_what_was_there(self) -> None:
+        self.init()
+        write(self.big, self.data[:900_000])
+        self.add()
+        opened, good = self.path("archive", "open"), self.path("good.img")
+        bad = {"is damaged": self.path("spoilt.img"), "is not what its ledger says": self.path("changed.img")}
+        shutil.copy2(self.image(1), good)
+        self.spoil(1)
+        os.rename(self.image(1), bad["is damaged"])
+        shutil.copy2(good, self.image(1))
+        self.change(1, self.data)
+        os.rename(self.image(1), bad["is not what its ledger says"])
+        for is_there in (False, True):
+            if is_there:
+                shutil.copy2(good, self.image(1))
+            before = digests(opened)
+            for why, image in bad.items():
+                self.assertIn(why, self.do("adopt", "T-000001", image, status=1).errors)
+                self.assertEqual(digests(opened), before)
+        os.unlink(self.image(1))
+        self.do("adopt", "T-000001", good)
+        write(os.path.join(self.source, "more"), b"more")
+        self.add()
+        self.assertEqual(self.get_all(), digests(self.source))
+        self.require_agreed()
 
     def test_the_last_commit(self) -> None:
         self.init()

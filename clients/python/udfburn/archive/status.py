@@ -6,8 +6,6 @@ import os
 import time
 from typing import Dict, List, NamedTuple, Optional, Tuple
 
-from ..connection import find_program, run_program
-from ..errors import ProgramFailed, UsageError
 from ..protocol import limits
 from .batch import sound_length
 from .catalogue import CLOSED, CLOSING, FILE, FULL, NEW, Catalogue, Copy, Held, VolumeRow, folder_back, held_row, image_of, is_whole
@@ -15,6 +13,7 @@ from .config import Config
 from .errors import LOST, VolumeDiffers
 from .tell import shown_path
 from .tree import MANIFEST
+from .volume import is_damaged
 
 STALE = 400 * 86_400 * 1_000_000
 """Microseconds after which a closed volume should be looked at again."""
@@ -86,20 +85,11 @@ def cut_short(config: Config, row: VolumeRow) -> List[str]:
 
 
 def damaged(config: Config, row: VolumeRow) -> List[str]:
-    """What is to be known of an open image that no command can fill or close. The program looks at a few of its blocks."""
+    """What is to be known of an open image that no command can fill or close."""
     image = config.path("open", row.label + ".img")
-    if row.holder != config.id or row.state == CLOSED or not os.path.isfile(image):
+    if row.holder != config.id or row.state == CLOSED or not os.path.isfile(image) or not is_damaged(image):
         return []
-    try:
-        run_program(find_program(), ["log", image])
-    except ProgramFailed as error:
-        # With cause 78 only an earlier state is damaged.
-        if any(code in str(error) for code in ("66 NotFormatted", "67 Damaged")) and "cause 78" not in str(error):
-            return [f"its image is damaged, and takes no more: 'udfburn check' says where, and {LOST}"]
-    except UsageError:
-        # The program is not at hand. Whatever writes to the image needs it, and says so.
-        pass
-    return []
+    return [f"its image is damaged, and takes no more: 'udfburn check' says where, and {LOST}"]
 
 
 def lines(config: Config, catalogue: Catalogue) -> List[Line]:

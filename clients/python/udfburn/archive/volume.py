@@ -11,7 +11,7 @@ from ..blocks import Space
 from ..client import Client
 from ..connection import find_program, run_program
 from ..digests import Files
-from ..errors import ConnectionFailed, Damaged, DiskFull, DriveFailed, Full, NumberUsedElsewhere, OutOfMemory, WrongVolume
+from ..errors import ConnectionFailed, Damaged, DiskFull, DriveFailed, Full, NumberUsedElsewhere, OutOfMemory, ProgramFailed, UsageError, WrongVolume
 from ..ledger import Ledger, MemoryLedger, Volume as Known
 from ..ledger_file import sync_folder
 from ..manifest import PAYLOAD
@@ -306,6 +306,21 @@ class OpenVolume:
         self.client.close()
 
 
+def is_damaged(image: str) -> bool:
+    """Whether the program would write nothing to an image. It looks at a few blocks, and not at those that a batch is adding."""
+    if sound_length(image) is not None:
+        return False
+    try:
+        run_program(find_program(), ["log", image])
+    except ProgramFailed as error:
+        # With cause 78 only an earlier state is damaged.
+        return any(code in str(error) for code in ("66 NotFormatted", "67 Damaged")) and "cause 78" not in str(error)
+    except UsageError:
+        # The program is not at hand. Whatever writes to the image needs it, and says so.
+        return False
+    return False
+
+
 def new_row(config: Config, catalogue: Catalogue) -> VolumeRow:
     """A volume with the next number, that no other process gets."""
     with catalogue.base.transaction():
@@ -363,4 +378,4 @@ def taken_up(volume: OpenVolume) -> OpenVolume:
     return volume
 
 
-__all__ = ["OpenVolume", "new_row", "open_new", "own_volumes"]
+__all__ = ["OpenVolume", "is_damaged", "new_row", "open_new", "own_volumes"]
