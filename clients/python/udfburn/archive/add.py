@@ -21,7 +21,7 @@ from .fill import Filler
 from .job import Job, digest_of, find_file, same_parts
 from .names import kept_name, stored_folder
 from .scan import Found, Walk
-from .tell import Tell, shown_path, stamp
+from .tell import Tell, plural, shown_path, stamp
 
 
 class Options(NamedTuple):
@@ -108,7 +108,7 @@ class Adder:
             stored_folder(found.folder)
             known = self.catalogue.in_folder(found.folder)
         except CannotStore as error:
-            self.summary.failures.append(f"{error} ({len(found.files)} files are not stored)")
+            self.summary.failures.append(f"{error} ({plural(len(found.files), 'file is', 'files are')} not stored)")
             return []
         for source in found.files:
             try:

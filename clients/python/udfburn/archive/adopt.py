@@ -18,6 +18,7 @@ from .contents import Contents
 from .errors import LOST, NotAtHand, VolumeDiffers
 from .names import name_back
 from .remotes import Print, print_of_file
+from .tell import plural
 from .volume import CLIENTS_MOST, OpenVolume, is_damaged
 
 LEDGER = (".ledger", ".ledger-wal", ".ledger-shm", ".ledger.lock")
@@ -49,7 +50,7 @@ def require_whole(config: Config, catalogue: Catalogue, row: VolumeRow, image: s
         there = {file.commit for file in contents.files()}
         lacking = [held for held in catalogue.of_volume(row.number) if held.commit not in there]
     if lacking:
-        raise VolumeDiffers(f"{shown(image)}: lacks {len(lacking)} files that the catalogue has of {row.label}: it is an older copy")
+        raise VolumeDiffers(f"{shown(image)}: lacks {plural(len(lacking), 'file', 'files')} that the catalogue has of {row.label}: it is an older copy")
     if row.state == CLOSED and print_of_file(image) != Print(row.length or 0, row.sha256 or b""):
         raise VolumeDiffers(f"{shown(image)}: is not {row.label} as it was closed: its length or SHA-256 differs")
 

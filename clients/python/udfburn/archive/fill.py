@@ -12,7 +12,7 @@ from .claims import Claims
 from .config import Config
 from .errors import VolumeDiffers
 from .job import Job
-from .tell import Tell, shown_path
+from .tell import Tell, plural, shown_path
 from .tree import Tree
 from .volume import OpenVolume, open_new, own_volumes
 
@@ -193,7 +193,7 @@ class Filler:
             if volume.is_full():
                 self._full(volume)
         elif left:
-            raise VolumeDiffers(f"{volume.row.label}: gave no answer for {len(left)} files: run the command again")
+            raise VolumeDiffers(f"{volume.row.label}: gave no answer for {plural(len(left), 'file', 'files')}: run the command again")
         return left
 
     def _take(self, volume: OpenVolume, outcome: Outcome, done: List[Job]) -> None:

@@ -25,7 +25,7 @@ from .claims import Claims
 from .config import Config, traces, volume_label
 from .contents import ABOUT, RUNS, TITLE, Contents, File
 from .errors import LOST, CatalogueError, VolumeDiffers
-from .tell import stamp
+from .tell import plural, stamp
 from .tree import Tree
 
 RUNS_MOST = 480
@@ -199,7 +199,7 @@ class OpenVolume:
         lost = {held.id() for held in known} - {held.id() for held in rows}
         if lost:
             paths = [held.path for held in known if held.id() in lost]
-            raise VolumeDiffers(f"{self.image}: lacks {len(lost)} files that the catalogue has, the first is {paths[0]}: bring the right image back, or 'rebuild'")
+            raise VolumeDiffers(f"{self.image}: lacks {plural(len(lost), 'file', 'files')} that the catalogue has, the first is {paths[0]}: bring the right image back, or 'rebuild'")
         state = OPEN if self.row.state == NEW else self.row.state
         self.row = self.filled(contents.last_commit, len(rows))._replace(state=state)
         self.catalogue.replace(self.row, rows)
