@@ -287,6 +287,30 @@ class Commands(WithArchive):
             self.assertEqual(len([line for line in failures if "does not fit on an empty volume" in line]), 6)
             self.assertEqual([volume["files"] for volume in self.volumes()], [1])
 
+    def test_what_was_copied_before_is_not_copied_again(self) -> None:
+        self.init()
+        names = ["empty", "large", "other", "shorter", "small"]
+        for name, size in zip(names, (0, 2_500_000, 3000, 4000, 5000)):
+            write(os.path.join(self.source, name), os.urandom(size))
+        self.add()
+        out = self.path("out")
+        self.do("get", "/s", out)
+        self.do("close")
+        image, away = self.image(1), self.path("away")
+        os.rename(image, away)
+        # All of it is there, so no volume is needed.
+        last = self.do("get", "/s", out).last()
+        self.assertEqual([last[name] for name in ("files", "same", "failures", "lacking")], [0, 5, [], []])
+        os.rename(away, image)
+        write(os.path.join(out, "s", "other"), bytes(3000))
+        write(os.path.join(out, "s", "shorter"), bytes(3999))
+        os.unlink(os.path.join(out, "s", "small"))
+        done = self.do("get", "/s", out, status=1)
+        self.assertEqual([done.last()[name] for name in ("files", "same")], [1, 2])
+        self.assertEqual([line.split(":")[0] for line in done.last()["failures"]], ["/s/other", "/s/shorter"])
+        self.assertEqual(self.do("get", "/s", out, "--force").last()["files"], 5)
+        self.assertEqual(digests(os.path.join(out, "s")), digests(self.source))
+
     def test_two_paths_that_would_be_one_file(self) -> None:
         """Neither takes the place of the other, even if existing files are replaced."""
         self.init()

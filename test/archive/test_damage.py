@@ -4,6 +4,7 @@ from __future__ import annotations
 
 import mmap
 import os
+import shutil
 import sqlite3
 import sys
 from contextlib import closing
@@ -78,6 +79,63 @@ class Damage(WithArchive):
         self.assertEqual((last["deleted"], last["kept"]), (0, 20))
         self.assertEqual(digests(self.source), before)
 
+    def spoil(self, number: int) -> None:
+        """Changes a byte that no file has, so that the program refuses the image."""
+        with open(self.image(number), "r+b") as file:
+            place = os.path.getsize(self.image(number)) - 3 * 2048
+            file.seek(place)
+            byte = file.read(1)[0]
+            file.seek(place)
+            file.write(bytes([byte ^ 1]))
+
+    def test_the_other_volumes_are_used(self) -> None:
+        self.init("--capacity", "3000")
+        for index in range(4):
+            write(os.path.join(self.source, f"f{index}"), os.urandom(1_500_000))
+        self.add()
+        self.spoil(1)
+        before, there = open(self.image(1), "rb").read(), digests(self.source)
+        write(os.path.join(self.source, "more"), b"more")
+        (first, second) = self.volumes()
+        self.assertEqual([first["volume"], second["attention"]], ["T-000001", []])
+        self.assertIn("its image is damaged", first["attention"][0])
+        done = self.add("--delete-source", status=1)
+        self.assertIn(f"{self.image(1)}: is damaged, and nothing is written to it", done.errors)
+        # No source goes for what is on the damaged one.
+        self.assertEqual([done.last()[name] for name in ("files", "same", "deleted", "kept")], [1, 4, 3, 2])
+        done = self.do("close", status=1)
+        self.assertEqual(done.last()["closed"], 1)
+        self.assertIn(f"{self.image(1)}: is damaged", done.errors)
+        self.assertEqual(open(self.image(1), "rb").read(), before)
+        self.assertEqual({path: there[path] for path in digests(self.source)}, digests(self.source))
+        self.assertTrue(os.path.exists(self.path("archive", "closed", "T-000002.img")))
+
+    def test_an_adoption_that_fails_leaves_what_was_there(self) -> None:
+        self.init()
+        write(self.big, self.data[:900_000])
+        self.add()
+        opened, good = self.path("archive", "open"), self.path("good.img")
+        bad = {"is damaged": self.path("spoilt.img"), "is not what its ledger says": self.path("changed.img")}
+        shutil.copy2(self.image(1), good)
+        self.spoil(1)
+        os.rename(self.image(1), bad["is damaged"])
+        shutil.copy2(good, self.image(1))
+        self.change(1, self.data)
+        os.rename(self.image(1), bad["is not what its ledger says"])
+        for is_there in (False, True):
+            if is_there:
+                shutil.copy2(good, self.image(1))
+            before = digests(opened)
+            for why, image in bad.items():
+                self.assertIn(why, self.do("adopt", "T-000001", image, status=1).errors)
+                self.assertEqual(digests(opened), before)
+        os.unlink(self.image(1))
+        self.do("adopt", "T-000001", good)
+        write(os.path.join(self.source, "more"), b"more")
+        self.add()
+        self.assertEqual(self.get_all(), digests(self.source))
+        self.require_agreed()
+
     def test_the_last_commit(self) -> None:
         self.init()
         write(self.big, self.data[:900_000])
@@ -85,7 +143,9 @@ class Damage(WithArchive):
         self.change(1, self.data)
         write(os.path.join(self.source, "more"), b"more")
         self.assertIn("is not what its ledger says", self.add(status=1).errors)
-        self.assertEqual(self.names_of(self.do("check", "--data", "T-000001", status=1).last()["failures"]), ["big"])
+        done = self.do("check", "--data", "T-000001", status=1)
+        self.assertEqual(self.names_of(done.last()["failures"]), ["big"])
+        self.assertIn("1 file is not as it was stored", done.errors)
         os.unlink(self.image(1)[: -len("img")] + "ledger")
         self.do("close", "--without-damaged")
         self.add()

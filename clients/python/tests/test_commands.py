@@ -28,6 +28,9 @@ class Commands(Local):
         self.assertEqual(found, status, output.getvalue())
         return output.getvalue().splitlines()
 
+    def test_one_byte(self) -> None:
+        self.assertEqual(self.words("put", self.write("a", b"1"), "/a"), ["stored /a (1 byte)", "stored 1 file, 1 B"])
+
     def test_a_walk(self) -> None:
         local = self.write("a.txt", b"hello")
         os.utime(local, (1_700_000_000, 1_700_000_000))
@@ -46,7 +49,7 @@ class Commands(Local):
         self.assertEqual(self.words("rm", "/x", status=1), ["udfburn-client: /x: is a directory with names (rm -r removes them too)"])
         self.assertEqual(self.words("rm", "-r", "--dry-run", "/x"), ["would remove /x/y", "would remove /x/a.txt", "would remove /x"])
         self.assertEqual(self.words("rm", "-r", "--quiet", "/x"), [])
-        self.assertEqual(self.words("resume"), ["pending were 0 requests"])
+        self.assertEqual(self.words("resume"), ["0 requests were pending"])
         self.assertEqual(sorted(self.volume.nodes), [()])
 
     def test_progress_on_a_terminal(self) -> None:
@@ -135,7 +138,7 @@ class Commands(Local):
         self.words("put", local, "/a", "--wait", "0.1", status=1)
         self.server.before = lambda payload: None
         self.assertEqual(self.words("resume", "--dry-run"), ["would send number 1 again: /a"])
-        self.assertEqual(self.words("resume"), ["number 1, /a: done, commit 1", "pending were 1 request"])
+        self.assertEqual(self.words("resume"), ["number 1, /a: done, commit 1", "1 request was pending"])
 
     def test_what_is_pending_comes_first(self) -> None:
         """Also where a command looks at the volume before it asks for anything: else it looks at what is no longer so."""
@@ -153,7 +156,7 @@ class Commands(Local):
         self.server.before = lambda payload: None
         goes_on = "udfburn-client: goes on at number 1, with a volume that the ledger knows"
         self.assertEqual(self.words("resume", "--forget"), ["dropped /a", goes_on])
-        self.assertEqual(self.words("resume"), ["pending were 0 requests"])
+        self.assertEqual(self.words("resume"), ["0 requests were pending"])
         self.assertEqual(self.volume.commits, 0)
 
     def test_words_that_are_no_command(self) -> None:

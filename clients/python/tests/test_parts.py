@@ -229,9 +229,10 @@ class Folders(Local):
         steps: List[str] = []
         with self.client() as client:
             options = tree.Options(recursive=True, split=True, dry_run=True)
-            tree.put_all(client, [(self.folder, ("x",))], options, lambda what, path, *_: steps.append(f"{what} {p.show(path)}"))
-        self.assertEqual(steps, ["would make /x", "would make /x/big.parts", "would make /x/big.parts/00", "would make /x/big.parts/01",
-                                 *[f"would store /x/big.parts/{name}" for name in ("00/000", "00/001", "01/000", "01/001")]])
+            tree.put_all(client, [(self.folder, ("x",))], options, lambda what, path, size, _: steps.append(f"{what} {p.show(path)} {size}"))
+        self.assertEqual(steps, ["would make /x 0", "would make /x/big.parts 0", "would make /x/big.parts/00 0", "would make /x/big.parts/01 0",
+                                 *[f"would store /x/big.parts/{name} {MEBIBYTE}" for name in ("00/000", "00/001", "01/000")],
+                                 "would store /x/big.parts/01/001 1"])
 
     def test_names_and_depths(self) -> None:
         self.write("x" * 249, self.data(3))

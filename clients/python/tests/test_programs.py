@@ -4,6 +4,7 @@ from __future__ import annotations
 
 import os
 import random
+import re
 import socket
 import subprocess
 import unittest
@@ -300,6 +301,25 @@ class Limits(WithPrograms):
             client.close()
         self.fail("the volume was never full")
 
+    def test_how_many_blocks_must_be_free(self) -> None:
+        """A volume with as many takes the import, and one with a block less does not."""
+        local = self.write("one", bytes(300_000))
+
+        def put(capacity: int) -> str:
+            image = os.path.join(self.room, f"{capacity}.img")
+            self.format(capacity, image)
+            with self.on_image(os.path.join(self.room, f"{capacity}.sqlite"), image) as client:
+                try:
+                    put_all(client, [(local, ("one",))], Options())
+                except e.DoesNotFit as error:
+                    return str(error)
+            return ""
+
+        found = re.search("takes 152 blocks, and ([0-9]+) must be free while it is written; 250 are free", put(512))
+        assert found
+        self.assertIn(f"{found.group(1)} must be free", put(262 + int(found.group(1)) - 1))
+        self.assertEqual(put(262 + int(found.group(1))), "")
+
     def test_the_blocks_behind_a_socket(self) -> None:
         """Over a socket the image is looked at where it is named, while the daemon has it."""
         self.image = os.path.join(self.room, "small.img")
@@ -309,7 +329,7 @@ class Limits(WithPrograms):
             self.write(f"many/{index}", bytes(9000))
         folder = os.path.join(self.room, "many")
         words = ["--socket", self.path, "--image", self.image]
-        self.assertRegex(self.run_command("put", "-r", folder, "/x", where=words, status=1), "takes .* blocks.* has 338 left")
+        self.assertRegex(self.run_command("put", "-r", folder, "/x", where=words, status=1), "takes .* blocks, .* 338 are free")
         self.assertEqual(self.commits(), 0)
         for index in range(10, 100):
             os.unlink(os.path.join(folder, str(index)))

@@ -72,6 +72,8 @@ class Reckoner:
 
     def __init__(self, space: Space):
         self.space = space
+        self.end = space.next
+        """The address up to which the program asks for room: beyond the last block that is written."""
         self.layouts: Dict[Path, Layout] = {}
 
     def directory(self, path: Path, names: Iterable[str]) -> None:
@@ -105,9 +107,10 @@ class Reckoner:
     def _write(self, most: int, blocks: int) -> bool:
         """Goes on by a commit; whether the program has room for the most that it may need."""
         table = blocks_for(196 + 48 * len(self.space.clients) + 4 * self.space.entries)
-        fits = self.space.next + most + 2 * table + 1 <= self.space.capacity
+        end = self.space.next + most + 2 * table + 1
+        self.end = max(self.end, end)
         self.space.next += blocks + table + 1
-        return fits
+        return end <= self.space.capacity
 
 
 def space_of(image: str, program: str, client: Optional[int]) -> Optional[Space]:

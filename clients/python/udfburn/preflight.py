@@ -163,5 +163,5 @@ def reckon(planned: Plan, present: Present, space: Optional[Space]) -> None:
     planned.blocks = space.next - begin
     if not all(fits):
         planned.faults.append(
-            f"the import takes {planned.blocks} blocks, and a last one may need some more; the image has {planned.left} left"
+            f"the import takes {planned.blocks} blocks, and {reckoner.end - begin} must be free while it is written; {planned.left} are free"
         )

@@ -30,6 +30,11 @@ def plural(count: int, one: str, many: str) -> str:
     return f"{count:,} {one if count == 1 else many}"
 
 
+def of_bytes(count: int) -> str:
+    """The size of a file, behind its path."""
+    return f"({count} {'byte' if count == 1 else 'bytes'})"
+
+
 def clock(seconds: float) -> str:
     """Seconds, as people read them."""
     minutes, rest = divmod(int(seconds), 60)
@@ -103,7 +108,7 @@ class Progress:
         elif self.bar:
             self._draw(count)
         elif not self.quiet:
-            words = [what, show(path)] + ([f"({count} bytes)"] if what in ("stored", "got", "would store", "would replace") else [])
+            words = [what, show(path)] + ([of_bytes(count)] if what in ("stored", "got", "would store", "would replace") else [])
             self._print(printable(" ".join(words)))
 
     def stored(self, outcome: Outcome) -> None:

@@ -7,7 +7,7 @@ from collections import Counter
 from typing import TYPE_CHECKING, Counter as Counts, Optional
 
 from .errors import UsageError
-from .progress import Progress, plural, size
+from .progress import Progress, of_bytes, plural, size
 from .protocol import shown
 from .words import add_output, commit_number
 
@@ -145,7 +145,7 @@ class Report:
 
 def line_of(outcome: "Outcome", path: str, writes: bool) -> str:
     """A line for people: how a file was had, its path, its missing bytes, and where it was written."""
-    words = [outcome.state, path, f"({outcome.size} bytes)"]
+    words = [outcome.state, path, of_bytes(outcome.size)]
     if outcome.ranges:
         words.append("without " + ", ".join(f"{count} bytes from {begin} on" for begin, count in outcome.ranges))
     if outcome.why:

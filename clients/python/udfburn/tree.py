@@ -140,8 +140,10 @@ class Importer:
             self.told("same", job.source.path, job.source.identity.size, 0)
         for source, paths in planned.files:
             kept = planned.kept.get(source.path, ())
-            for path in (path for index, path in enumerate(paths) if index not in kept):
-                self.told("would replace" if path in self.present.kinds else "would store", path, source.identity.size, 0)
+            for index, path in enumerate(paths):
+                if index not in kept:
+                    size = min(source.identity.size - index * limits.FILE, limits.FILE)
+                    self.told("would replace" if path in self.present.kinds else "would store", path, size, 0)
         for source in [job.source for job in self.same] + [source for source, _ in planned.files]:
             for path in planned.stale.get(source.path, []):
                 self.told("would remove", path, 0, 0)

@@ -252,7 +252,7 @@ def resume(arguments: argparse.Namespace) -> int:
         for number, path, code, commit in done:
             how = NOT_STORED if number in lost else "done" if not code else f"refused: {code.name}"
             progress.say(f"number {number}, {path}: {how}, commit {commit}", did="resumed", number=number, path=path, code=int(code), commit=commit)
-        progress.result(f"pending were {plural(len(done), 'request', 'requests')}", count=len(done))
+        progress.result(f"{plural(len(done), 'request was', 'requests were')} pending", count=len(done))
     return 0
 
 

@@ -21,7 +21,7 @@ from .fill import Filler
 from .job import Job, digest_of, find_file, same_parts
 from .names import kept_name, stored_folder
 from .scan import Found, Walk
-from .tell import Tell, shown_path, stamp
+from .tell import Tell, plural, shown_path, stamp
 
 
 class Options(NamedTuple):
@@ -67,6 +67,8 @@ class Adder:
             filler = Filler(
                 self.config, self.catalogue, claims, self.tell, run_text(wanted), self._kept, self._failed, not self.options.each,
             )
+            self.summary.failures += filler.refused.values()
+            self.deleter.refused = filler.refused
             with closing(filler), closing(self.deleter):
                 for local, path in wanted:
                     self._below(local, path, filler)
@@ -106,7 +108,7 @@ class Adder:
             stored_folder(found.folder)
             known = self.catalogue.in_folder(found.folder)
         except CannotStore as error:
-            self.summary.failures.append(f"{error} ({len(found.files)} files are not stored)")
+            self.summary.failures.append(f"{error} ({plural(len(found.files), 'file is', 'files are')} not stored)")
             return []
         for source in found.files:
             try:

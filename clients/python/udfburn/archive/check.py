@@ -17,7 +17,7 @@ from .config import Config
 from .contents import Contents, File
 from .errors import CopyFailed, NotAtHand, VolumeDiffers
 from .remotes import Print, print_of_file, remote_of
-from .tell import Tell, shown_path
+from .tell import Tell, plural, shown_path
 
 
 class Options(NamedTuple):
@@ -108,7 +108,7 @@ class Checker:
             return str(error)
         for path in bad:
             self.failures.append(f"{row.label}: {path} is not as it was stored")
-        return f"{len(bad)} files are not as they were stored, the first is {bad[0]}" if bad else None
+        return f"{plural(len(bad), 'file is not as it was', 'files are not as they were')} stored, the first is {bad[0]}" if bad else None
 
     def _files(self, row: VolumeRow, contents: Contents) -> List[str]:
         bad: List[str] = []

@@ -107,7 +107,7 @@ def add_readers(subs: "Subs") -> None:
     get.add_argument("path", nargs="+", metavar="PATH", help="a file or folder of the archive")
     get.add_argument("dir", metavar="DIR", help="the local folder to copy into")
     get.add_argument("--as-of", metavar="TIME", help="copy what the archive had at that time: a date, or a date and time such as 2026-11-26T12:00:00Z")
-    get.add_argument("--force", action="store_true", help="replace existing local files; without it they count as failures")
+    get.add_argument("--force", action="store_true", help="replace existing local files; without it those with other bytes count as failures")
 
     check = command(subs, "check", "compare closed images with their digests, and with --data each file")
     check.add_argument("volume", nargs="*", metavar="VOLUME", help="labels of volumes (default: all closed ones)")

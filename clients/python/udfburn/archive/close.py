@@ -132,9 +132,9 @@ class Closer:
         agree with those of the catalogue."""
         found = read_payload(contents, self.catalogue.of_volume(volume.row.number), volume.sent())
         if found.damaged:
-            first, count = shown_path(found.damaged[0].path), plural(len(found.damaged), "file is", "files are")
+            first, count = shown_path(found.damaged[0].path), plural(len(found.damaged), "file is not as it was", "files are not as they were")
             raise VolumeDiffers(
-                f"{volume.image}: {count} not as they were stored, the first is {first}: 'close --without-damaged {volume.row.label}' closes it "
+                f"{volume.image}: {count} stored, the first is {first}: 'close --without-damaged {volume.row.label}' closes it "
                 "without them, and then 'add' stores them again"
             )
         digests, size = found.lines, found.size

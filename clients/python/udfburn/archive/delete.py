@@ -3,7 +3,7 @@
 from __future__ import annotations
 
 from hashlib import sha256
-from typing import Dict, List, Optional, Sequence, Tuple
+from typing import Container, Dict, List, Optional, Sequence, Tuple
 
 from ..errors import SourceError
 from ..sources import Source, delete, shown
@@ -23,6 +23,8 @@ class Deleter:
         self.waiting: Dict[str, int] = {}
         """Files that stay, by why."""
         self.failures: List[str] = []
+        self.refused: Container[int] = ()
+        """Volumes that may be damaged: no source goes for what they have."""
         self._contents: Optional[Tuple[int, Contents]] = None
         self._rows: Dict[int, Tuple[VolumeRow, int]] = {}
 
@@ -60,6 +62,8 @@ class Deleter:
         volume, copies = self._volume(held.volume)
         if volume is None:
             return f"since the catalogue lacks volume {held.volume}"
+        if held.volume in self.refused:
+            return f"since {volume.label} may be damaged"
         if self.config.delete == "copied" and (volume.state != CLOSED or copies < self.config.wanted):
             return f"until {volume.label} is closed and on {self.config.wanted} remotes"
         if volume.state == CLOSED and copies and held.parts in (None, part_count(held.size)):

@@ -5,6 +5,10 @@ from __future__ import annotations
 from ..errors import UdfburnError
 
 
+LOST = "docs/ARCHIVE.md says under 'A volume that is lost' how to go on"
+"""What is said of an image that nothing repairs."""
+
+
 class ArchiveError(UdfburnError):
     """Anything that an archive refuses to do."""
 
@@ -50,6 +54,6 @@ class CannotStore(ArchiveError):
 
 
 __all__ = [
-    "ArchiveError", "BadConfig", "CannotStore", "CatalogueError", "CatalogueLost", "Claimed", "CopyFailed", "Lacking", "NoArchive",
-    "NotAtHand", "VolumeDiffers",
+    "ArchiveError", "BadConfig", "CannotStore", "CatalogueError", "CatalogueLost", "Claimed", "CopyFailed", "LOST", "Lacking",
+    "NoArchive", "NotAtHand", "VolumeDiffers",
 ]

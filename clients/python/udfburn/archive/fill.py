@@ -12,7 +12,7 @@ from .claims import Claims
 from .config import Config
 from .errors import VolumeDiffers
 from .job import Job
-from .tell import Tell, shown_path
+from .tell import Tell, plural, shown_path
 from .tree import Tree
 from .volume import OpenVolume, open_new, own_volumes
 
@@ -44,7 +44,9 @@ class Filler:
         self.planned: Dict[int, List[Job]] = {}
         self.weights: Dict[int, int] = {}
         # What an earlier run left comes first, so that the catalogue has all that the volumes have.
-        for volume in own_volumes(config, catalogue, claims, batches):
+        self.refused: Dict[int, str] = {}
+        """The volumes that this run does not use, and why."""
+        for volume in own_volumes(config, catalogue, claims, batches, self.refused):
             self.open.append(volume)
 
     def close(self) -> None:
@@ -191,7 +193,7 @@ class Filler:
             if volume.is_full():
                 self._full(volume)
         elif left:
-            raise VolumeDiffers(f"{volume.row.label}: gave no answer for {len(left)} files: run the command again")
+            raise VolumeDiffers(f"{volume.row.label}: gave no answer for {plural(len(left), 'file', 'files')}: run the command again")
         return left
 
     def _take(self, volume: OpenVolume, outcome: Outcome, done: List[Job]) -> None:

@@ -3,6 +3,7 @@
 from __future__ import annotations
 
 import os
+import stat
 from hashlib import sha256
 from typing import Dict, Iterable, Iterator, List, NamedTuple, Optional, Sequence, Tuple
 
@@ -15,6 +16,7 @@ from .catalogue import Catalogue, Held, VolumeRow, as_of, image_of, versions
 from .config import Config
 from .contents import Contents, File
 from .errors import Lacking, VolumeDiffers
+from .remotes import Print, print_of_file
 from .tell import Tell, shown_path
 
 
@@ -29,7 +31,7 @@ class Summary:
     """What a run did."""
 
     def __init__(self) -> None:
-        self.files = self.bytes = 0
+        self.files = self.bytes = self.same = 0
         self.failures: List[str] = []
         self.lacking: Dict[str, int] = {}
         """Volumes that are not at hand, and how many files are on each."""
@@ -62,13 +64,25 @@ def once(files: Iterable[Wanted]) -> List[Wanted]:
     return list(found.values())
 
 
+def is_there(want: Wanted) -> bool:
+    """Whether the local file has the bytes of a version already, by their count and their SHA-256."""
+    held = want.rows[0]
+    try:
+        status = os.lstat(want.local)
+        if not stat.S_ISREG(status.st_mode) or status.st_size != held.size:
+            return False
+        return print_of_file(want.local) == Print(held.size, held.sha256)
+    except OSError:
+        return False
+
+
 class Getter:
     """A run of `get`."""
 
     def __init__(self, config: Config, catalogue: Catalogue, tell: Tell, force: bool):
         self.config, self.catalogue, self.tell = config, catalogue, tell
         self.summary = Summary()
-        self._saver = Saver(force)
+        self._force, self._saver = force, Saver(force)
         self._rows: Dict[int, VolumeRow] = {row.number: row for row in catalogue.volumes()}
         self._open: Dict[int, Tuple[Contents, Dict[int, File]]] = {}
 
@@ -87,6 +101,12 @@ class Getter:
 
     def _one(self, want: Wanted) -> None:
         held = want.rows[0]
+        if not self._force and is_there(want):
+            self.summary.same += 1
+            # An interrupted run may have given it its name without making that durable.
+            self._saver.folder(os.path.dirname(want.local))
+            self.tell.step("same", held.path, held.size)
+            return
         missing = [row.volume for row in want.rows if not self._at_hand(row.volume)]
         if missing:
             for number in missing:

@@ -42,9 +42,10 @@ def get(arguments: argparse.Namespace) -> int:
         tell.fail(f"{label} is not at hand, and has {plural(count, 'file', 'files')} of these: put its image into the folder 'closed' of the archive")
     lacking = sum(summary.lacking.values())
     words = f"got {plural(summary.files, 'file', 'files')}, {size(summary.bytes)}"
+    words += f"; {plural(summary.same, 'file is', 'files are')} there already" if summary.same else ""
     words += f"; {plural(len(summary.failures), 'failure', 'failures')}" if summary.failures else ""
     words += f"; volumes that are not at hand: {', '.join(sorted(summary.lacking))}" if lacking else ""
-    tell.result(words, files=summary.files, bytes=summary.bytes, lacking=sorted(summary.lacking))
+    tell.result(words, files=summary.files, bytes=summary.bytes, same=summary.same, lacking=sorted(summary.lacking))
     return 1 if summary.failures or lacking else 0
 
 

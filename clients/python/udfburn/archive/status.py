@@ -10,9 +10,10 @@ from ..protocol import limits
 from .batch import sound_length
 from .catalogue import CLOSED, CLOSING, FILE, FULL, NEW, Catalogue, Copy, Held, VolumeRow, folder_back, held_row, image_of, is_whole
 from .config import Config
-from .errors import VolumeDiffers
+from .errors import LOST, VolumeDiffers
 from .tell import shown_path
 from .tree import MANIFEST
+from .volume import is_damaged
 
 STALE = 400 * 86_400 * 1_000_000
 """Microseconds after which a closed volume should be looked at again."""
@@ -83,6 +84,14 @@ def cut_short(config: Config, row: VolumeRow) -> List[str]:
     return [f"a batch is being written to it, or was cut short: run 'add' before you mount it, or mount it with lastblock={length // limits.BLOCK - 1}"]
 
 
+def damaged(config: Config, row: VolumeRow) -> List[str]:
+    """What is to be known of an open image that no command can fill or close."""
+    image = config.path("open", row.label + ".img")
+    if row.holder != config.id or row.state == CLOSED or not os.path.isfile(image) or not is_damaged(image):
+        return []
+    return [f"its image is damaged, and takes no more: 'udfburn check' says where, and {LOST}"]
+
+
 def lines(config: Config, catalogue: Catalogue) -> List[Line]:
     """All volumes, those that need attention first."""
     copies: Dict[int, List[Copy]] = {}
@@ -94,7 +103,7 @@ def lines(config: Config, catalogue: Catalogue) -> List[Line]:
         own, at_hand = row.holder == config.id, image_of(config, row) is not None
         have = copies.get(row.number, [])
         state = state_of(row, at_hand, good(have, config), config, own)
-        needed = attention(row, at_hand, have, config, own, now) + cut_short(config, row)
+        needed = attention(row, at_hand, have, config, own, now) + (cut_short(config, row) or damaged(config, row))
         found.append(Line(row, state, at_hand, fullness(row), have, needed))
     return sorted(found, key=lambda line: (not line.attention, line.row.number))
 

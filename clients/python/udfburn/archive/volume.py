@@ -11,7 +11,7 @@ from ..blocks import Space
 from ..client import Client
 from ..connection import find_program, run_program
 from ..digests import Files
-from ..errors import ConnectionFailed, DiskFull, DriveFailed, Full, NumberUsedElsewhere, OutOfMemory, WrongVolume
+from ..errors import ConnectionFailed, Damaged, DiskFull, DriveFailed, Full, NumberUsedElsewhere, OutOfMemory, ProgramFailed, UsageError, WrongVolume
 from ..ledger import Ledger, MemoryLedger, Volume as Known
 from ..ledger_file import sync_folder
 from ..manifest import PAYLOAD
@@ -24,8 +24,8 @@ from .catalogue import NEW, OPEN, Catalogue, VolumeRow, image_of, is_whole
 from .claims import Claims
 from .config import Config, traces, volume_label
 from .contents import ABOUT, RUNS, TITLE, Contents, File
-from .errors import CatalogueError, VolumeDiffers
-from .tell import stamp
+from .errors import LOST, CatalogueError, VolumeDiffers
+from .tell import plural, stamp
 from .tree import Tree
 
 RUNS_MOST = 480
@@ -121,6 +121,8 @@ class OpenVolume:
                 f"{self.image}: is not what its ledger says: it is another copy, or bytes of its last commit have changed, which "
                 f"'check --data {self.row.label}' finds. Bring the right image back; if this one is meant, remove {self.ledger}"
             ) from error
+        except Damaged as error:
+            raise VolumeDiffers(f"{self.image}: is damaged, and nothing is written to it: 'udfburn check' says where, and {LOST}") from error
         with closing(Contents(self.image)) as contents:
             self.require_own(contents)
             if all((name,) in contents.nodes for name in (ABOUT, PAYLOAD, RUNS)):
@@ -197,7 +199,7 @@ class OpenVolume:
         lost = {held.id() for held in known} - {held.id() for held in rows}
         if lost:
             paths = [held.path for held in known if held.id() in lost]
-            raise VolumeDiffers(f"{self.image}: lacks {len(lost)} files that the catalogue has, the first is {paths[0]}: bring the right image back, or 'rebuild'")
+            raise VolumeDiffers(f"{self.image}: lacks {plural(len(lost), 'file', 'files')} that the catalogue has, the first is {paths[0]}: bring the right image back, or 'rebuild'")
         state = OPEN if self.row.state == NEW else self.row.state
         self.row = self.filled(contents.last_commit, len(rows))._replace(state=state)
         self.catalogue.replace(self.row, rows)
@@ -304,6 +306,21 @@ class OpenVolume:
         self.client.close()
 
 
+def is_damaged(image: str) -> bool:
+    """Whether the program would write nothing to an image. It looks at a few blocks, and not at those that a batch is adding."""
+    if sound_length(image) is not None:
+        return False
+    try:
+        run_program(find_program(), ["log", image])
+    except ProgramFailed as error:
+        # With cause 78 only an earlier state is damaged.
+        return any(code in str(error) for code in ("66 NotFormatted", "67 Damaged")) and "cause 78" not in str(error)
+    except UsageError:
+        # The program is not at hand. Whatever writes to the image needs it, and says so.
+        return False
+    return False
+
+
 def new_row(config: Config, catalogue: Catalogue) -> VolumeRow:
     """A volume with the next number, that no other process gets."""
     with catalogue.base.transaction():
@@ -318,8 +335,9 @@ def new_row(config: Config, catalogue: Catalogue) -> VolumeRow:
     return row
 
 
-def own_volumes(config: Config, catalogue: Catalogue, claims: Claims, batches: bool = True) -> Iterator[OpenVolume]:
-    """The open volumes of this archive's folder that no other process has, each claimed and taken up."""
+def own_volumes(config: Config, catalogue: Catalogue, claims: Claims, batches: bool, refused: Dict[int, str]) -> Iterator[OpenVolume]:
+    """The open volumes of this archive's folder that no other process has, each claimed and taken up. `refused` gets the numbers of
+    those that cannot be, with why: nothing is written to them, and the others are as good without them."""
     for row in catalogue.volumes():
         if row.holder == config.id and row.state in (NEW, OPEN) and claims.try_volume(row.number):
             # What another process did until it let go. A volume that was moved away is not written.
@@ -327,7 +345,12 @@ def own_volumes(config: Config, catalogue: Catalogue, claims: Claims, batches: b
             if fresh is not None and fresh.state in (NEW, OPEN) and is_closed(config, fresh):
                 raise CatalogueError(f"{fresh.label} is closed, which the catalogue does not know: it is older than the volumes: {REBUILD}")
             if fresh is not None and (fresh.state == NEW or fresh.state == OPEN and image_of(config, fresh)):
-                yield taken_up(OpenVolume(config, catalogue, fresh, batches))
+                try:
+                    volume = taken_up(OpenVolume(config, catalogue, fresh, batches))
+                except VolumeDiffers as error:
+                    refused[fresh.number] = str(error)
+                else:
+                    yield volume
 
 
 def is_closed(config: Config, row: VolumeRow) -> bool:
@@ -354,4 +377,4 @@ def taken_up(volume: OpenVolume) -> OpenVolume:
     return volume
 
 
-__all__ = ["OpenVolume", "new_row", "open_new", "own_volumes"]
+__all__ = ["OpenVolume", "is_damaged", "new_row", "open_new", "own_volumes"]
