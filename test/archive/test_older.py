@@ -252,10 +252,14 @@ class Readers(WithArchive):
         self.images = [os.path.join(self.path(f"other {number}"), "open", "T-000001.img") for number in range(3)]
         self.init("--delete", "acknowledged")
 
-    def rebuild(self, number: int, to_all: bool) -> Tuple[int, str]:
-        """Sends a signal to a reader once there is one, or to all processes; gives the status, and what was said."""
+    def rebuild(self, number: int, to_all: bool, interrupts: "signal.Handlers" = signal.SIG_DFL) -> Tuple[int, str]:
+        """Sends a signal to a reader once there is one, or to all processes; gives the status, and what was said. `interrupts` is what
+        becomes of SIGINT when the command begins."""
         words = words_of("rebuild", "--dry-run", *self.images, "--archive", self.archive)
-        with subprocess.Popen(words, env=environment(), stdout=subprocess.DEVNULL, stderr=subprocess.PIPE, text=True, start_new_session=True) as process:
+        with subprocess.Popen(
+            words, env=environment(), stdout=subprocess.DEVNULL, stderr=subprocess.PIPE, text=True, start_new_session=True,
+            preexec_fn=lambda: signal.signal(signal.SIGINT, interrupts),
+        ) as process:
             wait_until(lambda: process.poll() is not None or readers(process.pid))
             time.sleep(random.random() / 5)
             if to_all:
@@ -269,6 +273,11 @@ class Readers(WithArchive):
         for _ in range(4):
             status, errors = self.rebuild(signal.SIGINT, True)
             self.assertEqual((status, errors), (130, "udfburn-archive: interrupted: run the same command again to continue\n"))
+
+    def test_an_interrupt_that_is_ignored(self) -> None:
+        """All volumes are read: each other archive's is named."""
+        _, errors = self.rebuild(signal.SIGINT, True, signal.SIG_IGN)
+        self.assertEqual((errors.count("belongs to another archive"), errors.count("\n")), (2, 2), errors)
 
     def test_one_that_is_killed(self) -> None:
         status, errors = self.rebuild(signal.SIGKILL, False)

@@ -171,8 +171,10 @@ def uninterrupted() -> Iterator[None]:
 
 
 def begin_reading() -> None:
-    """Has an interrupt end this process without a word: the one that began it says that it was interrupted."""
-    signal.signal(signal.SIGINT, signal.SIG_DFL)
+    """Has an interrupt end this process without a word: the one that began it says that it was interrupted. One that is ignored there, as
+    in a shell's background, is ignored here."""
+    if signal.getsignal(signal.SIGINT) != signal.SIG_IGN:
+        signal.signal(signal.SIGINT, signal.SIG_DFL)
     signal.pthread_sigmask(signal.SIG_UNBLOCK, {signal.SIGINT})
 
 
