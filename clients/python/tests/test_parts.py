@@ -211,6 +211,19 @@ class Folders(Local):
             self.assertEqual(fetch.get_tree(client, ("x",), back, True), 5)
         self.assertEqual(os.listdir(back), ["big.parts"])
 
+    def test_what_is_read_along_with_the_parts_is_compared(self) -> None:
+        """A file whose parts are there is not the same where more parts, or a whole file, are read in its place."""
+        for path in ("/x/big.002", "/x/big"):
+            self.server.volume = Volume()
+            self.ledger = os.path.join(self.room, f"along{len(path)}.sqlite")
+            self.write("big", self.data(2)[: 2 * MEBIBYTE])
+            self.put(split=True)
+            self.assertEqual(fetch.verify_tree(self.client(), self.folder, ("x",), True).differences, [])
+            with self.client() as client:
+                client.put(path, b"more")
+            wanted = [("/x/big", f"is there, but with --split {path} is read as a part of it")]
+            self.assertEqual(fetch.verify_tree(self.client(), self.folder, ("x",), True).differences, wanted)
+
     def test_removed_by_its_own_name(self) -> None:
         """Wherever its parts are; and nothing else goes."""
         self.write("other", b"other")
