@@ -201,6 +201,27 @@ class Folders(Local):
         self.write("big.parts", b"a file")
         self.assertIn("/x/big.parts: more than one", self.refused(split=True))
 
+    def test_a_file_of_its_own_after_a_full_part(self) -> None:
+        """It would be read as a part of the other file, so nothing is stored, whichever is there first."""
+        self.write("big", self.data(2)[: 2 * MEBIBYTE])
+        own = self.write("big.002", b"own")
+        self.assertIn("/x/big.002: would be read as a part of", self.refused(split=True))
+        os.unlink(own)
+        with self.client() as client:
+            client.makedirs("/x")
+            client.put("/x/big.002", b"own")
+        self.assertIn("/x/big.002: would be read as a part of", self.refused(split=True))
+        with self.client() as client:
+            client.remove("/x/big.002")
+        self.put(split=True)
+        self.write("big.002", b"own")
+        self.assertIn("/x/big.002: would be read as a part of", self.refused(split=True))
+        self.assertEqual(self.files(), ["big.000", "big.001"])
+        # After a part that is not full it is a file of its own.
+        self.write("big", self.data(1))
+        self.put(split=True)
+        self.assertEqual(self.files(), ["big.000", "big.001", "big.002"])
+
     def test_a_folder_that_does_not_make_a_whole_file_is_a_folder(self) -> None:
         """Nothing is hidden that is no part."""
         self.write("big", self.data(3))
