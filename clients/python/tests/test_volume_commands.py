@@ -5,6 +5,7 @@ from __future__ import annotations
 import json
 import os
 import subprocess
+import threading
 import time
 import unittest
 from typing import Any, Dict
@@ -112,6 +113,16 @@ class Status(Volumes):
         self.command("status", self.write("text", b"text"), status=1)
         self.command("status", status=2)
         self.command("status", self.image, "--image", self.image, status=2)
+
+    def test_a_named_pipe(self) -> None:
+        """It is refused, and nobody is waited for who would write to it."""
+        pipe = os.path.join(self.room, "pipe")
+        os.mkfifo(pipe)
+        writer = threading.Timer(20.0, lambda: os.close(os.open(pipe, os.O_WRONLY | os.O_NONBLOCK)))
+        writer.start()
+        self.addCleanup(writer.cancel)
+        for words in (["status", pipe], ["log", pipe], ["check", pipe], ["check", "--data", pipe], ["salvage", "--list", pipe]):
+            self.assertIn("Is a named pipe, and not an image", self.command(*words, status=1))
 
     def test_the_uuid_is_that_of_blkid(self) -> None:
         done = subprocess.run(["blkid", "-p", "-o", "value", "-s", "UUID", self.image], capture_output=True, text=True, check=False)
