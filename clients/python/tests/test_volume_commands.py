@@ -213,11 +213,14 @@ class Output(Volumes):
         client = self.on_image()
         client.put("/a", b"hello")
         client.close()
-        for words in (["ls"], ["ls", "--json"], ["get", "/a", "-"], ["ls", "--help"]):
-            with open("/dev/full", "w") as full:
-                done = subprocess.run(self.words(*words, where=["--image", self.image]), env=self.environment(), stdout=full, stderr=subprocess.PIPE, text=True, check=False)
-            self.assertEqual(done.returncode, 1, done.stderr)
-            self.assertEqual(done.stderr, "udfburn-client: the standard output takes no more: No space left on device\n")
+        # Python keeps what is printed back, or writes it at once.
+        for unbuffered in ("", "1"):
+            environment = {**self.environment(), "PYTHONUNBUFFERED": unbuffered}
+            for words in (["ls"], ["ls", "--json"], ["get", "/a", "-"], ["ls", "--help"]):
+                with open("/dev/full", "w") as full:
+                    done = subprocess.run(self.words(*words, where=["--image", self.image]), env=environment, stdout=full, stderr=subprocess.PIPE, text=True, check=False)
+                self.assertEqual(done.returncode, 1, done.stderr)
+                self.assertEqual(done.stderr, "udfburn-client: the standard output takes no more: No space left on device\n")
 
     def test_names_that_are_not_read_as_utf8(self) -> None:
         """They would be stored as other names, so nothing is done."""

@@ -5,6 +5,8 @@ from __future__ import annotations
 import argparse
 import os
 import sys
+from contextlib import redirect_stdout
+from io import StringIO
 from typing import List, Optional
 
 
@@ -33,13 +35,17 @@ def take_any_name() -> None:
 
 def parsed(parser: argparse.ArgumentParser, words: Optional[List[str]], closed: bool) -> argparse.Namespace:
     """The words of a command. What is printed in place of one, as its help, goes nowhere where the output is closed."""
+    text = StringIO()
     try:
         try:
-            found = parser.parse_args(words)
+            # By itself argparse says nothing of an output that takes no more.
+            with redirect_stdout(text):
+                found = parser.parse_args(words)
             if sys.getfilesystemencoding() != "utf-8":
                 parser.error(f"names of files are read as {sys.getfilesystemencoding()} here, and would be stored as other names: set PYTHONUTF8=1")
             return found
         finally:
+            sys.stdout.write(text.getvalue())
             sys.stdout.flush()
     except SystemExit as end:
         if closed and not end.code:
