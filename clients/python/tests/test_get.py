@@ -254,6 +254,21 @@ class Goes(Local):
         self.assertEqual(order, ["synced", "named", "named", "named"])
 
 
+    def test_the_names_of_what_is_there_already_are_on_the_disk(self) -> None:
+        """A killed copy gave them, and may not have come so far."""
+        self.fetched()
+        alone = os.path.join(self.back, "a")
+        for call, wanted in ((self.fetched, {self.room, self.back, os.path.join(self.back, "d")}), (lambda: self.fetched_alone(alone), {self.back})):
+            synced: List[str] = []
+            with mock.patch.object(saving, "sync_names", synced.append):
+                self.assertEqual(call().files, 0)
+            self.assertEqual(set(synced), wanted)
+
+    def fetched_alone(self, local: str) -> fetch.Fetched:
+        with self.client() as client:
+            return fetch.Fetcher(client).file(("x", "a"), local)
+
+
 class SyncCall(unittest.TestCase):
     def test_of_this_system(self) -> None:
         """Linux reports failed writes by syncfs from 5.8 on."""
