@@ -9,6 +9,7 @@ from concurrent.futures import ThreadPoolExecutor
 from typing import Dict, List, NamedTuple, Optional, Set, Tuple
 
 from .reader.volume import Path
+from .saving import write_all
 
 NAME_BYTES = 255
 """The bytes of a name that file systems take."""
@@ -108,12 +109,15 @@ class Output:
                 descriptor = os.open(temporary, os.O_RDWR | os.O_CREAT | os.O_EXCL | os.O_CLOEXEC, 0o666, dir_fd=folder.descriptor)
         except InTheWay as error:
             return [Written(key, os.fsdecode(b"/".join(place)), f"was not written: {error}")]
-        self._waiting.append(Waiting(key, place[:-1], temporary, place[-1], descriptor))
-        view = memoryview(data)
-        while view:
-            view = view[os.write(descriptor, view) :]
-        if moment is not None:
-            os.utime(descriptor, ns=(moment * 1000, moment * 1000))
+        waiting = Waiting(key, place[:-1], temporary, place[-1], descriptor)
+        try:
+            write_all(descriptor, data)
+            if moment is not None:
+                os.utime(descriptor, ns=(moment * 1000, moment * 1000))
+        except BaseException:
+            self._drop(waiting)
+            raise
+        self._waiting.append(waiting)
         self._bytes += len(data)
         return self.flush() if len(self._waiting) >= BATCH_FILES or self._bytes >= BATCH_BYTES else []
 
@@ -151,12 +155,16 @@ class Output:
         os.fsync(self._root)
         return done
 
+    def _drop(self, waiting: Waiting) -> None:
+        """Removes a file that gets no name."""
+        os.close(waiting.descriptor)
+        with self._open(waiting.folder) as folder:
+            folder.remove(waiting.temporary)
+
     def close(self) -> None:
         """Leaves no temporary file."""
         for waiting in self._waiting:
-            os.close(waiting.descriptor)
-            with self._open(waiting.folder) as folder:
-                folder.remove(waiting.temporary)
+            self._drop(waiting)
         self._waiting = []
         self._pool.shutdown()
         os.close(self._root)
