@@ -7,7 +7,7 @@ import shutil
 import subprocess
 import sys
 import unittest
-from typing import Dict, List
+from typing import Callable, Dict, List, Set
 from unittest import mock
 
 from udfburn import disk, errors as e, fetch, saving
@@ -257,12 +257,15 @@ class Goes(Local):
     def test_the_names_of_what_is_there_already_are_on_the_disk(self) -> None:
         """A killed copy gave them, and may not have come so far."""
         self.fetched()
-        alone = os.path.join(self.back, "a")
-        for call, wanted in ((self.fetched, {self.room, self.back, os.path.join(self.back, "d")}), (lambda: self.fetched_alone(alone), {self.back})):
-            synced: List[str] = []
-            with mock.patch.object(saving, "sync_names", synced.append):
-                self.assertEqual(call().files, 0)
-            self.assertEqual(set(synced), wanted)
+        self.assertEqual(self.synced(lambda: self.fetched()), {self.room, self.back, os.path.join(self.back, "d")})
+        self.assertEqual(self.synced(lambda: self.fetched_alone(os.path.join(self.back, "a"))), {self.back})
+
+    def synced(self, fetched: Callable[[], fetch.Fetched]) -> Set[str]:
+        """The folders whose names are made durable where no file is copied."""
+        folders: List[str] = []
+        with mock.patch.object(saving, "sync_names", folders.append):
+            self.assertEqual(fetched().files, 0)
+        return set(folders)
 
     def fetched_alone(self, local: str) -> fetch.Fetched:
         with self.client() as client:
