@@ -222,6 +222,20 @@ class Output(Volumes):
                 self.assertEqual(done.returncode, 1, done.stderr)
                 self.assertEqual(done.stderr, "udfburn-client: the standard output takes no more: No space left on device\n")
 
+    def test_a_standard_output_that_takes_a_part(self) -> None:
+        """A file that does not go out whole is a failure, also where Python keeps nothing back."""
+        client = self.on_image()
+        client.put("/a", bytes(3000))
+        client.close()
+        out = os.path.join(self.room, "out")
+        for unbuffered in ("", "1"):
+            limited = ["sh", "-c", 'ulimit -f 1 && trap "" XFSZ && exec "$@"', "sh", *self.words("get", "/a", "-", where=["--image", self.image])]
+            with open(out, "wb") as file:
+                file.write(bytes(400))
+                file.flush()
+                done = subprocess.run(limited, env={**self.environment(), "PYTHONUNBUFFERED": unbuffered}, stdout=file, stderr=subprocess.PIPE, text=True, check=False)
+            self.assertEqual((done.returncode, done.stderr), (1, "udfburn-client: the standard output takes no more: File too large\n"))
+
     def test_names_that_are_not_read_as_utf8(self) -> None:
         """They would be stored as other names, so nothing is done."""
         local = self.write("\u00e9", b"hello")
