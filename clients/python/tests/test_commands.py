@@ -138,7 +138,7 @@ class Commands(Local):
         self.words("put", self.write("a"), "/d/a")
         for words in (
             ("mkdir", "/d"), ("mkdir", "/d/a"), ("mkdir", "/n/x"), ("mkdir", "-p", "/d/a/x"), ("mv", "/d/a", "/d/e"), ("mv", "/d/a", "/n/a"),
-            ("mv", "/d", "/d/e/d"), ("mv", "/d", "/d"), ("mv", "/n", "/m"), ("rm", "/d"), ("rm", "/d/a", "/d"), ("rm", "/"), ("rm", "/n"),
+            ("mv", "/d", "/d/e/d"), ("mv", "/d/a", "/d/a/x"), ("mv", "/d", "/d"), ("mv", "/n", "/m"), ("rm", "/d"), ("rm", "/d/a", "/d"), ("rm", "/"), ("rm", "/n"),
         ):
             dry = self.words(words[0], "--dry-run", *words[1:], status=1)
             if words != ("rm", "/d/a", "/d"):

@@ -245,6 +245,20 @@ class Folders(Local):
             wanted = [("/x/big", f"is there, but with --split {path} is read as a part of it")]
             self.assertEqual(fetch.verify_tree(self.client(), self.folder, ("x",), True).differences, wanted)
 
+    def test_parts_that_are_not_read_as_one_file(self) -> None:
+        """Where a directory has the file's name, or the folder of its parts has others: that is named, and the rest is compared."""
+        for count, path in ((2, "/x/big"), (3, "/x/big.parts/note")):
+            self.server.volume = Volume()
+            self.ledger = os.path.join(self.room, f"apart{count}.sqlite")
+            self.write("big", self.data(count)[: count * MEBIBYTE])
+            self.write("other", b"other")
+            self.put(split=True)
+            with self.client() as client:
+                client.mkdir(path)
+            result = fetch.verify_tree(self.client(), self.folder, ("x",), True)
+            self.assertEqual(result.differences, [("/x/big", "is there in parts, but with --split they are not read as one file")])
+            self.assertEqual(result.files, 2)
+
     def test_removed_by_its_own_name(self) -> None:
         """Wherever its parts are; and nothing else goes."""
         self.write("other", b"other")

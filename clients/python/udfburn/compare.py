@@ -5,7 +5,7 @@ from __future__ import annotations
 from contextlib import closing
 from typing import TYPE_CHECKING, Dict, List, Optional, Tuple
 
-from .errors import SourceError
+from .errors import IsDirectory, NotFound, SourceError
 from .jobs import same_bytes
 from .protocol import Get, NodeKind, Path, show
 from .sources import Scan, Source, scan
@@ -85,7 +85,11 @@ def compare_parts(client: Client, source: Source, result: Comparison) -> None:
     paths = stored_paths(source.path, source.identity.size, True)
     if len(paths) == 1:
         return
-    others = [part for part in find_file(client, source.path, True).parts if part not in paths]
+    try:
+        others = [part for part in find_file(client, source.path, True).parts if part not in paths]
+    except (IsDirectory, NotFound):
+        result.differences.append((show(source.path), "is there in parts, but with --split they are not read as one file"))
+        return
     if others:
         result.differences.append((show(source.path), f"is there, but with --split {show(others[0])} is read as a part of it"))
 
