@@ -132,6 +132,22 @@ class Commands(Local):
         self.assertEqual(told[:2], ["made /x", f"udfburn-client: {self.folder}/a\\nb: Permission denied"])
         self.assertRegex(told[2], "no room for /x/c")
 
+    def test_a_dry_run_is_refused_as_the_command_is(self) -> None:
+        """With the same line; else it prints what the command would do."""
+        self.words("mkdir", "/d", "/d/e")
+        self.words("put", self.write("a"), "/d/a")
+        for words in (
+            ("mkdir", "/d"), ("mkdir", "/d/a"), ("mkdir", "/n/x"), ("mkdir", "-p", "/d/a/x"), ("mv", "/d/a", "/d/e"), ("mv", "/d/a", "/n/a"),
+            ("mv", "/d", "/d/e/d"), ("mv", "/d/a", "/d/a/x"), ("mv", "/d", "/d"), ("mv", "/n", "/m"), ("rm", "/d"), ("rm", "/d/a", "/d"), ("rm", "/"), ("rm", "/n"),
+        ):
+            dry = self.words(words[0], "--dry-run", *words[1:], status=1)
+            if words != ("rm", "/d/a", "/d"):
+                self.assertEqual(dry, self.words(*words, status=1))
+        self.assertEqual(self.words("mkdir", "-p", "--dry-run", "/d/x/y", "/d/x/z", "/d"), ["would make /d/x", "would make /d/x/y", "would make /d/x/z"])
+        self.assertEqual(self.words("mkdir", "--dry-run", "/n", "/n/x"), ["would make /n", "would make /n/x"])
+        self.assertEqual(self.words("rm", "--dry-run", "/d/a", "/d/e", "/d"), ["would remove /d/a", "would remove /d/e", "would remove /d"])
+        self.assertEqual(self.words("ls", "/d"), ["d e", "f a"])
+
     def test_resume(self) -> None:
         self.server.before = lambda payload: p.FAULT if request_of(payload) else None
         local = self.write("a")

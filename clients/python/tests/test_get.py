@@ -7,7 +7,7 @@ import shutil
 import subprocess
 import sys
 import unittest
-from typing import Dict, List
+from typing import Callable, Dict, List, Set
 from unittest import mock
 
 from udfburn import disk, errors as e, fetch, saving
@@ -252,6 +252,24 @@ class Goes(Local):
         with mock.patch.object(saving, "sync_all", synced), mock.patch.object(saving, "link_open", link):
             self.fetched()
         self.assertEqual(order, ["synced", "named", "named", "named"])
+
+
+    def test_the_names_of_what_is_there_already_are_on_the_disk(self) -> None:
+        """A killed copy gave them, and may not have come so far."""
+        self.fetched()
+        self.assertEqual(self.synced(lambda: self.fetched()), {self.room, self.back, os.path.join(self.back, "d")})
+        self.assertEqual(self.synced(lambda: self.fetched_alone(os.path.join(self.back, "a"))), {self.back})
+
+    def synced(self, fetched: Callable[[], fetch.Fetched]) -> Set[str]:
+        """The folders whose names are made durable where no file is copied."""
+        folders: List[str] = []
+        with mock.patch.object(saving, "sync_names", folders.append):
+            self.assertEqual(fetched().files, 0)
+        return set(folders)
+
+    def fetched_alone(self, local: str) -> fetch.Fetched:
+        with self.client() as client:
+            return fetch.Fetcher(client).file(("x", "a"), local)
 
 
 class SyncCall(unittest.TestCase):

@@ -201,6 +201,27 @@ class Folders(Local):
         self.write("big.parts", b"a file")
         self.assertIn("/x/big.parts: more than one", self.refused(split=True))
 
+    def test_a_file_of_its_own_after_a_full_part(self) -> None:
+        """It would be read as a part of the other file, so nothing is stored, whichever is there first."""
+        self.write("big", self.data(2)[: 2 * MEBIBYTE])
+        own = self.write("big.002", b"own")
+        self.assertIn("/x/big.002: would be read as a part of", self.refused(split=True))
+        os.unlink(own)
+        with self.client() as client:
+            client.makedirs("/x")
+            client.put("/x/big.002", b"own")
+        self.assertIn("/x/big.002: would be read as a part of", self.refused(split=True))
+        with self.client() as client:
+            client.remove("/x/big.002")
+        self.put(split=True)
+        self.write("big.002", b"own")
+        self.assertIn("/x/big.002: would be read as a part of", self.refused(split=True))
+        self.assertEqual(self.files(), ["big.000", "big.001"])
+        # After a part that is not full it is a file of its own.
+        self.write("big", self.data(1))
+        self.put(split=True)
+        self.assertEqual(self.files(), ["big.000", "big.001", "big.002"])
+
     def test_a_folder_that_does_not_make_a_whole_file_is_a_folder(self) -> None:
         """Nothing is hidden that is no part."""
         self.write("big", self.data(3))
@@ -210,6 +231,33 @@ class Folders(Local):
             back = os.path.join(self.room, "back")
             self.assertEqual(fetch.get_tree(client, ("x",), back, True), 5)
         self.assertEqual(os.listdir(back), ["big.parts"])
+
+    def test_what_is_read_along_with_the_parts_is_compared(self) -> None:
+        """A file whose parts are there is not the same where more parts, or a whole file, are read in its place."""
+        for path in ("/x/big.002", "/x/big"):
+            self.server.volume = Volume()
+            self.ledger = os.path.join(self.room, f"along{len(path)}.sqlite")
+            self.write("big", self.data(2)[: 2 * MEBIBYTE])
+            self.put(split=True)
+            self.assertEqual(fetch.verify_tree(self.client(), self.folder, ("x",), True).differences, [])
+            with self.client() as client:
+                client.put(path, b"more")
+            wanted = [("/x/big", f"is there, but with --split {path} is read as a part of it")]
+            self.assertEqual(fetch.verify_tree(self.client(), self.folder, ("x",), True).differences, wanted)
+
+    def test_parts_that_are_not_read_as_one_file(self) -> None:
+        """Where a directory has the file's name, or the folder of its parts has others: that is named, and the rest is compared."""
+        for count, path in ((2, "/x/big"), (3, "/x/big.parts/note")):
+            self.server.volume = Volume()
+            self.ledger = os.path.join(self.room, f"apart{count}.sqlite")
+            self.write("big", self.data(count)[: count * MEBIBYTE])
+            self.write("other", b"other")
+            self.put(split=True)
+            with self.client() as client:
+                client.mkdir(path)
+            result = fetch.verify_tree(self.client(), self.folder, ("x",), True)
+            self.assertEqual(result.differences, [("/x/big", "is there in parts, but with --split they are not read as one file")])
+            self.assertEqual(result.files, 2)
 
     def test_removed_by_its_own_name(self) -> None:
         """Wherever its parts are; and nothing else goes."""

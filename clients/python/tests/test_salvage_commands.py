@@ -2,17 +2,23 @@
 
 from __future__ import annotations
 
+import errno
 import hashlib
 import json
 import os
 import subprocess
 import sys
 import tempfile
+from contextlib import redirect_stderr, redirect_stdout
+from io import StringIO
 from pathlib import Path
 from typing import Callable, List, Tuple
+from unittest import mock
 
+from udfburn import cli
 from udfburn.protocol import Create, MakeDir
 from udfburn.salvage import DAMAGED, UNPROVED, WHOLE
+from udfburn.saving import write_all
 
 from .programs import PACKAGE, UDFBURN
 from .test_salvage import BLOCK, Damaged
@@ -101,6 +107,35 @@ class Commands(Damaged):
     def command(self, *words: str) -> "subprocess.CompletedProcess[str]":
         environment = {**os.environ, "PYTHONPATH": PACKAGE, "UDFBURN": ""}
         return subprocess.run([sys.executable, "-m", "udfburn", *words], capture_output=True, text=True, env=environment, check=False)
+
+    def test_a_full_disk(self) -> None:
+        """What was written whole stays, and it is said which disk is full; the same command goes on."""
+        self.fill()
+        out = os.path.join(self.room, "out")
+        room = [2]
+
+        def fills(descriptor: int, data: bytes) -> int:
+            room[0] -= 1
+            if room[0] < 0:
+                raise OSError(errno.ENOSPC, "No space left on device")
+            return write_all(descriptor, data)
+
+        errors = StringIO()
+        with mock.patch("udfburn.salvage_write.write_all", fills), redirect_stdout(StringIO()), redirect_stderr(errors):
+            self.assertEqual(cli.main(["salvage", self.image, out]), 1)
+        self.assertIn(f"{out}: its disk is full (No space left on device): the files copied so far are complete", errors.getvalue())
+        self.assertEqual(self.written(out), 2)
+        with redirect_stdout(StringIO()), redirect_stderr(StringIO()):
+            self.assertEqual(cli.main(["salvage", "--accept-unproved", self.image, out]), 0)
+        self.assertEqual(self.written(out), 5)
+
+    def written(self, out: str) -> int:
+        """How many files of the volume are there. There are no others."""
+        found = [os.path.join(at, name) for at, _, names in os.walk(out) for name in names]
+        for local in found:
+            with open(local, "rb") as file:
+                self.assertEqual(file.read(), self.model.files()[tuple(os.path.relpath(local, out).split(os.sep))])
+        return len(found)
 
     def test_command(self) -> None:
         self.fill()

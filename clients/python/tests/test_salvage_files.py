@@ -2,15 +2,16 @@
 
 from __future__ import annotations
 
+import errno
 import os
 import tempfile
 import unittest
-from typing import Dict
+from typing import Any, Dict
 from unittest import mock
 
 from udfburn.protocol import Path
 from udfburn.salvage_digests import Digests, Manifest, add_manifests, folder_of, lines_of
-from udfburn.salvage_write import Output, fitting
+from udfburn.salvage_write import InTheWay, Output, fitting
 
 
 class Writing(unittest.TestCase):
@@ -45,6 +46,29 @@ class Writing(unittest.TestCase):
         output.write(0, ("d", "a"), b"x", 0, "1")
         output.close()
         self.assertEqual(os.listdir(os.path.join(self.room, "d")), [])
+
+    def test_a_name_that_the_file_system_refuses(self) -> None:
+        """That file or folder is not written, and the rest is: a disc has names that other file systems do not take."""
+        mkdir, link, rename = os.mkdir, os.link, os.rename
+
+        def refusing(call: Any) -> Any:
+            def called(first: bytes, *rest: Any, **more: Any) -> None:
+                if call is link:
+                    raise OSError(errno.EPERM, "Operation not permitted")
+                if b":" in b"".join(name for name in (first, *rest) if isinstance(name, bytes)):
+                    raise OSError(errno.EINVAL, "Invalid argument")
+                call(first, *rest, **more)
+            return called
+
+        output = Output(self.room)
+        self.addCleanup(output.close)
+        with mock.patch("os.mkdir", refusing(mkdir)), mock.patch("os.link", refusing(link)), mock.patch("os.rename", refusing(rename)):
+            self.assertRaisesRegex(InTheWay, "was not written: Invalid argument", output.folder, ("d:",), 0, "1")
+            done = [*output.write(0, ("a:",), b"x", 0, "2"), *output.write(1, ("d:", "b"), b"x", 0, "3"), *output.write(2, ("c",), b"x", 0, "4")]
+            done += output.finish()
+        why = "was not written: Invalid argument"
+        self.assertEqual(sorted((found.path, found.error) for found in done), [("a:", why), ("c", None), ("d:/b", why)])
+        self.assertEqual(os.listdir(self.room), ["c"])
 
     def test_synced_before_it_is_named(self) -> None:
         output = Output(self.room)

@@ -5,6 +5,7 @@ from __future__ import annotations
 import json
 import os
 import subprocess
+import threading
 import time
 import unittest
 from typing import Any, Dict
@@ -113,6 +114,16 @@ class Status(Volumes):
         self.command("status", status=2)
         self.command("status", self.image, "--image", self.image, status=2)
 
+    def test_a_named_pipe(self) -> None:
+        """It is refused, and nobody is waited for who would write to it."""
+        pipe = os.path.join(self.room, "pipe")
+        os.mkfifo(pipe)
+        writer = threading.Timer(20.0, lambda: os.close(os.open(pipe, os.O_WRONLY | os.O_NONBLOCK)))
+        writer.start()
+        self.addCleanup(writer.cancel)
+        for words in (["status", pipe], ["log", pipe], ["check", pipe], ["check", "--data", pipe], ["salvage", "--list", pipe]):
+            self.assertIn("Is a named pipe, and not an image", self.command(*words, status=1))
+
     def test_the_uuid_is_that_of_blkid(self) -> None:
         done = subprocess.run(["blkid", "-p", "-o", "value", "-s", "UUID", self.image], capture_output=True, text=True, check=False)
         if done.returncode == 0:
@@ -202,11 +213,28 @@ class Output(Volumes):
         client = self.on_image()
         client.put("/a", b"hello")
         client.close()
-        for words in (["ls"], ["ls", "--json"], ["get", "/a", "-"], ["ls", "--help"]):
-            with open("/dev/full", "w") as full:
-                done = subprocess.run(self.words(*words, where=["--image", self.image]), env=self.environment(), stdout=full, stderr=subprocess.PIPE, text=True, check=False)
-            self.assertEqual(done.returncode, 1, done.stderr)
-            self.assertEqual(done.stderr, "udfburn-client: the standard output takes no more: No space left on device\n")
+        # Python keeps what is printed back, or writes it at once.
+        for unbuffered in ("", "1"):
+            environment = {**self.environment(), "PYTHONUNBUFFERED": unbuffered}
+            for words in (["ls"], ["ls", "--json"], ["get", "/a", "-"], ["ls", "--help"]):
+                with open("/dev/full", "w") as full:
+                    done = subprocess.run(self.words(*words, where=["--image", self.image]), env=environment, stdout=full, stderr=subprocess.PIPE, text=True, check=False)
+                self.assertEqual(done.returncode, 1, done.stderr)
+                self.assertEqual(done.stderr, "udfburn-client: the standard output takes no more: No space left on device\n")
+
+    def test_a_standard_output_that_takes_a_part(self) -> None:
+        """A file that does not go out whole is a failure, also where Python keeps nothing back."""
+        client = self.on_image()
+        client.put("/a", bytes(3000))
+        client.close()
+        out = os.path.join(self.room, "out")
+        for unbuffered in ("", "1"):
+            limited = ["sh", "-c", 'ulimit -f 1 && trap "" XFSZ && exec "$@"', "sh", *self.words("get", "/a", "-", where=["--image", self.image])]
+            with open(out, "wb") as file:
+                file.write(bytes(400))
+                file.flush()
+                done = subprocess.run(limited, env={**self.environment(), "PYTHONUNBUFFERED": unbuffered}, stdout=file, stderr=subprocess.PIPE, text=True, check=False)
+            self.assertEqual((done.returncode, done.stderr), (1, "udfburn-client: the standard output takes no more: File too large\n"))
 
     def test_names_that_are_not_read_as_utf8(self) -> None:
         """They would be stored as other names, so nothing is done."""

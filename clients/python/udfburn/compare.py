@@ -5,11 +5,12 @@ from __future__ import annotations
 from contextlib import closing
 from typing import TYPE_CHECKING, Dict, List, Optional, Tuple
 
-from .errors import SourceError
+from .errors import IsDirectory, NotFound, SourceError
 from .jobs import same_bytes
 from .protocol import Get, NodeKind, Path, show
 from .sources import Scan, Source, scan
 from .split import base_of, part_folders, stored_paths
+from .stored import find_file
 from .walk import Told, quiet, walk
 
 if TYPE_CHECKING:
@@ -45,7 +46,9 @@ def verify_tree(
             wanted.update(paths, part_folders(source.path, source.identity.size, split))
             if all([compare_kind(show(part), kinds.get(part), NodeKind.FILE, result) for part in paths]):
                 there.append(source)
-        compare_files(client, there, split, result, told)
+        same = compare_files(client, there, split, result, told)
+        for source in same if split else []:
+            compare_parts(client, source, result)
     result.folders = len(found.folders)
     result.extra = sorted(show(extra) for extra in kinds if extra not in wanted and len(extra) > len(path))
     return result
@@ -77,8 +80,23 @@ def compare_kind(path: str, kind: Optional[NodeKind], wanted: NodeKind, result: 
     return False
 
 
-def compare_files(client: Client, sources: List[Source], split: bool, result: Comparison, told: Told) -> None:
-    """Compares the bytes of local files with those that are stored."""
+def compare_parts(client: Client, source: Source, result: Comparison) -> None:
+    """Compares the parts of a file with those that are read as one file: an earlier, longer one may have left more, or a whole one."""
+    paths = stored_paths(source.path, source.identity.size, True)
+    if len(paths) == 1:
+        return
+    try:
+        others = [part for part in find_file(client, source.path, True).parts if part not in paths]
+    except (IsDirectory, NotFound):
+        result.differences.append((show(source.path), "is there in parts, but with --split they are not read as one file"))
+        return
+    if others:
+        result.differences.append((show(source.path), f"is there, but with --split {show(others[0])} is read as a part of it"))
+
+
+def compare_files(client: Client, sources: List[Source], split: bool, result: Comparison, told: Told) -> List[Source]:
+    """Compares the bytes of local files with those that are stored. Gives those with the same bytes."""
+    equal: List[Source] = []
     counts = [len(stored_paths(source.path, source.identity.size, split)) for source in sources]
     queries = (Get(part) for source in sources for part in stored_paths(source.path, source.identity.size, split))
     with closing(client.ask_all(queries)) as answers:
@@ -91,8 +109,11 @@ def compare_files(client: Client, sources: List[Source], split: bool, result: Co
             result.files += 1
             result.bytes += source.identity.size
             told("same" if same else "differs", source.path, source.identity.size, 0)
-            if not same:
+            if same:
+                equal.append(source)
+            else:
                 result.differences.append((show(source.path), "has other bytes there"))
+    return equal
 
 
 __all__ = ["Comparison", "verify_tree"]

@@ -95,6 +95,9 @@ class Fetcher:
     def _make_folders(self, folders: List[str], targets: List[Target], saver: Saver) -> None:
         """Makes the folders, and removes what a killed copy left in those that are there."""
         names: Dict[str, List[str]] = {}
+        for folder in folders[:1]:
+            # A killed copy may have made it.
+            saver.folder(os.path.dirname(os.path.abspath(folder)))
         for target in targets:
             names.setdefault(os.path.dirname(target.local), []).append(os.path.basename(target.local))
         for folder in folders:
@@ -105,7 +108,7 @@ class Fetcher:
     def _files(self, targets: List[Target], saver: Saver) -> None:
         """Copies files, but those that are there whole."""
         there = [target for target in targets if os.path.lexists(target.local)]
-        same = self._same([target for target in there if same_size(target)])
+        same = self._same([target for target in there if same_size(target)], saver)
         left = [target for target in targets if target.local not in same]
         refused = set() if self.force else {target.local for target in there}
         for target in left:
@@ -117,13 +120,15 @@ class Fetcher:
                 self._save(target, parts, saver)
             saver.flush()
 
-    def _same(self, targets: List[Target]) -> "set[str]":
+    def _same(self, targets: List[Target], saver: Saver) -> "set[str]":
         """Those of the local files that have all bytes of the volume's."""
         same = set()
         with parts_of(self.client, [target.file for target in targets]) as files:
             for target, (file, parts) in zip(targets, files):
                 if has_bytes(target.local, parts):
                     same.add(target.local)
+                    # A killed copy may have given it its name.
+                    saver.folder(os.path.dirname(target.local))
                     self.summary.same += 1
                     self.told("same", file.path, file.size, 0)
         return same

@@ -7,7 +7,7 @@ from typing import TYPE_CHECKING, Dict, List, Optional, Set, Tuple
 
 from .protocol import NodeKind, Path, limits, show
 from .sources import Folder, Scan, Source, shown, why_not
-from .split import base_of, has_form, own_paths, part_count, part_folders, stored_paths
+from .split import base_of, has_form, next_part, own_paths, part_count, part_folders, stored_paths
 
 if TYPE_CHECKING:
     from .blocks import Space
@@ -40,10 +40,10 @@ class Plan:
         self.left: Optional[int] = None
 
 
-def plan(scan: Scan, present: Present, split: bool, space: Optional[Space]) -> Plan:
-    """Plans an import, with all that speaks against it."""
+def plan(scan: Scan, present: Present, split: bool, space: Optional[Space], stale: Optional[Dict[Path, List[Path]]] = None) -> Plan:
+    """Plans an import, with all that speaks against it. `stale` is what goes with it."""
     planned = Plan(list(scan.faults))
-    planned.kept = scan.kept
+    planned.kept, planned.stale = scan.kept, stale or {}
     for folder in scan.folders:
         if present.kinds.get(folder.path) is NodeKind.FILE:
             planned.faults.append(f"{show(folder.path)}: is a file, and is to be a directory")
@@ -55,6 +55,8 @@ def plan(scan: Scan, present: Present, split: bool, space: Optional[Space]) -> P
         add_part_folders(planned, present, source, split, taken)
     sources = [source for source, _ in planned.files]
     check_shared(planned, [path for source in sources + scan.same for path in own_paths(source.path, source.identity.size, split)])
+    if split:
+        check_next_parts(planned, present, scan.same)
     check_paths(planned, present)
     check_counts(planned, present)
     reckon(planned, present, space)
@@ -103,6 +105,17 @@ def check_shared(planned: Plan, taken: List[Path]) -> None:
     for path, count in Counter(taken + [folder.path for folder in planned.folders]).items():
         if count > 1:
             planned.faults.append(f"{show(path)}: more than one of the files and folders would have this path")
+
+
+def check_next_parts(planned: Plan, present: Present, same: List[Source]) -> None:
+    """Files that would be read as a part of another one, though they are none: those after a last part that is full."""
+    sources = [source for source, _ in planned.files] + same
+    stored = {path for source in sources for path in stored_paths(source.path, source.identity.size, True)}
+    stale = {path for paths in planned.stale.values() for path in paths}
+    for source in sources:
+        path = next_part(source.path, source.identity.size)
+        if path is not None and (path in stored or (present.kinds.get(path) is NodeKind.FILE and path not in stale)):
+            planned.faults.append(f"{show(path)}: would be read as a part of {shown(source.local)}, which has no more parts: give one of them another name")
 
 
 def check_paths(planned: Plan, present: Present) -> None:

@@ -4,9 +4,11 @@ from __future__ import annotations
 
 import argparse
 from collections import Counter
+from contextlib import suppress
 from typing import TYPE_CHECKING, Counter as Counts, Optional
 
-from .errors import UsageError
+from .disk import is_full
+from .errors import DiskFull, UsageError
 from .progress import Progress, of_bytes, plural, size
 from .protocol import shown
 from .words import add_output, commit_number
@@ -67,6 +69,15 @@ def salvage(arguments: argparse.Namespace) -> int:
         output = Output(arguments.folder) if arguments.folder is not None else None
         try:
             return Report(arguments.progress, found, arguments.accept_unproved).print(output)
+        except OSError as error:
+            if output is None or not is_full(error):
+                raise
+            with suppress(OSError):
+                # What was written whole gets its name.
+                output.flush()
+            raise DiskFull(
+                f"{shown(arguments.folder)}: its disk is full ({error.strerror}): the files copied so far are complete; make room, and run the same command again"
+            ) from error
         finally:
             if output is not None:
                 output.close()

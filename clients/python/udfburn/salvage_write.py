@@ -8,7 +8,9 @@ import stat
 from concurrent.futures import ThreadPoolExecutor
 from typing import Dict, List, NamedTuple, Optional, Set, Tuple
 
+from .disk import is_full
 from .reader.volume import Path
+from .saving import write_all
 
 NAME_BYTES = 255
 """The bytes of a name that file systems take."""
@@ -74,7 +76,10 @@ class Output:
     def folder(self, target: Path, moment: Optional[int], tail: str) -> str:
         """Makes a folder, or takes the one that is there. Its path, or `InTheWay`."""
         place = self._place(target, tail)
-        self._open(place).close()
+        try:
+            self._open(place).close()
+        except OSError as error:
+            raise InTheWay(why_not_written(error)) from error
         self._folders[place] = moment
         return os.fsdecode(b"/".join(place))
 
@@ -106,14 +111,17 @@ class Output:
         try:
             with self._open(place[:-1]) as folder:
                 descriptor = os.open(temporary, os.O_RDWR | os.O_CREAT | os.O_EXCL | os.O_CLOEXEC, 0o666, dir_fd=folder.descriptor)
-        except InTheWay as error:
-            return [Written(key, os.fsdecode(b"/".join(place)), f"was not written: {error}")]
-        self._waiting.append(Waiting(key, place[:-1], temporary, place[-1], descriptor))
-        view = memoryview(data)
-        while view:
-            view = view[os.write(descriptor, view) :]
-        if moment is not None:
-            os.utime(descriptor, ns=(moment * 1000, moment * 1000))
+        except (InTheWay, OSError) as error:
+            return [Written(key, os.fsdecode(b"/".join(place)), why_not_written(error))]
+        waiting = Waiting(key, place[:-1], temporary, place[-1], descriptor)
+        try:
+            write_all(descriptor, data)
+            if moment is not None:
+                os.utime(descriptor, ns=(moment * 1000, moment * 1000))
+        except BaseException:
+            self._drop(waiting)
+            raise
+        self._waiting.append(waiting)
         self._bytes += len(data)
         return self.flush() if len(self._waiting) >= BATCH_FILES or self._bytes >= BATCH_BYTES else []
 
@@ -136,6 +144,8 @@ class Output:
             except FileExistsError:
                 same = folder.has_same(waiting.name, waiting.descriptor)
                 return Written(waiting.key, path, None if same else "already exists, with other bytes")
+            except OSError as error:
+                return Written(waiting.key, path, why_not_written(error))
             finally:
                 os.close(waiting.descriptor)
                 folder.remove(waiting.temporary)
@@ -151,12 +161,16 @@ class Output:
         os.fsync(self._root)
         return done
 
+    def _drop(self, waiting: Waiting) -> None:
+        """Removes a file that gets no name."""
+        os.close(waiting.descriptor)
+        with self._open(waiting.folder) as folder:
+            folder.remove(waiting.temporary)
+
     def close(self) -> None:
         """Leaves no temporary file."""
         for waiting in self._waiting:
-            os.close(waiting.descriptor)
-            with self._open(waiting.folder) as folder:
-                folder.remove(waiting.temporary)
+            self._drop(waiting)
         self._waiting = []
         self._pool.shutdown()
         os.close(self._root)
@@ -227,6 +241,13 @@ def open_folder(name: bytes, above: int) -> int:
         if error.errno not in (errno.ENOTDIR, errno.ELOOP):
             raise
         raise InTheWay(f"{os.fsdecode(name)}: is there, and is no folder") from error
+
+
+def why_not_written(error: Exception) -> str:
+    """Why a file or a folder was not written, as where the file system does not take its name. That it is full ends all, and is raised."""
+    if is_full(error):
+        raise error
+    return f"was not written: {error.strerror if isinstance(error, OSError) else error}"
 
 
 def fitting(name: str, tail: str) -> bytes:

@@ -60,6 +60,13 @@ def stored_paths(path: Path, size: int, split: bool) -> List[Path]:
     return [part_path(path, index, count > FLAT) for index in range(count)] if count else [path]
 
 
+def next_part(path: Path, size: int) -> Optional[Path]:
+    """The path of what would be read as one more part of a file of this size; None where nothing would: its last part is not full, or
+    its parts have a folder of their own."""
+    count = part_count(size)
+    return part_path(path, count, False) if 0 < count <= FLAT and not size % limits.FILE else None
+
+
 def part_folders(path: Path, size: int, split: bool) -> List[Path]:
     """The folders that the parts of a file of this size take, each after the one above it."""
     count = part_count(size) if split else 0

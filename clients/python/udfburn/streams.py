@@ -5,8 +5,7 @@ from __future__ import annotations
 import argparse
 import os
 import sys
-from contextlib import redirect_stdout
-from io import StringIO
+from io import BufferedWriter, RawIOBase, TextIOWrapper
 from typing import List, Optional
 
 
@@ -23,7 +22,16 @@ def take_descriptors() -> bool:
         sys.stdout = open(os.devnull, "w", encoding="utf-8")
     if sys.stderr is None:
         sys.stderr = open(os.devnull, "w", encoding="utf-8")
+    write_whole()
     return closed
+
+
+def write_whole() -> None:
+    """Has the standard output take all bytes or fail. Where Python keeps none back (PYTHONUNBUFFERED) a full disk takes some of them, and
+    that is no error. Each line is still written at once."""
+    raw = getattr(sys.stdout, "buffer", None)
+    if isinstance(raw, RawIOBase):
+        sys.stdout = TextIOWrapper(BufferedWriter(raw), sys.stdout.encoding, sys.stdout.errors, line_buffering=True)
 
 
 def take_any_name() -> None:
@@ -35,17 +43,13 @@ def take_any_name() -> None:
 
 def parsed(parser: argparse.ArgumentParser, words: Optional[List[str]], closed: bool) -> argparse.Namespace:
     """The words of a command. What is printed in place of one, as its help, goes nowhere where the output is closed."""
-    printed = StringIO()
     try:
         try:
-            with redirect_stdout(printed):
-                found = parser.parse_args(words)
+            found = parser.parse_args(words)
             if sys.getfilesystemencoding() != "utf-8":
                 parser.error(f"names of files are read as {sys.getfilesystemencoding()} here, and would be stored as other names: set PYTHONUTF8=1")
             return found
         finally:
-            # Written here, since argparse of Python 3.11.7 passes over a write that fails.
-            sys.stdout.write(printed.getvalue())
             sys.stdout.flush()
     except SystemExit as end:
         if closed and not end.code:

@@ -68,8 +68,7 @@ class Importer:
                 self._leave_same(found)
         if options.parents:
             self._add_parents(found, [path for _, path in wanted])
-        planned = plan(found, self.present, options.split, self._space())
-        planned.stale = stale
+        planned = plan(found, self.present, options.split, self._space(), stale)
         self.summary.blocks, self.summary.left = planned.blocks, planned.left
         self.summary.not_kept = found.not_kept.counts()
         if planned.faults:

@@ -4,12 +4,12 @@ from __future__ import annotations
 
 import argparse
 import os
-from typing import TYPE_CHECKING, List, Tuple
+from typing import TYPE_CHECKING, List, Set, Tuple
 
 from . import notkept
 from .client import Client
 from .commands import NOT_STORED, progress_of, writer
-from .errors import UsageError
+from .errors import Exists, IntoItself, IsRoot, NoParent, NotDirectory, NotEmpty, UsageError
 from .escape import encode
 from .manifest import MANIFEST, PAYLOAD
 from .progress import Progress, plural, size
@@ -181,15 +181,34 @@ def mkdir(arguments: argparse.Namespace) -> int:
     progress = progress_of(arguments)
     with writer(arguments) as client, client.held():
         finish_first(client, arguments)
+        planned: Set[Path] = set()
         for path in map(path_of, arguments.path):
             if arguments.dry_run:
-                progress.told("would make", path, 0, 0)
+                for missing in would_make(client, path, arguments.parents, planned):
+                    progress.told("would make", missing, 0, 0)
             elif arguments.parents:
                 for made in client.makedirs(path):
                     progress.told("made", made, 0, 0)
             else:
                 progress.told("made", path, 0, client.mkdir(path))
     return 0
+
+
+def would_make(client: Client, path: Path, parents: bool, planned: Set[Path]) -> List[Path]:
+    """The directories that would be made, which are added to those planned; or the refusal."""
+    missing: List[Path] = []
+    for depth in range(1, len(path) + 1):
+        node = client.find(path[:depth]) if path[:depth] not in planned else None
+        if node is not None and node.kind is NodeKind.FILE and (parents or depth < len(path)):
+            raise NotDirectory(show(path[:depth]))
+        if node is None and path[:depth] not in planned:
+            missing.append(path[:depth])
+    if not parents and not missing:
+        raise Exists(show(path))
+    if not parents and missing != [path]:
+        raise NoParent(show(path))
+    planned.update(missing)
+    return missing
 
 
 def mv(arguments: argparse.Namespace) -> int:
@@ -201,6 +220,9 @@ def mv(arguments: argparse.Namespace) -> int:
     with writer(arguments) as client:
         if arguments.dry_run:
             client.stat(path)
+            if to[: len(path)] == path != to:
+                raise IntoItself(show(path))
+            would_make(client, to, False, set())
             progress.told(f"would move {show(path)} to", to, 0, 0)
         else:
             progress.told(f"moved {show(path)} to", to, 0, client.rename(path, to))
@@ -212,9 +234,11 @@ def rm(arguments: argparse.Namespace) -> int:
     progress = progress_of(arguments)
     with writer(arguments) as client, client.held():
         finish_first(client, arguments)
+        planned: Set[Path] = set()
         for path in map(path_of, arguments.path):
             paths = paths_below(client, path, arguments)
             if arguments.dry_run:
+                would_remove(client, paths, planned)
                 for gone in paths:
                     progress.told("would remove", gone, 0, 0)
             elif paths != [path]:
@@ -222,6 +246,16 @@ def rm(arguments: argparse.Namespace) -> int:
             else:
                 progress.told("removed", path, 0, client.remove(path))
     return 0
+
+
+def would_remove(client: Client, paths: List[Path], planned: Set[Path]) -> None:
+    """Adds paths to those that would be gone. Raises where a directory would not be empty."""
+    for path in paths:
+        if not path:
+            raise IsRoot(show(path))
+        if client.stat(path).kind is NodeKind.DIRECTORY and any(path + (name.name,) not in planned for name in client.list(path)):
+            raise NotEmpty(show(path))
+        planned.add(path)
 
 
 def paths_below(client: Client, path: Path, arguments: argparse.Namespace) -> List[Path]:

@@ -2,7 +2,9 @@
 
 from __future__ import annotations
 
+import errno
 import os
+import stat
 from bisect import bisect_right
 from typing import Iterator, List, NamedTuple, Optional, Tuple
 
@@ -78,6 +80,9 @@ class Medium:
         """Opens it for reading; OSError where that cannot be done, MapError where the map is none."""
         self.path = path
         self._map = RescueMap.load(rescue_map) if rescue_map is not None else None
+        if stat.S_ISFIFO(os.stat(path).st_mode):
+            # To open one would wait for whoever writes to it.
+            raise OSError(errno.ESPIPE, "Is a named pipe, and not an image", path)
         self._file = os.open(path, os.O_RDONLY | os.O_CLOEXEC)
         try:
             # A block device has no size by fstat.
