@@ -83,6 +83,14 @@ class Machines(OnServer):
         self.require_agreed(first)
         self.require_agreed(second)
 
+    def test_another_isolation_of_transactions(self) -> None:
+        first = self.machine(1)
+        for index, level in enumerate(("repeatable read", "serializable")):
+            self.server.sql(f"ALTER DATABASE archive SET default_transaction_isolation = '{level}'")
+            write(os.path.join(self.source, f"f{index}"), b"1")
+            self.assertEqual(self.run_in(first, "add", self.source, "--at", "/s").last()["files"], 1)
+        self.assertEqual(len(self.volumes(first)), 1)
+
     def test_a_volume_in_use_is_not_adopted(self) -> None:
         first, second = self.machine(1), self.machine(2)
         make_tree(self.source, 1500, 3)
