@@ -83,6 +83,16 @@ class Machines(OnServer):
         self.require_agreed(first)
         self.require_agreed(second)
 
+    def test_an_old_holder_closes_nothing(self) -> None:
+        first, second = self.machine(1), self.machine(2)
+        write(os.path.join(self.source, "f"), b"1")
+        self.run_in(first, "add", self.source, "--at", "/s")
+        self.run_in(second, "adopt", "T-000001")
+        done = self.run_in(first, "close", "T-000001", status=1)
+        self.assertIn(f"belongs to {os.uname().nodename}:{second}", done.errors)
+        self.run_in(second, "close")
+        self.assertEqual(self.run_in(second, "check", "--data").last()["failures"], [])
+
     def test_another_isolation_of_transactions(self) -> None:
         first = self.machine(1)
         for index, level in enumerate(("repeatable read", "serializable")):

@@ -65,6 +65,7 @@ class Closer:
             self.claims.volume(row.number, row.label)
             row = self.catalogue.volume(row.number) or row
         if row.state != CLOSED:
+            self._require_own(row)
             self.tell.working(f"closing {row.label}")
             row = self._close(row)
             self.closed += 1
@@ -72,6 +73,12 @@ class Closer:
         self._send(row)
 
     # ---- closed
+
+    def _require_own(self, row: VolumeRow) -> None:
+        """Raises where another folder of the archive has an open volume: an image in this one is an older copy."""
+        if row.holder != self.config.id:
+            place = self.catalogue.holders().get(row.holder, "another folder of the archive")
+            raise VolumeDiffers(f"{row.label}: belongs to {place}: close it there, or 'adopt' it")
 
     def _close(self, row: VolumeRow) -> VolumeRow:
         target = self.config.path("closed", row.label + ".img")
