@@ -93,6 +93,29 @@ class Machines(OnServer):
         self.run_in(second, "close")
         self.assertEqual(self.run_in(second, "check", "--data").last()["failures"], [])
 
+    def test_an_old_holder_rebuilds_no_older_copy(self) -> None:
+        first, second = self.machine(1), self.machine(2)
+        write(os.path.join(self.source, "f"), b"1")
+        self.run_in(first, "add", self.source, "--at", "/s")
+        self.run_in(second, "adopt", "T-000001")
+        write(os.path.join(self.source, "g"), b"2")
+        self.run_in(second, "add", self.source, "--at", "/s")
+        before = self.rows(second)
+        for command, state in (("status", "open"), ("close", "closed")):
+            self.run_in(second, command)
+            self.assertIn("is an older copy of T-000001", self.run_in(first, "rebuild", status=1).errors)
+            self.assertEqual(self.rows(second), before)
+            self.assertEqual([volume["state"] for volume in self.volumes(second)], [state])
+
+    def test_an_open_image_that_is_named_stays_open(self) -> None:
+        first, second = self.machine(1), self.machine(2)
+        write(os.path.join(self.source, "f"), b"1")
+        self.run_in(first, "add", self.source, "--at", "/s")
+        self.run_in(second, "rebuild", os.path.join(first, "open"))
+        self.assertEqual([volume["state"] for volume in self.volumes(first)], ["open"])
+        self.assertEqual(self.run_in(first, "close").last()["closed"], 1)
+        self.assertEqual(self.run_in(first, "check", "--data").last()["failures"], [])
+
     def test_another_isolation_of_transactions(self) -> None:
         first = self.machine(1)
         for index, level in enumerate(("repeatable read", "serializable")):
