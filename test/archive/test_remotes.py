@@ -168,6 +168,21 @@ class Copies(WithRemotes):
         os.environ["PATH"] = self.path("bin") + ":" + path
         self.addCleanup(os.environ.__setitem__, "PATH", path)
 
+    def test_the_other_remotes_are_repaired(self) -> None:
+        write(os.path.join(self.source, "f"), b"1")
+        self.add()
+        self.do("close")
+        os.rename(self.path("folder"), self.path("folder.gone"))
+        os.unlink(self.image(1))
+        # The second remote says that it gives the image, and does not.
+        self.rclone('case "$*" in *copyto*here:sub/*) exit 0;; esac')
+        done = self.do("repair", "T-000001", status=1)
+        self.assertIn("folder: is not there: mount it", done.errors)
+        self.assertTrue(os.path.exists(self.image(1)))
+        os.unlink(os.path.join(self.copies()[2], "T-000001.img"))
+        self.do("repair", "T-000001", status=1)
+        self.assertTrue(os.path.exists(os.path.join(self.copies()[2], "T-000001.img")))
+
     def test_a_remote_that_prints_much(self) -> None:
         write(os.path.join(self.source, "f"), b"1")
         self.add()

@@ -198,9 +198,13 @@ class Repairer:
         if row.trouble:
             self.catalogue.save(row._replace(trouble=None, checked=now()))
         for copy in self.catalogue.copies(row.number):
-            if remote_of(copy.remote).look(row.label + ".img") != wanted:
-                send(row, image, copy.remote)
-                self._did(row, f"the copy on {copy.remote}", "the image at hand")
+            try:
+                if remote_of(copy.remote).look(row.label + ".img") != wanted:
+                    send(row, image, copy.remote)
+                    self._did(row, f"the copy on {copy.remote}", "the image at hand")
+            except CopyFailed as error:
+                self.failures.append(f"{row.label}: the copy on {copy.remote}: {error}")
+                continue
             self.catalogue.save_copy(copy._replace(checked=now(), trouble=None))
 
     def _fetch(self, row: VolumeRow, image: str, wanted: Print) -> None:
@@ -213,7 +217,7 @@ class Repairer:
                 sync_file(new)
                 if print_of_file(new, fresh=True) != wanted:
                     raise CopyFailed("is not as it was closed")
-            except CopyFailed as error:
+            except (CopyFailed, OSError) as error:
                 why[copy.remote] = str(error)
                 continue
             self._put(image, new)
