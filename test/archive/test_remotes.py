@@ -13,7 +13,7 @@ from pathlib import Path
 from typing import Dict, List, Optional, Sequence, Tuple
 
 from .servers import webdav
-from .support import HERE, PATIENCE, WithArchive, digests, environment, make_tree, start, write
+from .support import HERE, PATIENCE, WithArchive, digests, environment, make_tree, start, wait_until, write
 from .test_batch import TORN
 
 sys.path.insert(0, os.path.join(HERE, "..", "readers"))
@@ -182,6 +182,21 @@ class Copies(WithRemotes):
         os.unlink(os.path.join(self.copies()[2], "T-000001.img"))
         self.do("repair", "T-000001", status=1)
         self.assertTrue(os.path.exists(os.path.join(self.copies()[2], "T-000001.img")))
+
+    def test_one_process_sends_a_volume(self) -> None:
+        write(os.path.join(self.source, "f"), b"1")
+        self.add()
+        self.rclone(f'if [ "$1" = copyto ]; then echo > {self.path("begun")}; while [ -d {self.room} ] && ! [ -e {self.path("go")} ]; do sleep 0.1; done; fi')
+        process = start("close", "--archive", self.archive)
+        wait_until(lambda: os.path.exists(self.path("begun")))
+        try:
+            done = self.do("close")
+            self.assertEqual([line["did"] for line in done.objects()], ["left to that one", "close"])
+            self.assertIn("another process has this volume", self.do("repair", "T-000001", status=1).errors)
+        finally:
+            write(self.path("go"), b"")
+            self.assertEqual(process.wait(), 0)
+        self.do("check", "--remotes")
 
     def test_a_remote_that_prints_much(self) -> None:
         write(os.path.join(self.source, "f"), b"1")

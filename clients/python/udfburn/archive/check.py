@@ -12,10 +12,11 @@ from ..ledger_file import sync_file, sync_folder
 from ..operations import now
 from ..sources import shown
 from .catalogue import CLOSED, Catalogue, Copy, Held, VolumeRow, image_of, part_count
+from .claims import Claims
 from .close import SIDECARS, beside, send
 from .config import Config
 from .contents import Contents, File
-from .errors import CopyFailed, NotAtHand, VolumeDiffers
+from .errors import Claimed, CopyFailed, NotAtHand, VolumeDiffers
 from .remotes import Print, print_of_file, remote_of
 from .tell import Tell, plural, shown_path
 
@@ -174,8 +175,8 @@ def has_print(image: str, wanted: Print) -> bool:
 class Repairer:
     """A run of `repair`: a damaged or lost image from a good copy, and damaged or lost copies from a good image."""
 
-    def __init__(self, config: Config, catalogue: Catalogue, tell: Tell):
-        self.config, self.catalogue, self.tell = config, catalogue, tell
+    def __init__(self, config: Config, catalogue: Catalogue, claims: Claims, tell: Tell):
+        self.config, self.catalogue, self.claims, self.tell = config, catalogue, claims, tell
         self.repaired = 0
         self.failures: List[str] = []
 
@@ -186,8 +187,9 @@ class Repairer:
                 self.failures.append(f"{row.label}: is not closed, so there is nothing to compare it with")
                 continue
             try:
-                self._volume(row)
-            except (CopyFailed, OSError) as error:
+                self.claims.volume(row.number, row.label)
+                self._volume(self.catalogue.volume(row.number) or row)
+            except (Claimed, CopyFailed, OSError) as error:
                 self.failures.append(f"{row.label}: {error}")
 
     def _volume(self, row: VolumeRow) -> None:
