@@ -3,6 +3,7 @@ lost or damaged."""
 
 from __future__ import annotations
 
+import hashlib
 import os
 import random
 import shutil
@@ -133,6 +134,56 @@ class Crashes(WithArchive):
             self.assertEqual([volume["volume"] for volume in self.volumes()], ["T-000001"])
             count += 1 if LARGE else 2
         self.assertGreater(count, 5)
+
+
+    def kept(self, data: bytes) -> bool:
+        """Whether a file in `open` has these bytes."""
+        opened = os.path.join(self.archive, "open")
+        return hashlib.sha256(data).hexdigest() in [digest for digest, _ in digests(opened).values()]
+
+    def test_each_step_of_an_adoption(self) -> None:
+        self.init()
+        write(os.path.join(self.source, "f"), b"1" * 5000)
+        self.add()
+        image, good, wrong = os.path.join(self.archive, "open", "T-000001.img"), self.path("good.img"), self.path("wrong.img")
+        with open(image, "rb") as file:
+            data = file.read()
+        write(good, data)
+        # What was there: an image that ends in a batch that was cut short. And one whose bytes are not those that its ledger knows.
+        before = data + bytes(4096)
+        write(image, before)
+        write(image[: -len("img")] + "tail", b"%d\n" % len(data))
+        write(wrong, data.replace(b"1" * 5000, b"2" * 5000))
+        shutil.copytree(self.archive, self.path("kept"))
+        count = 0
+        while True:
+            shutil.rmtree(self.archive)
+            shutil.copytree(self.path("kept"), self.archive)
+            done = self.steps(count, "adopt", "T-000001", good)
+            if done.returncode == 0:
+                break
+            self.assertEqual(done.returncode, -9, done.stderr.decode())
+            self.require_length(image, len(data))
+            # It goes once the adoption is over.
+            is_kept = self.kept(before)
+            self.assertTrue(is_kept or os.path.getsize(image) == len(data), count)
+            self.do("adopt", "T-000001", wrong, status=1)
+            self.require_length(image, len(data))
+            self.assertEqual(self.kept(before), is_kept, count)
+            self.do("adopt", "T-000001", good)
+            self.assertEqual([name for name in os.listdir(self.path("archive", "open")) if name.endswith(".before")], [])
+            self.assertEqual(self.get_all(), digests(self.source))
+            self.require_agreed()
+            count += 1 if LARGE else 2
+        self.assertGreater(count, 10)
+
+    def require_length(self, image: str, length: int) -> None:
+        """An image that is there has so many bytes that count."""
+        if os.path.exists(image):
+            tail = image[: -len("img")] + "tail"
+            with open(tail if os.path.exists(tail) else image, "rb") as file:
+                data = file.read()
+            self.assertEqual(int(data) if os.path.exists(tail) else len(data), length)
 
 
 class SideBySide(WithArchive):

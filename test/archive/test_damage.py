@@ -173,6 +173,30 @@ class Damage(WithArchive):
         self.assertEqual((last["deleted"], last["kept"]), (0, 1))
         self.assertEqual(list(digests(self.source)), [b"big"])
 
+    def test_parts_that_an_earlier_run_stored_are_read(self) -> None:
+        self.init("--capacity", "4000")
+        data = os.urandom(12_000_000)
+        write(self.big, data)
+        self.add()
+        (row,) = self.rows()
+        first = next(place["first"] for place in row["places"] if place["volume"] == "T-000002")
+        # The file goes from the first volume, and the second, which has the middle of it, is damaged.
+        self.do("close", "T-000002")
+        closed = self.path("archive", "closed", "T-000002.img")
+        os.chmod(closed, 0o644)
+        os.rename(closed, self.image(2))
+        self.change(2, data[first << 20 :])
+        os.rename(self.image(2), closed)
+        self.change(1, data)
+        self.do("close", "--without-damaged", "T-000001")
+        last = self.add("--delete-source").last()
+        # All parts are stored again, and then the source goes.
+        self.assertEqual((last["deleted"], list(digests(self.source))), (1, []))
+        folder = self.path("back")
+        self.do("get", "/s/big", folder)
+        with open(os.path.join(folder, "big"), "rb") as file:
+            self.assertEqual(file.read(), data)
+
 
 class Catalogue(WithArchive):
     """A catalogue that takes no more files."""

@@ -83,6 +83,47 @@ class Machines(OnServer):
         self.require_agreed(first)
         self.require_agreed(second)
 
+    def test_an_old_holder_closes_nothing(self) -> None:
+        first, second = self.machine(1), self.machine(2)
+        write(os.path.join(self.source, "f"), b"1")
+        self.run_in(first, "add", self.source, "--at", "/s")
+        self.run_in(second, "adopt", "T-000001")
+        done = self.run_in(first, "close", "T-000001", status=1)
+        self.assertIn(f"belongs to {os.uname().nodename}:{second}", done.errors)
+        self.run_in(second, "close")
+        self.assertEqual(self.run_in(second, "check", "--data").last()["failures"], [])
+
+    def test_an_old_holder_rebuilds_no_older_copy(self) -> None:
+        first, second = self.machine(1), self.machine(2)
+        write(os.path.join(self.source, "f"), b"1")
+        self.run_in(first, "add", self.source, "--at", "/s")
+        self.run_in(second, "adopt", "T-000001")
+        write(os.path.join(self.source, "g"), b"2")
+        self.run_in(second, "add", self.source, "--at", "/s")
+        before = self.rows(second)
+        for command, state in (("status", "open"), ("close", "closed")):
+            self.run_in(second, command)
+            self.assertIn("is an older copy of T-000001", self.run_in(first, "rebuild", status=1).errors)
+            self.assertEqual(self.rows(second), before)
+            self.assertEqual([volume["state"] for volume in self.volumes(second)], [state])
+
+    def test_an_open_image_that_is_named_stays_open(self) -> None:
+        first, second = self.machine(1), self.machine(2)
+        write(os.path.join(self.source, "f"), b"1")
+        self.run_in(first, "add", self.source, "--at", "/s")
+        self.run_in(second, "rebuild", os.path.join(first, "open"))
+        self.assertEqual([volume["state"] for volume in self.volumes(first)], ["open"])
+        self.assertEqual(self.run_in(first, "close").last()["closed"], 1)
+        self.assertEqual(self.run_in(first, "check", "--data").last()["failures"], [])
+
+    def test_another_isolation_of_transactions(self) -> None:
+        first = self.machine(1)
+        for index, level in enumerate(("repeatable read", "serializable")):
+            self.server.sql(f"ALTER DATABASE archive SET default_transaction_isolation = '{level}'")
+            write(os.path.join(self.source, f"f{index}"), b"1")
+            self.assertEqual(self.run_in(first, "add", self.source, "--at", "/s").last()["files"], 1)
+        self.assertEqual(len(self.volumes(first)), 1)
+
     def test_a_volume_in_use_is_not_adopted(self) -> None:
         first, second = self.machine(1), self.machine(2)
         make_tree(self.source, 1500, 3)

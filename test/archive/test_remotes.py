@@ -5,6 +5,7 @@ from __future__ import annotations
 import os
 import random
 import shutil
+import signal
 import subprocess
 import sys
 from hashlib import sha256
@@ -12,7 +13,7 @@ from pathlib import Path
 from typing import Dict, List, Optional, Sequence, Tuple
 
 from .servers import webdav
-from .support import HERE, PATIENCE, WithArchive, digests, environment, make_tree, write
+from .support import HERE, PATIENCE, WithArchive, digests, environment, make_tree, start, wait_until, write
 from .test_batch import TORN
 
 sys.path.insert(0, os.path.join(HERE, "..", "readers"))
@@ -159,6 +160,54 @@ class Copies(WithRemotes):
         # The next run sees that it is wrong, and sends it again.
         self.assertEqual(self.do("close").last()["copied"], 1)
         self.do("check", "--remotes")
+
+    def rclone(self, text: str) -> None:
+        """A program rclone that does something else before the real one, until the test ends."""
+        real, path = shutil.which("rclone"), os.environ["PATH"]
+        os.chmod(write(self.path("bin", "rclone"), f'#!/bin/sh\n{text}\nexec {real} "$@"\n'.encode()), 0o755)
+        os.environ["PATH"] = self.path("bin") + ":" + path
+        self.addCleanup(os.environ.__setitem__, "PATH", path)
+
+    def test_the_other_remotes_are_repaired(self) -> None:
+        write(os.path.join(self.source, "f"), b"1")
+        self.add()
+        self.do("close")
+        os.rename(self.path("folder"), self.path("folder.gone"))
+        os.unlink(self.image(1))
+        # The second remote says that it gives the image, and does not.
+        self.rclone('case "$*" in *copyto*here:sub/*) exit 0;; esac')
+        done = self.do("repair", "T-000001", status=1)
+        self.assertIn("folder: is not there: mount it", done.errors)
+        self.assertTrue(os.path.exists(self.image(1)))
+        os.unlink(os.path.join(self.copies()[2], "T-000001.img"))
+        self.do("repair", "T-000001", status=1)
+        self.assertTrue(os.path.exists(os.path.join(self.copies()[2], "T-000001.img")))
+
+    def test_one_process_sends_a_volume(self) -> None:
+        write(os.path.join(self.source, "f"), b"1")
+        self.add()
+        self.rclone(f'if [ "$1" = copyto ]; then echo > {self.path("begun")}; while [ -d {self.room} ] && ! [ -e {self.path("go")} ]; do sleep 0.1; done; fi')
+        process = start("close", "--archive", self.archive)
+        wait_until(lambda: os.path.exists(self.path("begun")))
+        try:
+            done = self.do("close")
+            self.assertEqual([line["did"] for line in done.objects()], ["left to that one", "close"])
+            self.assertIn("another process has this volume", self.do("repair", "T-000001", status=1).errors)
+        finally:
+            write(self.path("go"), b"")
+            self.assertEqual(process.wait(), 0)
+        self.do("check", "--remotes")
+
+    def test_a_remote_that_prints_much(self) -> None:
+        write(os.path.join(self.source, "f"), b"1")
+        self.add()
+        self.rclone('[ "$1" != cat ] || head -c 200000 /dev/zero | tr "\\0" x >&2')
+        process = start("close", "--archive", self.archive)
+        try:
+            self.assertEqual(process.wait(30), 0)
+        finally:
+            if process.poll() is None:
+                os.killpg(process.pid, signal.SIGKILL)
 
     def test_a_remote_that_is_gone(self) -> None:
         make_tree(self.source, 10, 46)

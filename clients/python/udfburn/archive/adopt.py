@@ -5,9 +5,10 @@ from __future__ import annotations
 import os
 import shutil
 from contextlib import closing, contextmanager
-from typing import Iterator, List, Optional
+from typing import Iterator, List, Optional, Tuple
 
 from ..ledger_file import remove, sync_file, sync_folder
+from ..operations import now
 from ..sources import shown
 from .batch import sound_length
 from .catalogue import CLOSED, FULL, NEW, OPEN, Catalogue, VolumeRow
@@ -59,6 +60,8 @@ def adopt(config: Config, catalogue: Catalogue, claims: Claims, row: VolumeRow, 
     """Takes a volume over. The image is copied; a new ledger, with a client of its own, goes on with it."""
     claims.volume(row.number, row.label)
     row = catalogue.volume(row.number) or row
+    target = config.path("closed" if row.state == CLOSED else "open", row.label + ".img")
+    recover(target)
     image = next((path for path in candidates(config, catalogue, row, given) if os.path.isfile(path)), None)
     if image is None and row.state == NEW:
         # Nothing was stored on it: this folder makes it.
@@ -68,7 +71,6 @@ def adopt(config: Config, catalogue: Catalogue, claims: Claims, row: VolumeRow, 
     if image is None:
         raise NotAtHand(f"{row.label}: its image was not found: name it on the command line")
     require_whole(config, catalogue, row, image)
-    target = config.path("closed" if row.state == CLOSED else "open", row.label + ".img")
     row = row._replace(holder=config.id)
     if os.path.realpath(image) == os.path.realpath(target):
         return go_on(config, catalogue, row)
@@ -93,30 +95,46 @@ def go_on(config: Config, catalogue: Catalogue, row: VolumeRow) -> VolumeRow:
     return row
 
 
+def files_of(target: str) -> Tuple[List[str], List[str]]:
+    """The files of an image's place that are copied before an adoption, and those that are moved, the image last."""
+    return [beside(target, end) for end in LEDGER], [beside(target, ".tail"), target]
+
+
+def recover(target: str) -> None:
+    """Goes on after an adoption that was killed. What it had moved comes back; where the adopted image is in place both images are kept."""
+    copied, moved = files_of(target)
+    is_there, both = os.path.lexists(target), os.path.lexists(target) and os.path.lexists(target + BEFORE)
+    end = f"{BEFORE}-{now()}"
+    for path in copied + moved:
+        if not os.path.lexists(path + BEFORE):
+            continue
+        if both:
+            os.rename(path + BEFORE, path + end)
+        elif is_there or os.path.lexists(path):
+            os.unlink(path + BEFORE)
+        else:
+            os.rename(path + BEFORE, path)
+
+
 @contextmanager
 def undone(target: str) -> Iterator[None]:
     """Has an image's place, and the ledger beside it, as they were, where what is done in it fails."""
-    copied, moved = [beside(target, end) for end in LEDGER], [beside(target, ".tail"), target]
-    for path in copied + moved:
-        if not os.path.lexists(path) and os.path.lexists(path + BEFORE):
-            # A process was killed here.
-            os.rename(path + BEFORE, path)
+    copied, moved = files_of(target)
     there = [path for path in copied + moved if os.path.lexists(path)]
-    for path in there:
-        if path in moved:
-            os.replace(path, path + BEFORE)
-        else:
-            shutil.copy2(path, path + BEFORE)
+    for path in (path for path in copied if path in there):
+        shutil.copy2(path, path + BEFORE)
+    # At no moment an image is in place without its tail's length, or with that of another.
+    for path in (path for path in reversed(moved) if path in there):
+        os.replace(path, path + BEFORE)
     try:
         yield
     except BaseException:
-        for path in [target + ".new", *copied, *moved]:
-            if path in there:
-                os.replace(path + BEFORE, path)
-            else:
-                remove(path)
+        for path in [target + ".new", target, *copied]:
+            remove(path)
+        for path in there:
+            os.replace(path + BEFORE, path)
         raise
-    for path in copied + moved:
+    for path in moved + copied:
         remove(path + BEFORE)
 
 

@@ -219,7 +219,10 @@ def connect(url: str) -> Any:
         raise CatalogueError("a catalogue on PostgreSQL needs the driver psycopg 3 (Debian: python3-psycopg)") from error
     words: Dict[str, Any] = {} if "target_session_attrs=" in url else {"target_session_attrs": "read-write"}
     try:
-        return psycopg.connect(url, connect_timeout=10, application_name="udfburn-archive", **words)
+        connection = psycopg.connect(url, connect_timeout=10, application_name="udfburn-archive", **words)
+        # Whatever the server's default is: a claim is on a row that may have come after its transaction began.
+        connection.isolation_level = psycopg.IsolationLevel.READ_COMMITTED
+        return connection
     except psycopg.Error as error:
         raise trouble(error) from error
 

@@ -12,10 +12,11 @@ from ..ledger_file import sync_file, sync_folder
 from ..operations import now
 from ..sources import shown
 from .catalogue import CLOSED, Catalogue, Copy, Held, VolumeRow, image_of, part_count
+from .claims import Claims
 from .close import SIDECARS, beside, send
 from .config import Config
 from .contents import Contents, File
-from .errors import CopyFailed, NotAtHand, VolumeDiffers
+from .errors import Claimed, CopyFailed, NotAtHand, VolumeDiffers
 from .remotes import Print, print_of_file, remote_of
 from .tell import Tell, plural, shown_path
 
@@ -174,8 +175,8 @@ def has_print(image: str, wanted: Print) -> bool:
 class Repairer:
     """A run of `repair`: a damaged or lost image from a good copy, and damaged or lost copies from a good image."""
 
-    def __init__(self, config: Config, catalogue: Catalogue, tell: Tell):
-        self.config, self.catalogue, self.tell = config, catalogue, tell
+    def __init__(self, config: Config, catalogue: Catalogue, claims: Claims, tell: Tell):
+        self.config, self.catalogue, self.claims, self.tell = config, catalogue, claims, tell
         self.repaired = 0
         self.failures: List[str] = []
 
@@ -186,8 +187,9 @@ class Repairer:
                 self.failures.append(f"{row.label}: is not closed, so there is nothing to compare it with")
                 continue
             try:
-                self._volume(row)
-            except (CopyFailed, OSError) as error:
+                self.claims.volume(row.number, row.label)
+                self._volume(self.catalogue.volume(row.number) or row)
+            except (Claimed, CopyFailed, OSError) as error:
                 self.failures.append(f"{row.label}: {error}")
 
     def _volume(self, row: VolumeRow) -> None:
@@ -198,9 +200,13 @@ class Repairer:
         if row.trouble:
             self.catalogue.save(row._replace(trouble=None, checked=now()))
         for copy in self.catalogue.copies(row.number):
-            if remote_of(copy.remote).look(row.label + ".img") != wanted:
-                send(row, image, copy.remote)
-                self._did(row, f"the copy on {copy.remote}", "the image at hand")
+            try:
+                if remote_of(copy.remote).look(row.label + ".img") != wanted:
+                    send(row, image, copy.remote)
+                    self._did(row, f"the copy on {copy.remote}", "the image at hand")
+            except CopyFailed as error:
+                self.failures.append(f"{row.label}: the copy on {copy.remote}: {error}")
+                continue
             self.catalogue.save_copy(copy._replace(checked=now(), trouble=None))
 
     def _fetch(self, row: VolumeRow, image: str, wanted: Print) -> None:
@@ -213,7 +219,7 @@ class Repairer:
                 sync_file(new)
                 if print_of_file(new, fresh=True) != wanted:
                     raise CopyFailed("is not as it was closed")
-            except CopyFailed as error:
+            except (CopyFailed, OSError) as error:
                 why[copy.remote] = str(error)
                 continue
             self._put(image, new)

@@ -61,10 +61,12 @@ class Closer:
 
     def close(self, row: VolumeRow) -> None:
         """Closes a volume and sends it, as far as that is not done."""
-        if row.state != CLOSED:
+        # Two processes that send to one remote would take each other's copies away.
+        if row.state != CLOSED or self._lacking(row):
             self.claims.volume(row.number, row.label)
             row = self.catalogue.volume(row.number) or row
         if row.state != CLOSED:
+            self._require_own(row)
             self.tell.working(f"closing {row.label}")
             row = self._close(row)
             self.closed += 1
@@ -72,6 +74,12 @@ class Closer:
         self._send(row)
 
     # ---- closed
+
+    def _require_own(self, row: VolumeRow) -> None:
+        """Raises where another folder of the archive has an open volume: an image in this one is an older copy."""
+        if row.holder != self.config.id:
+            place = self.catalogue.holders().get(row.holder, "another folder of the archive")
+            raise VolumeDiffers(f"{row.label}: belongs to {place}: close it there, or 'adopt' it")
 
     def _close(self, row: VolumeRow) -> VolumeRow:
         target = self.config.path("closed", row.label + ".img")
@@ -215,13 +223,15 @@ class Closer:
 
     # ---- sent
 
+    def _lacking(self, row: VolumeRow) -> List[str]:
+        """The remotes that do not have a volume."""
+        have = {copy.remote for copy in self.catalogue.copies(row.number) if copy.trouble is None}
+        return [name for name in self.config.copies if name not in have]
+
     def _send(self, row: VolumeRow) -> None:
         """Sends a closed volume to each remote that does not have it, and compares what arrived."""
         image = image_of(self.config, row)
-        have = {copy.remote for copy in self.catalogue.copies(row.number) if copy.trouble is None}
-        for name in self.config.copies:
-            if name in have:
-                continue
+        for name in self._lacking(row):
             if image is None:
                 self.failures.append(f"{row.label}: is not at hand, so it was not copied to {name}")
                 continue

@@ -35,7 +35,8 @@ def close(arguments: argparse.Namespace) -> int:
                 closer.close(row)
             except (ArchiveError, OSError) as error:
                 if isinstance(error, Claimed) and not arguments.volume:
-                    tell.note(f"{error} (it is left open)", did="left open", volume=row.label)
+                    left = "left open" if row.state != CLOSED else "left to that one"
+                    tell.note(f"{error} (it is {left})", did=left, volume=row.label)
                     continue
                 closer.failures.append(f"{row.label}: {error}")
     words = f"closed {plural(closer.closed, 'volume', 'volumes')}"
@@ -68,11 +69,11 @@ def check(arguments: argparse.Namespace) -> int:
 def repair(arguments: argparse.Namespace) -> int:
     """Repairs volumes."""
     config, tell = config_of(arguments), tell_of(arguments)
-    with Catalogue(config) as catalogue:
+    with Catalogue(config) as catalogue, closing(claims_of(catalogue.base, config.path("locks"), config.catalogue)) as claims:
         rows = catalogue.volumes()
         copies = {copy.volume for copy in catalogue.copies() if copy.trouble}
         found = chosen(rows, arguments.volume, Options()) if arguments.volume else [row for row in rows if row.trouble or row.number in copies]
-        repairer = Repairer(config, catalogue, tell)
+        repairer = Repairer(config, catalogue, claims, tell)
         repairer.run(found)
     words = f"repaired {plural(repairer.repaired, 'image or copy', 'images or copies')} of {plural(len(found), 'volume', 'volumes')}"
     return ended(tell, words, repairer.failures, repaired=repairer.repaired, volumes=len(found))

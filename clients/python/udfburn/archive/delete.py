@@ -6,6 +6,7 @@ from hashlib import sha256
 from typing import Container, Dict, List, Optional, Sequence, Tuple
 
 from ..errors import SourceError
+from ..protocol import Path
 from ..sources import Source, delete, shown
 from .catalogue import CLOSED, Catalogue, Held, VolumeRow, image_of, is_whole, part_count
 from .config import Config
@@ -25,6 +26,8 @@ class Deleter:
         self.failures: List[str] = []
         self.refused: Container[int] = ()
         """Volumes that may be damaged: no source goes for what they have."""
+        self._sent: Dict[Path, List[Held]] = {}
+        """The parts of files that this run stored."""
         self._contents: Optional[Tuple[int, Contents]] = None
         self._rows: Dict[int, Tuple[VolumeRow, int]] = {}
 
@@ -38,8 +41,23 @@ class Deleter:
         for job in jobs:
             if self.config.delete == "copied":
                 self._stay("until their volumes are closed and copied: run 'close', and then this command again")
-            elif not job.in_parts() or is_whole(self._same(job)):
+            elif job.in_parts():
+                self._in_parts(job)
+            else:
                 self._delete(job.source)
+
+    def _in_parts(self, job: Job) -> None:
+        """Some parts of a file were stored. It goes once this run has stored or compared all of them; parts that another run stored
+        are read first."""
+        sent = self._sent.setdefault(job.source.path, [])
+        sent.append(job.held(0, 0))
+        rows = self._same(job)
+        if is_whole(sent) and is_whole(rows):
+            self._delete(job.source)
+        elif job.rest() is None and is_whole(rows):
+            # What was read of a volume may be older than what it has by now.
+            self.close()
+            self.same(job.source, rows)
 
     def _same(self, job: Job) -> List[Held]:
         """The rows of a file in parts."""

@@ -131,31 +131,32 @@ def read_volume(image: str, closed: bool, holder: str) -> Optional[Read]:
             nodes=len(contents.nodes), blocks=contents.medium.blocks, clients=len(contents.clients()),
             manifest=sum(manifest_size(node.path) for node in contents.payload()), fullest_folder=max(names.values(), default=0),
         )
-        if closed:
+        # Those that are named may be open ones of another folder.
+        if closed and contents.is_bag():
             length, digest = sidecar(image)
             row = row._replace(state=CLOSED, length=length, sha256=digest, closed=contents.closed())
         return Read(about, row, rows)
 
 
-def read_all(wanted: Iterable[Tuple[str, bool]], holder: str, several: bool) -> Iterator[Tuple[str, bool, Callable[[], Optional[Read]]]]:
+def read_all(wanted: Iterable[Tuple[str, bool]], holder: str, several: bool) -> Iterator[Tuple[str, Callable[[], Optional[Read]]]]:
     """Reads volumes, some at once where they are several. Each is given with a call that gives what was read, or raises why not."""
     if not several:
         for image, closed in wanted:
-            yield image, closed, partial(read_volume, image, closed, holder)
+            yield image, partial(read_volume, image, closed, holder)
         return
     count = os.cpu_count() or 1
     pool = ProcessPoolExecutor(count, get_context("spawn"), begin_reading)
     try:
-        waiting: Deque[Tuple[str, bool, "Future[Optional[Read]]"]] = deque()
+        waiting: Deque[Tuple[str, "Future[Optional[Read]]"]] = deque()
         for image, closed in wanted:
             with uninterrupted():
-                waiting.append((image, closed, pool.submit(read_volume, image, closed, holder)))
+                waiting.append((image, pool.submit(read_volume, image, closed, holder)))
             if len(waiting) > 2 * count:
-                image, closed, read = waiting.popleft()
-                yield image, closed, read.result
+                image, read = waiting.popleft()
+                yield image, read.result
         while waiting:
-            image, closed, read = waiting.popleft()
-            yield image, closed, read.result
+            image, read = waiting.popleft()
+            yield image, read.result
     finally:
         pool.shutdown(cancel_futures=True)
 
@@ -192,9 +193,9 @@ class Rebuilder:
         """Reads each volume at hand, and has the catalogue say what it says."""
         found = list(images(self.config, others))
         try:
-            for image, closed, read in read_all(self._claimed(found), self.config.id, len(found) > 2):
+            for image, read in read_all(self._claimed(found), self.config.id, len(found) > 2):
                 try:
-                    self._one(image, closed, read())
+                    self._one(image, read())
                 except (VolumeDiffers, Claimed) as error:
                     self.summary.failures.append(str(error))
                 except BrokenProcessPool as error:
@@ -231,7 +232,7 @@ class Rebuilder:
             if (ABOUT,) in contents.nodes and not self.claims.try_volume(contents.about().number):
                 raise Claimed(f"{contents.label}: another process is writing it, so it was left out: run 'rebuild' again")
 
-    def _one(self, image: str, closed: bool, read: Optional[Read]) -> None:
+    def _one(self, image: str, read: Optional[Read]) -> None:
         """Keeps what was read of a volume; of one that was read before nothing, as of a copy of it."""
         if read is None:
             return
@@ -243,8 +244,10 @@ class Rebuilder:
             if self._seen[number] != state:
                 raise VolumeDiffers(f"{shown(image)}: is another state of {read.row.label} than the image that was read before, and was left out")
             return
+        old, closed = self.catalogue.volume(number), read.row.state == CLOSED
+        if old is not None and not closed and self._is_older(old, read.row):
+            raise VolumeDiffers(f"{shown(image)}: is an older copy of {old.label}, which was closed or taken over since, and was left out")
         self._seen[number] = state
-        old = self.catalogue.volume(number)
         known = self.catalogue.of_volume(number)
         if old is None and not known:
             self.summary.unknown[read.row.label] = len(read.rows)
@@ -255,6 +258,10 @@ class Rebuilder:
         self.summary.volumes += 1
         self.summary.files += len(read.rows)
         self.tell.working(f"read {plural(self.summary.volumes, 'volume', 'volumes')}, {plural(self.summary.files, 'file', 'files')}")
+
+    def _is_older(self, old: VolumeRow, row: VolumeRow) -> bool:
+        """Whether an open image is not the volume any more: that one was closed, or another folder has it and has filled it since."""
+        return old.state == CLOSED or old.holder != self.config.id and row.last_commit < old.last_commit
 
     def _is_ours(self, archive: str) -> bool:
         """Whether a volume is of this archive. A catalogue that was made anew takes the archive of its first volume."""

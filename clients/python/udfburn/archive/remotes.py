@@ -7,6 +7,7 @@ import os
 import shutil
 import subprocess
 from hashlib import sha256
+from tempfile import TemporaryFile
 from typing import IO, Iterator, List, NamedTuple, Optional
 
 from ..ledger_file import sync_file, sync_folder
@@ -144,12 +145,14 @@ class RcloneRemote(Remote):
     def look(self, name: str) -> Optional[Print]:
         if not self._run(["lsf", "--files-only", self._path(name)], missing=True):
             return None
-        with subprocess.Popen(["rclone", "cat", self._path(name)], stdin=subprocess.DEVNULL, stdout=subprocess.PIPE, stderr=subprocess.PIPE) as process:
-            assert process.stdout and process.stderr
-            found = print_of(process.stdout)
-            told = process.stderr.read()
-        if process.returncode:
-            raise CopyFailed(f"rclone cat {self.name}: {last_line(told)}")
+        # Into a file: it may print more than a pipe holds before the last byte comes.
+        with TemporaryFile() as told:
+            with subprocess.Popen(["rclone", "cat", self._path(name)], stdin=subprocess.DEVNULL, stdout=subprocess.PIPE, stderr=told) as process:
+                assert process.stdout
+                found = print_of(process.stdout)
+            told.seek(0)
+            if process.returncode:
+                raise CopyFailed(f"rclone cat {self.name}: {last_line(told.read())}")
         return found
 
 
