@@ -261,8 +261,8 @@ class Readers(WithArchive):
             preexec_fn=lambda: signal.signal(signal.SIGINT, interrupts),
         ) as process:
             wait_until(lambda: process.poll() is not None or readers(process.pid))
-            time.sleep(random.random() / 5)
             if to_all:
+                time.sleep(random.random() / 5)
                 os.killpg(process.pid, number)
             else:
                 os.kill(readers(process.pid)[0], number)

@@ -10,12 +10,12 @@ import time
 from collections import deque
 from concurrent.futures import Future, ProcessPoolExecutor
 from concurrent.futures.process import BrokenProcessPool
-from contextlib import contextmanager
+from contextlib import closing, contextmanager
 from functools import partial
-from multiprocessing import get_context
+from multiprocessing import active_children, get_context, resource_tracker
 from shutil import rmtree
 from tempfile import mkdtemp
-from typing import Callable, Deque, Dict, Iterable, Iterator, List, NamedTuple, Optional, Tuple
+from typing import Callable, Deque, Dict, Generator, Iterable, Iterator, List, NamedTuple, Optional, Tuple
 
 from ..ledger_file import sync_folder
 from ..sources import shown
@@ -107,6 +107,10 @@ def is_broken(path: str) -> bool:
         return not isinstance(error.__cause__, sqlite3.OperationalError)
 
 
+STDERR = 2
+"""The descriptor of the standard error."""
+
+
 class Read(NamedTuple):
     """A volume as it was read: what it says of itself, its row but for what only a catalogue knows, and the rows of its files."""
 
@@ -138,19 +142,21 @@ def read_volume(image: str, closed: bool, holder: str) -> Optional[Read]:
         return Read(about, row, rows)
 
 
-def read_all(wanted: Iterable[Tuple[str, bool]], holder: str, several: bool) -> Iterator[Tuple[str, Callable[[], Optional[Read]]]]:
+def read_all(wanted: Iterable[Tuple[str, bool]], holder: str, several: bool) -> Generator[Tuple[str, Callable[[], Optional[Read]]], None, None]:
     """Reads volumes, some at once where they are several. Each is given with a call that gives what was read, or raises why not."""
     if not several:
         for image, closed in wanted:
             yield image, partial(read_volume, image, closed, holder)
         return
     count = os.cpu_count() or 1
+    # It lets interrupts in while it begins, and this is no time for them once the readers begin.
+    resource_tracker.ensure_running()
     pool = ProcessPoolExecutor(count, get_context("spawn"), begin_reading)
     try:
         waiting: Deque[Tuple[str, "Future[Optional[Read]]"]] = deque()
         for image, closed in wanted:
             with uninterrupted():
-                waiting.append((image, pool.submit(read_volume, image, closed, holder)))
+                waiting.append((image, submitted(pool, image, closed, holder)))
             if len(waiting) > 2 * count:
                 image, read = waiting.popleft()
                 yield image, read.result
@@ -159,15 +165,34 @@ def read_all(wanted: Iterable[Tuple[str, bool]], holder: str, several: bool) -> 
             yield image, read.result
     finally:
         pool.shutdown(cancel_futures=True)
+        # Those of a pool that was interrupted as it began.
+        for reader in active_children():
+            reader.terminate()
+            reader.join()
+
+
+def submitted(pool: ProcessPoolExecutor, image: str, closed: bool, holder: str) -> "Future[Optional[Read]]":
+    """What a reader will have read."""
+    try:
+        return pool.submit(read_volume, image, closed, holder)
+    except BrokenPipeError as error:
+        # It was killed before it was told what to do.
+        raise BrokenProcessPool(str(error)) from error
 
 
 @contextmanager
 def uninterrupted() -> Iterator[None]:
-    """An interrupt comes afterwards. Processes that begin meanwhile get none before `begin_reading`."""
+    """An interrupt comes afterwards. Processes that begin meanwhile get none before `begin_reading`. They print nothing, as where this
+    process ends before they have begun: what goes wrong in one is raised here."""
     before = signal.pthread_sigmask(signal.SIG_BLOCK, {signal.SIGINT})
+    kept, nowhere = os.dup(STDERR), os.open(os.devnull, os.O_WRONLY)
+    os.dup2(nowhere, STDERR)
     try:
         yield
     finally:
+        os.dup2(kept, STDERR)
+        os.close(kept)
+        os.close(nowhere)
         signal.pthread_sigmask(signal.SIG_SETMASK, before)
 
 
@@ -193,13 +218,7 @@ class Rebuilder:
         """Reads each volume at hand, and has the catalogue say what it says."""
         found = list(images(self.config, others))
         try:
-            for image, read in read_all(self._claimed(found), self.config.id, len(found) > 2):
-                try:
-                    self._one(image, read())
-                except (VolumeDiffers, Claimed) as error:
-                    self.summary.failures.append(str(error))
-                except BrokenProcessPool as error:
-                    raise ArchiveError("a process that reads volumes was killed: run 'rebuild' again") from error
+            self._all(found)
             self._look_for_others()
             if not self.dry_run:
                 self.summary.names = self.catalogue.mend_names()
@@ -207,6 +226,17 @@ class Rebuilder:
             self.claims.close()
         self.summary.away = [row.label for row in self.catalogue.volumes() if row.number not in self._seen and row.state != NEW]
         return self.summary
+
+    def _all(self, found: List[Tuple[str, bool]]) -> None:
+        # The readers end with the loop, and not with this process, also where it is interrupted.
+        with closing(read_all(self._claimed(found), self.config.id, len(found) > 2)) as volumes:
+            for image, read in volumes:
+                try:
+                    self._one(image, read())
+                except (VolumeDiffers, Claimed) as error:
+                    self.summary.failures.append(str(error))
+                except BrokenProcessPool as error:
+                    raise ArchiveError("a process that reads volumes was killed: run 'rebuild' again") from error
 
     def _look_for_others(self) -> None:
         """Volumes whose images are elsewhere leave their traces. No new one gets the number of one of them."""
