@@ -11,7 +11,9 @@ import sqlite3
 import subprocess
 import sys
 import time
-from contextlib import closing
+from concurrent.futures.process import BrokenProcessPool
+from contextlib import closing, redirect_stderr
+from io import StringIO
 from pathlib import Path
 from typing import List, Optional, Tuple
 from unittest import mock
@@ -23,6 +25,7 @@ sys.path.insert(0, PACKAGE)
 from udfburn.archive.catalogue import Catalogue, VolumeRow  # noqa: E402
 from udfburn.archive.check import Checker, Options  # noqa: E402
 from udfburn.archive.claims import FileClaims, claims_of  # noqa: E402
+from udfburn.archive.cli import main  # noqa: E402
 from udfburn.archive.config import Config, read  # noqa: E402
 from udfburn.archive.tell import Tell  # noqa: E402
 from udfburn.archive.volume import new_row, open_new  # noqa: E402
@@ -282,6 +285,13 @@ class Readers(WithArchive):
     def test_one_that_is_killed(self) -> None:
         status, errors = self.rebuild(signal.SIGKILL, False)
         self.assertEqual((status, errors), (1, "udfburn-archive: a process that reads volumes was killed: run 'rebuild' again\n"))
+
+    def test_one_that_is_killed_as_it_starts(self) -> None:
+        for error in (BrokenPipeError("the reader is gone"), BrokenProcessPool("the reader is gone")):
+            with self.subTest(error=error), mock.patch("udfburn.archive.rebuild.ProcessPoolExecutor.submit", side_effect=error):
+                with redirect_stderr(StringIO()) as errors:
+                    status = main(["rebuild", "--dry-run", *self.images, "--archive", self.archive])
+                self.assertEqual((status, errors.getvalue()), (1, "udfburn-archive: a process that reads volumes was killed: run 'rebuild' again\n"))
 
 
 def readers(process: int) -> List[int]:

@@ -86,7 +86,8 @@ class Copies(WithRemotes):
             self.assertIn("repair T-000001", done.errors)
             self.do("check", "--data", status=1)
             self.assertTrue(self.volumes()[0]["attention"])
-            self.do("repair")
+            # Named twice, it is repaired once.
+            self.do("repair", "T-000001", "T-000001")
             with open(self.image(1), "rb") as file:
                 self.assertEqual(file.read(), whole)
             self.do("check", "--data")

@@ -31,7 +31,7 @@ def plural(count: int, one: str, many: str) -> str:
 
 
 def of_bytes(count: int) -> str:
-    """The size of a file, behind its path."""
+    """The size of a file, as it is printed after its path."""
     return f"({count} {'byte' if count == 1 else 'bytes'})"
 
 

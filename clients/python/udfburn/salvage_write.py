@@ -244,7 +244,8 @@ def open_folder(name: bytes, above: int) -> int:
 
 
 def why_not_written(error: Exception) -> str:
-    """Why a file or a folder was not written, as where the file system does not take its name. That it is full ends all, and is raised."""
+    """Why a file or a folder was not written, for example because the file system refuses its name. A full disk ends everything, so that
+    error is raised again."""
     if is_full(error):
         raise error
     return f"was not written: {error.strerror if isinstance(error, OSError) else error}"

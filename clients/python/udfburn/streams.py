@@ -10,7 +10,8 @@ from typing import List, Optional
 
 
 def take_descriptors() -> bool:
-    """Takes the descriptors of standard streams that are closed, so that no file of this process gets one. Whether the output is."""
+    """Takes the descriptors of standard streams that are closed, so that no file of this process gets one. Returns whether the standard
+    output was closed."""
     closed = sys.stdout is None
     for descriptor in range(3):
         try:
@@ -27,22 +28,22 @@ def take_descriptors() -> bool:
 
 
 def write_whole() -> None:
-    """Has the standard output take all bytes or fail. Where Python keeps none back (PYTHONUNBUFFERED) a full disk takes some of them, and
-    that is no error. Each line is still written at once."""
+    """Makes the standard output write all bytes or fail. Without a buffer (PYTHONUNBUFFERED) Python reports no error if a full disk takes
+    only some of them. Each line is still written at once."""
     raw = getattr(sys.stdout, "buffer", None)
     if isinstance(raw, RawIOBase):
         sys.stdout = TextIOWrapper(BufferedWriter(raw), sys.stdout.encoding, sys.stdout.errors, line_buffering=True)
 
 
 def take_any_name() -> None:
-    """Has a name that the terminal's encoding does not have printed in escapes: it is no reason to stop."""
+    """Prints a name that the terminal's encoding lacks with escapes: it is no reason to stop."""
     for stream in (sys.stdout, sys.stderr):
         if hasattr(stream, "reconfigure"):
             stream.reconfigure(errors="backslashreplace")
 
 
 def parsed(parser: argparse.ArgumentParser, words: Optional[List[str]], closed: bool) -> argparse.Namespace:
-    """The words of a command. What is printed in place of one, as its help, goes nowhere where the output is closed."""
+    """The words of a command. A help text that cannot be written is a failure."""
     try:
         try:
             found = parser.parse_args(words)
@@ -63,7 +64,7 @@ def parsed(parser: argparse.ArgumentParser, words: Optional[List[str]], closed: 
 
 
 def drop_output() -> None:
-    """Has nothing more written to the standard output, at the end of the process either."""
+    """Makes the standard output write nothing more, even at the end of the process."""
     try:
         output = sys.stdout.fileno()
     except OSError:

@@ -31,7 +31,7 @@ class Options(NamedTuple):
 
 
 def chosen(rows: Sequence[VolumeRow], names: Sequence[str], options: Options) -> List[VolumeRow]:
-    """The volumes that are looked at: those that are named, else all closed ones, of which some at random or those that were
+    """The volumes that are looked at: those that are named, each once, else all closed ones, of which some at random or those that were
     not looked at for longest."""
     closed = [row for row in rows if row.state == CLOSED]
     if names:
@@ -39,7 +39,7 @@ def chosen(rows: Sequence[VolumeRow], names: Sequence[str], options: Options) ->
         missing = [name for name in names if name not in by_label]
         if missing:
             raise NotAtHand(f"{missing[0]}: is not a volume of this archive")
-        closed = [by_label[name] for name in names]
+        closed = [by_label[name] for name in dict.fromkeys(names)]
     if options.oldest:
         closed.sort(key=lambda row: (row.data_checked if options.data else row.checked) or 0)
         return closed[: options.sample or 1]

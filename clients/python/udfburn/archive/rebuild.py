@@ -149,7 +149,7 @@ def read_all(wanted: Iterable[Tuple[str, bool]], holder: str, several: bool) -> 
             yield image, partial(read_volume, image, closed, holder)
         return
     count = os.cpu_count() or 1
-    # It lets interrupts in while it begins, and this is no time for them once the readers begin.
+    # It unblocks interrupts when it starts. So it starts before the readers, which must not be interrupted as they start.
     resource_tracker.ensure_running()
     pool = ProcessPoolExecutor(count, get_context("spawn"), begin_reading)
     try:
@@ -165,29 +165,29 @@ def read_all(wanted: Iterable[Tuple[str, bool]], holder: str, several: bool) -> 
             yield image, read.result
     finally:
         pool.shutdown(cancel_futures=True)
-        # Those of a pool that was interrupted as it began.
+        # Readers of a pool that was interrupted while it started.
         for reader in active_children():
             reader.terminate()
             reader.join()
 
 
 def submitted(pool: ProcessPoolExecutor, image: str, closed: bool, holder: str) -> "Future[Optional[Read]]":
-    """What a reader will have read."""
+    """Has a reader read a volume. `BrokenProcessPool` if a reader was killed."""
     try:
         return pool.submit(read_volume, image, closed, holder)
     except BrokenPipeError as error:
-        # It was killed before it was told what to do.
+        # It was killed while it started.
         raise BrokenProcessPool(str(error)) from error
 
 
 @contextmanager
 def uninterrupted() -> Iterator[None]:
-    """An interrupt comes afterwards. Processes that begin meanwhile get none before `begin_reading`. They print nothing, as where this
-    process ends before they have begun: what goes wrong in one is raised here."""
-    before = signal.pthread_sigmask(signal.SIG_BLOCK, {signal.SIGINT})
+    """Blocks interrupts for this process, and for processes that it starts meanwhile until their `begin_reading`. Those print nothing:
+    a traceback while they start would be of no use, since what fails in one is raised here."""
     kept, nowhere = os.dup(STDERR), os.open(os.devnull, os.O_WRONLY)
-    os.dup2(nowhere, STDERR)
+    before = signal.pthread_sigmask(signal.SIG_BLOCK, {signal.SIGINT})
     try:
+        os.dup2(nowhere, STDERR)
         yield
     finally:
         os.dup2(kept, STDERR)
@@ -197,8 +197,8 @@ def uninterrupted() -> Iterator[None]:
 
 
 def begin_reading() -> None:
-    """Has an interrupt end this process without a word: the one that began it says that it was interrupted. One that is ignored there, as
-    in a shell's background, is ignored here."""
+    """Lets an interrupt end this process without a message: the process that started it reports the interrupt. If that one ignores
+    interrupts, as in a shell's background, so does this one."""
     if signal.getsignal(signal.SIGINT) != signal.SIG_IGN:
         signal.signal(signal.SIGINT, signal.SIG_DFL)
     signal.pthread_sigmask(signal.SIG_UNBLOCK, {signal.SIGINT})
@@ -228,15 +228,16 @@ class Rebuilder:
         return self.summary
 
     def _all(self, found: List[Tuple[str, bool]]) -> None:
-        # The readers end with the loop, and not with this process, also where it is interrupted.
-        with closing(read_all(self._claimed(found), self.config.id, len(found) > 2)) as volumes:
-            for image, read in volumes:
-                try:
-                    self._one(image, read())
-                except (VolumeDiffers, Claimed) as error:
-                    self.summary.failures.append(str(error))
-                except BrokenProcessPool as error:
-                    raise ArchiveError("a process that reads volumes was killed: run 'rebuild' again") from error
+        try:
+            # The readers end with the loop, even if it is interrupted.
+            with closing(read_all(self._claimed(found), self.config.id, len(found) > 2)) as volumes:
+                for image, read in volumes:
+                    try:
+                        self._one(image, read())
+                    except (VolumeDiffers, Claimed) as error:
+                        self.summary.failures.append(str(error))
+        except BrokenProcessPool as error:
+            raise ArchiveError("a process that reads volumes was killed: run 'rebuild' again") from error
 
     def _look_for_others(self) -> None:
         """Volumes whose images are elsewhere leave their traces. No new one gets the number of one of them."""
