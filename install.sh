@@ -22,7 +22,7 @@ usage() {
     exit 2
 }
 
-# absolute PATH: where it is for who started this; nothing for none.
+# absolute PATH: the path, seen from the caller's folder; nothing if it is empty.
 absolute() {
     case $1 in
         '' | /*) printf '%s\n' "$1" ;;
@@ -111,8 +111,8 @@ put_library() {
     done
 }
 
-# put_starter NAME PACKAGE: a program that runs a package of ours. The folder in which it is started is left out of Python's path, since
-# a file there may have the name of any module: by Python 3.11 itself, and before that by the code.
+# put_starter NAME PACKAGE: a program that runs a package of ours. The current folder is kept out of Python's path, since a file there may
+# have the name of a module. PYTHONSAFEPATH does that from Python 3.11 on, and the code does it for earlier ones.
 put_starter() {
     put 755 - "$prefix/bin/$1" << END
 #!/bin/sh

@@ -1,4 +1,4 @@
-/* The files that volumes are in: how they are opened by their paths, and which of them this process works on. The lock of that.
+/* The files that volumes are in: how they are opened by their paths, and which of them this process works on; and the library's lock.
  * SPDX-License-Identifier: MIT OR Apache-2.0 */
 #define _POSIX_C_SOURCE 200809L
 
@@ -20,8 +20,8 @@ void udfburn_lock(void) { pthread_mutex_lock(&lock); }
 
 void udfburn_unlock(void) { pthread_mutex_unlock(&lock); }
 
-/* A fork waits for the lock. Else a child that closes a handle would wait for a thread that it has not. It is registered before a
- * program can register a lock of its own, so that this one is taken after that one, as in a call. */
+/* A fork waits for the lock. Otherwise a child that closes a handle could wait for a thread that exists only in its parent. This is
+ * registered before a program can register a lock of its own, so that a fork takes both locks in the order of a call. */
 __attribute__((constructor)) static void watch_forks(void) { pthread_atfork(udfburn_lock, udfburn_unlock, udfburn_unlock); }
 
 /* ---- By their paths ---- */

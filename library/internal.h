@@ -62,8 +62,8 @@ int udfburn_open_regular(const struct udfburn_place *place);
 /* The same, of a file that is made if the name is free. */
 int udfburn_open_or_make(const struct udfburn_place *place);
 
-/* The file under another number where it has that of a standard descriptor, since what is printed would be written to it; or -1. The
- * number that it had is closed then. */
+/* Moves a file that has the number of a standard descriptor to a higher number, since what a program prints would be written to it.
+ * The old number is closed. Returns the file's number, or -1 if it could not be moved. */
 int32_t udfburn_move_up(int32_t fd);
 
 /* Takes a file up that has at most so many whole blocks. UDFBURN_VOLUME: it has more. UDFBURN_DEVICE: no image can be had by

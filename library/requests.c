@@ -428,7 +428,7 @@ int32_t udfburn_last_number(udfburn *handle, uint64_t client, uint64_t *number) 
     return status == UDFBURN_OK ? udfburn_core_last_number(handle->core, client, number) : status;
 }
 
-/* What a call before may have left in a request is not of this one. */
+/* Clears what an earlier call left in a request. */
 static void clear(struct udfburn_request *request) {
     if (request) {
         request->commit = 0;

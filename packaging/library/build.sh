@@ -45,8 +45,8 @@ elif [ -z "$core" ]; then
     core=$PWD/crates/capi/out/libcapi.a
 fi
 
-# compile NAME..: the files of library/. What CFLAGS say of visibility and of code that is made at the link is not for these objects, from
-# which the names are taken below.
+# compile NAME..: the files of library/. CFLAGS cannot set visibility or link-time optimisation, since the names are read from these
+# objects below.
 compile() {
     for name in "$@"; do
         # shellcheck disable=SC2086
