@@ -12,7 +12,8 @@ import subprocess
 import sys
 import time
 from concurrent.futures.process import BrokenProcessPool
-from contextlib import closing, redirect_stderr
+from contextlib import closing, redirect_stderr, redirect_stdout
+from hashlib import sha256
 from io import StringIO
 from pathlib import Path
 from typing import List, Optional, Tuple
@@ -29,6 +30,7 @@ from udfburn.archive.cli import main  # noqa: E402
 from udfburn.archive.config import Config, read  # noqa: E402
 from udfburn.archive.tell import Tell  # noqa: E402
 from udfburn.archive.volume import new_row, open_new  # noqa: E402
+from udfburn.operations import now  # noqa: E402
 
 
 class WithOlder(WithArchive):
@@ -157,12 +159,47 @@ class Older(WithOlder):
         done = self.do("rebuild", self.path("older"), status=1)
         self.assertIn("older/T-000001.img: is another state of T-000001", done.errors)
         self.assertEqual((self.rows(), [volume["state"] for volume in self.volumes()]), (rows, ["open"]))
+        self.assertEqual(self.volumes()[0]["attention"], [])
+        for name, less in (("older", 0), ("same", 2048)):
+            shutil.copy(self.path(name, "T-000001.img"), image)
+            os.truncate(image, os.path.getsize(image) - less)
+            (attention,) = self.volumes()[0]["attention"]
+            self.assertRegex(attention, "^its image has [0-9]+ commits, and [0-9]+ were acknowledged: it is an older copy, or was cut short")
+        shutil.copy(self.path("same", "T-000001.img"), image)
+        self.assertEqual(self.volumes()[0]["attention"], [])
 
     def bring_nothing(self, data: Optional[bytes]) -> None:
         """Has no catalogue, or one with these bytes."""
         self.remove()
         if data is not None:
             write(self.catalogue, data)
+
+
+class Clocks(WithOlder):
+    """A machine whose clock is slow."""
+
+    def test_what_is_added_later_is_newer(self) -> None:
+        """Also in the catalogue that is made from the volumes."""
+        self.init("--delete", "acknowledged")
+        path = write(os.path.join(self.source, "f"), b"the first")
+        with mock.patch("udfburn.archive.volume.now", lambda: now() + 86_400_000_000), redirect_stdout(StringIO()):
+            self.assertEqual(main(["add", self.source, "--at", "/s", "--archive", self.archive]), 0)
+        self.require_newest(b"the first", 1)
+        write(path, b"the second one")
+        self.add()
+        self.require_newest(b"the second one", 2)
+        write(path, b"the third one of them")
+        self.do("add", path, "--at", "/s/f")
+        self.require_newest(b"the third one of them", 3)
+
+    def require_newest(self, data: bytes, versions: int) -> None:
+        for made_anew in (False, True):
+            if made_anew:
+                self.remove()
+                self.do("rebuild")
+            self.assertEqual(self.get_all()[b"f"][0], sha256(data).hexdigest())
+            sizes = [line["size"] for line in self.do("history", "/s/f").objects()[:-1]]
+            self.assertEqual((sizes[0], len(sizes)), (len(data), versions))
 
 
 class Shared(WithOlder):
@@ -292,6 +329,14 @@ class Readers(WithArchive):
                 with redirect_stderr(StringIO()) as errors:
                     status = main(["rebuild", "--dry-run", *self.images, "--archive", self.archive])
                 self.assertEqual((status, errors.getvalue()), (1, "udfburn-archive: a process that reads volumes was killed: run 'rebuild' again\n"))
+
+
+    def test_no_descriptor_is_left(self) -> None:
+        """Interrupts are not blocked afterwards."""
+        with mock.patch("udfburn.archive.rebuild.os.dup", side_effect=OSError(24, "Too many open files")), redirect_stderr(StringIO()) as errors:
+            status = main(["rebuild", "--dry-run", *self.images, "--archive", self.archive])
+        self.assertEqual((status, errors.getvalue()), (1, "udfburn-archive: [Errno 24] Too many open files\n"))
+        self.assertNotIn(signal.SIGINT, signal.pthread_sigmask(signal.SIG_BLOCK, ()))
 
 
 def readers(process: int) -> List[int]:

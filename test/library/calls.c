@@ -7,6 +7,7 @@
 
 #include <signal.h>
 #include <sys/file.h>
+#include <sys/resource.h>
 #include <sys/wait.h>
 
 static void names_of_statuses(const char *version) {
@@ -259,6 +260,32 @@ static void closed_standard_descriptors(void) {
         EXPECT(fd > 2 && is_kept);
     }
     for (int fd = 0; fd < 3; fd++) close(kept[fd]);
+}
+
+/* A descriptor that cannot get a number above the standard ones is refused, and closed. */
+static void no_number_above_the_standard_ones(void) {
+    struct rlimit before, least;
+    int kept[3];
+    EXPECT(!getrlimit(RLIMIT_NOFILE, &before));
+    least = before;
+    least.rlim_cur = 3;
+    for (int fd = 0; fd < 3; fd++) kept[fd] = fcntl(fd, F_DUPFD_CLOEXEC, 10);
+    for (int call = 0; call < 3; call++) {
+        udfburn *handle = NULL;
+        int32_t status;
+        for (int fd = 0; fd < 3; fd++) close(fd);
+        int limited = setrlimit(RLIMIT_NOFILE, &least);
+        if (call == 0) status = udfburn_open("calls.img", &handle);
+        else if (call == 1) status = udfburn_open_fd(image_at("calls.img"), &handle);
+        else status = udfburn_format_fd(image_at("calls.img"), "DISC", MOMENT, 600);
+        int open = 0, restored = setrlimit(RLIMIT_NOFILE, &before);
+        for (int fd = 0; fd < 3; fd++) open += fcntl(fd, F_GETFD) != -1;
+        for (int i = 0; i < 3; i++) dup2(kept[i], i);
+        STATUS(UDFBURN_DEVICE, status);
+        EXPECT(!limited && !restored && !open && !handle);
+    }
+    for (int fd = 0; fd < 3; fd++) close(kept[fd]);
+    udfburn_close(opened("calls.img"));
 }
 
 static void volumes_that_are_none(void) {
@@ -540,6 +567,7 @@ int main(int argc, char **argv) {
     duplicates();
     a_number_of_another_file();
     closed_standard_descriptors();
+    no_number_above_the_standard_ones();
     volumes_that_are_none();
     one_writer();
     after_fork();

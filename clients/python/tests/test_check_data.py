@@ -101,6 +101,27 @@ class Checked(WithPrograms):
         self.assertIn("no digest covers 14 files", told)
         self.assertFalse(os.path.exists(NOWHERE))
 
+    def test_a_ledger_on_a_file_system_that_is_only_read(self) -> None:
+        """With a log, as a process that was killed leaves it: what only that has counts too."""
+        folder = os.path.join(self.room, "only read")
+        os.mkdir(folder)
+        with Client(f"image:{self.image}", ledger=self.ledger, program=UDFBURN) as client:
+            client.put("/bare/later", b"later")
+            for end in ("", "-wal"):
+                shutil.copy(self.ledger + end, os.path.join(folder, "ledger.sqlite" + end))
+        script = 'mount --bind "$0" "$0" && mount -o remount,bind,ro "$0" && exec "$@"'
+        read_only = ["unshare", "-m", "sh", "-c", script, folder]
+        if subprocess.run([*read_only, "true"], capture_output=True, check=False).returncode:
+            self.skipTest("nothing can be mounted here")
+        ledger, kept = os.path.join(folder, "ledger.sqlite"), sorted(os.listdir(folder))
+        for words in (["check", "--json", "--data", self.image], ["salvage", "--json", "--list", self.image]):
+            line = [*read_only, *self.words(*words, "--ledger", ledger, where=[])]
+            done = subprocess.run(line, capture_output=True, text=True, env=self.environment(), check=False)
+            self.assertEqual((done.returncode, done.stderr), (0, ""), done.stdout)
+            last = json.loads(done.stdout.splitlines()[-1])
+            self.assertEqual(last["data"]["by_ledger"] if "data" in last else last["whole"], 42, last)
+        self.assertEqual(sorted(os.listdir(folder)), kept)
+
     def test_a_changed_byte(self) -> None:
         """In each copy of a file: the structures are sound, and each is named with its commit."""
         data = self.data["f09"]

@@ -10,7 +10,7 @@ from io import StringIO
 from typing import List
 from unittest import mock
 
-from udfburn import cli, errors as e
+from udfburn import Client, cli, errors as e
 from udfburn import protocol as p
 from udfburn.progress import Progress
 
@@ -199,6 +199,8 @@ class Commands(Local):
             if wait not in ("soon", ""):
                 with self.assertRaises(e.UsageError):
                     self.client(patience=float(wait))
+                with self.assertRaises(e.UsageError):
+                    Client(f"unix:{self.server.path}", timeout=float(wait))
         for client in ("0", "-1", str(1 << 64), "me"):
             with self.assertRaises(SystemExit) as raised, redirect_stderr(told):
                 cli.main(["mkdir", "--socket", self.server.path, f"--client={client}", "/x"])

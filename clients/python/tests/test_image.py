@@ -5,6 +5,8 @@ from __future__ import annotations
 import errno
 import os
 import shutil
+import subprocess
+import sys
 import tempfile
 import time
 import unittest
@@ -16,6 +18,8 @@ from udfburn import errors as e, past
 from udfburn.connection import Connection
 from udfburn.endpoint import Endpoint
 from udfburn.retrying import BEGINNINGS, TURN, RetryingConnection
+
+from .programs import PACKAGE
 
 
 class Image(unittest.TestCase):
@@ -87,6 +91,27 @@ class Image(unittest.TestCase):
     def test_a_copy_from_a_disk_that_is_only_read(self) -> None:
         with mock.patch("os.fsync", side_effect=OSError(errno.EINVAL, "Invalid argument")), past.front(self.image, "", None) as copy:
             self.assertEqual(os.path.getsize(copy), 8192)
+
+    def test_copies_that_killed_readers_left(self) -> None:
+        """They go when the next copy is made, and those of readers that go on stay."""
+        script = "import os, sys\nfrom udfburn import past\nwith past.front(sys.argv[1], '', None):\n    os.kill(os.getpid(), 9)\n"
+        for _ in range(2):
+            subprocess.run([sys.executable, "-c", script, self.image], check=False, env={**os.environ, "PYTHONPATH": PACKAGE})
+            (left,) = self.copies()
+            with past.front(self.image, "", None) as first, past.front(self.image, "", None) as second:
+                self.assertNotIn(left, self.copies())
+                self.assertEqual({os.path.basename(os.path.dirname(copy)) for copy in (first, second)}, set(self.copies()))
+            self.assertEqual(self.copies(), [])
+
+    def test_copies_where_there_are_no_locks(self) -> None:
+        with mock.patch("udfburn.scratch.fcntl.flock", side_effect=OSError(errno.ENOLCK, "No locks available")):
+            with past.front(self.image, "", None) as first, past.front(self.image, "", None) as second:
+                self.assertEqual([os.path.getsize(copy) for copy in (first, second)], [8192, 8192])
+        self.assertEqual(self.copies(), [])
+
+    def copies(self) -> List[str]:
+        """The folders with copies that are beside the image."""
+        return [name for name in os.listdir(self.room) if name.startswith(".udfburn-")]
 
 
 if __name__ == "__main__":

@@ -3,7 +3,7 @@
 from __future__ import annotations
 
 import argparse
-from contextlib import contextmanager
+from contextlib import ExitStack, contextmanager
 from typing import TYPE_CHECKING, Iterator, NamedTuple, Optional
 
 from .endpoint import image_key
@@ -31,8 +31,8 @@ class Checked(NamedTuple):
 @contextmanager
 def ledger_of(arguments: argparse.Namespace, progress: Progress) -> Iterator[Optional[Ledger]]:
     """The ledger that is named; else the user's own, where data is checked and it is there and free."""
-    from .ledger import Ledger, default_path
-    from .ledger_file import is_there
+    from .ledger_file import default_path, is_there
+    from .ledger_reading import ledger_to_read
 
     named: Optional[str] = arguments.ledger
     path = named or default_path()
@@ -41,18 +41,15 @@ def ledger_of(arguments: argparse.Namespace, progress: Progress) -> Iterator[Opt
             raise LedgerError(f"{shown(path)}: there is no ledger")
         yield None
         return
-    try:
-        ledger = Ledger(path, wait=WAIT if named else 0.0)
-    except LedgerBusy:
-        if named:
-            raise
-        progress.note(f"{shown(path)}: another process has this ledger, so only the manifests on the volume are compared", did="note")
-        yield None
-        return
-    try:
+    with ExitStack() as stack:
+        ledger: Optional[Ledger] = None
+        try:
+            ledger = stack.enter_context(ledger_to_read(path, WAIT if named else 0.0))
+        except LedgerBusy:
+            if named:
+                raise
+            progress.note(f"{shown(path)}: another process has this ledger, so only the manifests on the volume are compared", did="note")
         yield ledger
-    finally:
-        ledger.close()
 
 
 def look(arguments: argparse.Namespace, progress: Progress) -> Checked:

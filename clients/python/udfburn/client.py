@@ -5,6 +5,7 @@ from __future__ import annotations
 from contextlib import contextmanager
 from typing import TYPE_CHECKING, Dict, Generator, Iterable, Iterator, List, Optional, Tuple, Type, Union
 
+from .connection import LONGEST
 from .endpoint import Endpoint
 from .errors import Exists, IsDirectory, NotDirectory, NotFound, UdfburnError, UsageError
 from .retrying import RetryingConnection
@@ -26,8 +27,11 @@ class Client:
     with the C library (`library:PATH`).
 
     `ledger` is the file that keeps numbers, frames and replies; it is opened with the first request, and made where
-    it is missing. A `Ledger` that is open already is taken too, and closed with the client. `client` is this ledger's number at the volume, which is chosen at random once if none is given. A volume
-    keeps 64 clients for its life, so use one ledger a machine.
+    it is missing. A `Ledger` that is open already is taken too, and closed with the client. `client` is this ledger's number at the
+    volume, which is chosen at random once if none is given. A volume keeps 64 clients for its life, so use one ledger a machine.
+
+    `patience` is the longest time, in seconds from 0 on, for which what is busy or gone is tried again without progress. `timeout` is
+    the longest wait for an answer, in seconds above 0 and at most a million. Others raise `UsageError`.
 
     A conversation is begun with a call and ended after it, since a daemon serves one after another; `held` keeps it
     for several calls. The library holds an image from the first call until `close`.
@@ -45,6 +49,8 @@ class Client:
     ):
         if not 0 <= patience < float("inf"):
             raise UsageError(f"{patience!r} is not a number of seconds: give a number from 0 on")
+        if not 0 < timeout <= LONGEST:
+            raise UsageError(f"{timeout!r} is not a valid timeout: give a number of seconds above 0, at most {LONGEST:,.0f}")
         self.endpoint = Endpoint(connect, program)
         self.line = RetryingConnection(self.endpoint, patience, timeout)
         self._wanted = client

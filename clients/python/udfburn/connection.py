@@ -16,6 +16,8 @@ from .protocol import Answer, Frames, decode_answer, is_bytes, shown
 PIECE = 1 << 18
 """Bytes that are read or written at once."""
 
+LONGEST = 1e6
+"""The longest wait for an answer, in seconds: the system counts them in milliseconds of 32 bits."""
 
 SENT = 1 << 20
 """Bytes that may be on their way to a daemon, if the system allows it."""

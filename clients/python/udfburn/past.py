@@ -13,11 +13,15 @@ from typing import Iterator, List, NamedTuple, Optional
 from .connection import run_program
 from .errors import ProgramFailed, UsageError
 from .protocol import limits
+from .scratch import own_folder, sweep
 
 CLONE = 0x40049409
 """The call of Linux by which a file shares the blocks of another (FICLONE)."""
 
 PIECE = 1 << 20
+
+PREFIX = ".udfburn-front-"
+"""How the names of folders with a copy begin. The next reader removes those that killed ones left."""
 
 
 class Commit(NamedTuple):
@@ -75,7 +79,9 @@ def front(image: str, program: str, commit: Optional[int]) -> Iterator[str]:
     """A copy of the image as it was after a commit, or as it is now; gone at the end."""
     size = os.path.getsize(image) if commit is None else (address_of(image, program, commit) + 1) * limits.BLOCK
     require_synced(image)
-    folder = tempfile.mkdtemp(prefix=".udfburn-", dir=room(image))
+    above = room(image) or tempfile.gettempdir()
+    sweep(above, PREFIX)
+    folder, lock = own_folder(above, PREFIX)
     try:
         target = os.path.join(folder, "front.img")
         with open(target, "xb"):
@@ -84,6 +90,8 @@ def front(image: str, program: str, commit: Optional[int]) -> Iterator[str]:
         yield target
     finally:
         shutil.rmtree(folder, ignore_errors=True)
+        if lock is not None:
+            os.close(lock)
 
 
 def require_synced(image: str) -> None:

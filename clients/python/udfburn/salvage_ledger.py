@@ -28,15 +28,14 @@ def commits_of(path: str, volume: Volume, seen: Iterable[Tuple[int, int, Optiona
     do not agree at all.
     """
     from .digests import Files
-    from .ledger import Ledger
+    from .ledger_reading import ledger_to_read
 
     if not os.path.exists(path):
         raise UsageError(f"{shown(path)}: there is no ledger")
     found = list(seen)
     best: Commits = {}
     most = 0
-    ledger = Ledger(path, wait=wait)
-    try:
+    with ledger_to_read(path, wait) as ledger:
         for known in ledger.volumes():
             if known.identity is not None and not is_same(known.identity, volume):
                 continue
@@ -44,8 +43,6 @@ def commits_of(path: str, volume: Volume, seen: Iterable[Tuple[int, int, Optiona
             count = agreement(commits, found)
             if count > most:
                 best, most = commits, count
-    finally:
-        ledger.close()
     return best
 
 

@@ -6,6 +6,7 @@ import argparse
 import math
 from typing import TYPE_CHECKING, Any, Callable, Dict, Optional, Union
 
+from .connection import LONGEST
 from .protocol import limits
 
 if TYPE_CHECKING:
@@ -16,9 +17,6 @@ Run = Callable[[argparse.Namespace], int]
 
 WAIT, ANSWER = 10.0, 120.0
 """Seconds for which what is busy or gone is tried again, and for which an answer is awaited, where no --wait is given."""
-
-LONGEST = 1e6
-"""The longest wait for an answer, in seconds: the system counts them in milliseconds of 32 bits."""
 
 
 def seconds(text: str) -> float:

@@ -4,7 +4,7 @@ from __future__ import annotations
 
 import os
 import socket
-from contextlib import closing
+from contextlib import closing, suppress
 from typing import Iterable, List, NamedTuple, Optional, Sequence, Tuple
 
 from ..errors import SourceError
@@ -67,6 +67,7 @@ class Adder:
             filler = Filler(
                 self.config, self.catalogue, claims, self.tell, run_text(wanted), self._kept, self._failed, not self.options.each,
             )
+            filler.after = self._last_added(path for _, path in wanted)
             self.summary.failures += filler.refused.values()
             self.deleter.refused = filler.refused
             with closing(filler), closing(self.deleter):
@@ -76,6 +77,15 @@ class Adder:
         self.summary.deleted = self.deleter.deleted
         self.summary.failures += self.deleter.failures
         return self.summary
+
+    def _last_added(self, paths: Iterable[Path]) -> int:
+        """The latest moment at which something there was added: what comes now is newer, though this machine's clock may be slow."""
+        latest = 0
+        for path in paths:
+            # A path that cannot be stored is reported with its files.
+            with suppress(CannotStore):
+                latest = max(latest, self.catalogue.last_added(path))
+        return latest
 
     def _below(self, local: str, path: Path, filler: Filler) -> None:
         walk = Walk(self.config.folder)

@@ -15,11 +15,11 @@ import stat
 from contextlib import suppress
 from functools import lru_cache
 from shutil import rmtree
-from tempfile import mkdtemp
 from typing import IO, Optional, Type
 
 from ..ledger_file import remove, sync_folder
 from ..protocol import limits
+from ..scratch import own_folder, sweep
 from ..sources import shown
 from .config import write_file
 from .errors import ArchiveError, VolumeDiffers
@@ -107,41 +107,13 @@ def memory_folder() -> Optional[str]:
         status = os.lstat(above)
         if not stat.S_ISDIR(status.st_mode) or status.st_uid != os.geteuid() or status.st_mode & 0o077:
             return None
-        for name in os.listdir(above):
-            sweep(os.path.join(above, name))
-        return own_folder(above)
+        sweep(above, "")
+        # The lock goes with this process.
+        folder, _ = own_folder(above, "")
     except OSError:
-        return None
-
-
-def own_folder(above: str) -> Optional[str]:
-    """A new folder with a lock that lasts as long as this process; None where somebody took it for one that was left."""
-    folder = mkdtemp(dir=above)
-    descriptor = folder_lock(folder)
-    if descriptor is None or not os.path.isdir(folder):
         return None
     atexit.register(rmtree, folder, ignore_errors=True)
     return folder
-
-
-def folder_lock(folder: str) -> Optional[int]:
-    """A descriptor with the lock of a folder; None where another process has it."""
-    descriptor = os.open(folder, os.O_RDONLY | os.O_DIRECTORY | os.O_CLOEXEC)
-    try:
-        fcntl.flock(descriptor, fcntl.LOCK_EX | fcntl.LOCK_NB)
-        return descriptor
-    except BlockingIOError:
-        os.close(descriptor)
-        return None
-
-
-def sweep(folder: str) -> None:
-    """Removes the folder of a process that was killed."""
-    with suppress(OSError):
-        descriptor = folder_lock(folder)
-        if descriptor is not None:
-            rmtree(folder, ignore_errors=True)
-            os.close(descriptor)
 
 
 def has_room(folder: str, wanted: int) -> bool:

@@ -308,6 +308,15 @@ class Catalogue:
         rows = [held_row(path[:-1], row) for row in self.base.run(statement, (folder, name, folder))]
         return sorted(rows, key=order, reverse=True)
 
+    def last_added(self, path: Path) -> int:
+        """The latest moment at which something at a path or below it was added; 0 where nothing was."""
+        held = max((row.added for row in self.of_path(path)), default=0)
+        low, high = below(path)
+        statement = """SELECT max(file.added) FROM folder JOIN file ON file.folder = folder.id
+        WHERE folder.path = ? OR (folder.path >= ? AND folder.path < ?)"""
+        found = self.base.run(statement, (folder_text(path), low, high))
+        return max(held, int(found[0][0] or 0))
+
     def of_volume(self, number: int) -> List[Held]:
         """The rows of a volume, in order of their commits."""
         statement = f"""SELECT {FILE}, folder.path FROM file JOIN folder ON folder.id = file.folder
@@ -317,10 +326,8 @@ class Catalogue:
 
     def folders_below(self, path: Path) -> Iterator[Path]:
         """A folder and those below it that have files, in order of their paths."""
-        text = folder_text(path)
-        low, high = (text + "/", text + "0") if text else ("/", "0")
         statement = "SELECT path FROM folder WHERE path = ? OR (path >= ? AND path < ?) ORDER BY path"
-        for (found,) in self.base.run(statement, (text, low, high)):
+        for (found,) in self.base.run(statement, (folder_text(path), *below(path))):
             yield folder_back(found)
 
     def children(self, path: Path) -> Iterator[str]:
@@ -338,6 +345,12 @@ class Catalogue:
                 yield name_back(name)
             # Other names may come between a folder and what is below it, as `a b` does.
             low, than = (text + name, ">") if found[0][0] == text + name else (text + name + "0", ">=")
+
+
+def below(path: Path) -> Tuple[str, str]:
+    """The texts of all folders below one: from the first one on, and before the second one."""
+    text = folder_text(path)
+    return text + "/", text + "0" if text else "0"
 
 
 def folder_text(path: Path) -> str:

@@ -46,6 +46,8 @@ class Filler:
         # What an earlier run left comes first, so that the catalogue has all that the volumes have.
         self.refused: Dict[int, str] = {}
         """The volumes that this run does not use, and why."""
+        self.after = 0
+        """The run counts as begun after this moment, even where the clock is slow."""
         for volume in own_volumes(config, catalogue, claims, batches, self.refused):
             self.open.append(volume)
 
@@ -119,7 +121,7 @@ class Filler:
     def _mark(self, volume: OpenVolume) -> None:
         """Plans the text that notes the run, before the first file."""
         if volume.marker is None:
-            volume.plan_marker(self.text)
+            volume.plan_marker(self.text, self.after)
 
     def _is_enough(self, volume: OpenVolume) -> bool:
         return len(self.planned[volume.row.number]) >= BATCH_FILES or self.weights[volume.row.number] >= BATCH_BYTES

@@ -13,7 +13,7 @@ from .config import Config
 from .errors import LOST, VolumeDiffers
 from .tell import shown_path
 from .tree import MANIFEST
-from .volume import is_damaged
+from .volume import look
 
 STALE = 400 * 86_400 * 1_000_000
 """Microseconds after which a closed volume should be looked at again."""
@@ -87,9 +87,14 @@ def cut_short(config: Config, row: VolumeRow) -> List[str]:
 def damaged(config: Config, row: VolumeRow) -> List[str]:
     """What is to be known of an open image that no command can fill or close."""
     image = config.path("open", row.label + ".img")
-    if row.holder != config.id or row.state == CLOSED or not os.path.isfile(image) or not is_damaged(image):
+    if row.holder != config.id or row.state == CLOSED or not os.path.isfile(image):
         return []
-    return [f"its image is damaged, and takes no more: 'udfburn check' says where, and {LOST}"]
+    found = look(image)
+    if found.damaged:
+        return [f"its image is damaged, and takes no more: 'udfburn check' says where, and {LOST}"]
+    if found.commit is not None and found.commit < row.last_commit:
+        return [f"its image has {found.commit} commits, and {row.last_commit} were acknowledged: it is an older copy, or was cut short: bring the right one back, or {LOST}"]
+    return []
 
 
 def lines(config: Config, catalogue: Catalogue) -> List[Line]:

@@ -5,7 +5,7 @@ from __future__ import annotations
 import os
 import time
 from contextlib import closing
-from typing import Callable, Dict, Iterable, Iterator, List, Optional, Tuple
+from typing import Callable, Dict, Iterable, Iterator, List, NamedTuple, Optional, Tuple
 
 from ..blocks import Space
 from ..client import Client
@@ -15,7 +15,7 @@ from ..errors import ConnectionFailed, Damaged, DiskFull, DriveFailed, Full, Num
 from ..ledger import Ledger, MemoryLedger, Volume as Known
 from ..ledger_file import sync_folder
 from ..manifest import PAYLOAD
-from ..operations import Operation, Outcome, now
+from ..operations import Operation, Outcome, clamped, now
 from ..protocol import Code, Create, MakeDir, Path, Remove, limits
 from ..reader import Kind
 from .bag import manifest_size
@@ -280,9 +280,9 @@ class OpenVolume:
         ledger, known = self._in_ledger()
         return {} if known is None else {commit: file.sha256 for commit, file in Files(ledger, known).by_commit.items()}
 
-    def plan_marker(self, text: str) -> None:
-        """Plans the text that notes a run before its first file."""
-        self.began = now()
+    def plan_marker(self, text: str, after: int) -> None:
+        """Plans the text that notes a run before its first file. Its moment is later than another one."""
+        self.began = clamped(max(now(), after + 1))
         path: Path = (RUNS, f"{self.runs + 1:05}.txt")
         self.tree.small(path, len(text))
         self.runs += 1
@@ -307,18 +307,30 @@ class OpenVolume:
 
 
 def is_damaged(image: str) -> bool:
-    """Whether the program would write nothing to an image. It looks at a few blocks, and not at those that a batch is adding."""
+    """Whether the program would write nothing to an image."""
+    return look(image).damaged
+
+
+class Look(NamedTuple):
+    """What the program finds in an image: whether it would write nothing to it, and its newest commit where that is known."""
+
+    damaged: bool
+    commit: Optional[int] = None
+
+
+def look(image: str) -> Look:
+    """Looks at a few blocks of an image, and not at those that a batch is adding."""
     if sound_length(image) is not None:
-        return False
+        return Look(False)
     try:
-        run_program(find_program(), ["log", image])
+        lines = run_program(find_program(), ["log", image])
+        return Look(False, int(lines.split(maxsplit=1)[0]))
     except ProgramFailed as error:
         # With cause 78 only an earlier state is damaged.
-        return any(code in str(error) for code in ("66 NotFormatted", "67 Damaged")) and "cause 78" not in str(error)
+        return Look(any(code in str(error) for code in ("66 NotFormatted", "67 Damaged")) and "cause 78" not in str(error))
     except UsageError:
         # The program is not at hand. Whatever writes to the image needs it, and says so.
-        return False
-    return False
+        return Look(False)
 
 
 def new_row(config: Config, catalogue: Catalogue) -> VolumeRow:
@@ -377,4 +389,4 @@ def taken_up(volume: OpenVolume) -> OpenVolume:
     return volume
 
 
-__all__ = ["OpenVolume", "is_damaged", "new_row", "open_new", "own_volumes"]
+__all__ = ["Look", "OpenVolume", "is_damaged", "look", "new_row", "open_new", "own_volumes"]
