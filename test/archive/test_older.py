@@ -330,7 +330,6 @@ class Readers(WithArchive):
                     status = main(["rebuild", "--dry-run", *self.images, "--archive", self.archive])
                 self.assertEqual((status, errors.getvalue()), (1, "udfburn-archive: a process that reads volumes was killed: run 'rebuild' again\n"))
 
-
     def test_no_descriptor_is_left(self) -> None:
         """Interrupts are not blocked afterwards."""
         with mock.patch("udfburn.archive.rebuild.os.dup", side_effect=OSError(24, "Too many open files")), redirect_stderr(StringIO()) as errors:

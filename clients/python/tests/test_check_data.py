@@ -3,6 +3,7 @@ alone, by a ledger alone, and without the source."""
 
 from __future__ import annotations
 
+import errno
 import hashlib
 import json
 import os
@@ -14,8 +15,10 @@ import tempfile
 import unittest
 from contextlib import closing
 from typing import Any, Dict, List
+from unittest import mock
 
-from udfburn import Client
+from udfburn import Client, errors as e
+from udfburn.ledger_reading import ledger_to_read
 
 from .programs import UDFBURN, WithPrograms
 
@@ -121,6 +124,20 @@ class Checked(WithPrograms):
             last = json.loads(done.stdout.splitlines()[-1])
             self.assertEqual(last["data"]["by_ledger"] if "data" in last else last["whole"], 42, last)
         self.assertEqual(sorted(os.listdir(folder)), kept)
+        # A process to which it is not read-only may have it.
+        with Client(f"image:{self.image}", ledger=self.ledger, program=UDFBURN) as client:
+            client.put("/bare/last", b"last")
+            line = ["unshare", "-m", "sh", "-c", script, self.room, *self.words("check", "--data", self.image, where=[])]
+            done = subprocess.run(line, capture_output=True, text=True, env=self.environment(), check=False)
+            self.assertEqual(done.returncode, 0, done.stderr)
+            self.assertIn("another process has this ledger, so only the manifests", done.stdout + done.stderr)
+
+    def test_a_copy_of_a_ledger_without_room(self) -> None:
+        refused = OSError(errno.EROFS, "Read-only file system")
+        full = OSError(errno.ENOSPC, "No space left on device")
+        with mock.patch("udfburn.ledger_reading.Ledger", side_effect=refused), mock.patch("udfburn.ledger_reading.shutil.copyfile", side_effect=full):
+            with self.assertRaisesRegex(e.LedgerError, "cannot be copied .*No space left"), ledger_to_read(self.ledger, 0.0):
+                self.fail("it was read")
 
     def test_a_changed_byte(self) -> None:
         """In each copy of a file: the structures are sound, and each is named with its commit."""

@@ -7,6 +7,7 @@ import os
 import sqlite3
 import stat
 import time
+from typing import Callable
 
 from .errors import LedgerBusy, LedgerError
 
@@ -103,16 +104,21 @@ def connect(path: str) -> sqlite3.Connection:
     return base
 
 
+def await_lock(take: Callable[[], bool], path: str, wait: float) -> None:
+    """Tries to take a lock of a ledger, again and again for so many seconds, and once at least."""
+    limit = time.monotonic() + wait
+    while not take():
+        if time.monotonic() >= limit:
+            raise LedgerBusy(f"{path}: another process has this ledger: wait for it, or use another with --ledger")
+        time.sleep(0.05)
+
+
 class Lock:
     """The lock of a ledger: a file beside it, since closing the database would give up locks on the database itself."""
 
     def __init__(self, path: str, wait: float):
         self.path = path + ".lock"
-        limit = time.monotonic() + wait
-        while not self._take():
-            if time.monotonic() >= limit:
-                raise LedgerBusy(f"{path}: another process has this ledger: wait for it, or use another with --ledger")
-            time.sleep(0.05)
+        await_lock(self._take, path, wait)
 
     def _take(self) -> bool:
         """Tries once. `made` is whether the file was not there."""
@@ -139,4 +145,4 @@ class Lock:
         os.close(self.descriptor)
 
 
-__all__ = ["Lock", "connect", "default_path", "is_there", "lengthen", "make_folder", "remove", "sync_file", "sync_folder"]
+__all__ = ["Lock", "await_lock", "connect", "default_path", "is_there", "lengthen", "make_folder", "remove", "sync_file", "sync_folder"]

@@ -3,6 +3,7 @@
 from __future__ import annotations
 
 import errno
+import fcntl
 import os
 import shutil
 from contextlib import ExitStack, contextmanager
@@ -11,6 +12,7 @@ from typing import Iterator
 
 from .errors import LedgerError
 from .ledger import Ledger
+from .ledger_file import await_lock
 from .protocol import shown
 
 NOT_WRITABLE = (errno.EROFS, errno.EACCES, errno.EPERM)
@@ -20,6 +22,7 @@ NOT_WRITABLE = (errno.EROFS, errno.EACCES, errno.EPERM)
 @contextmanager
 def ledger_to_read(path: str, wait: float) -> Iterator[Ledger]:
     """A ledger. Where nothing can be written beside it, as on a read-only file system, a copy of it is read."""
+    path = os.path.realpath(path)
     with ExitStack() as stack:
         try:
             ledger = Ledger(path, wait=wait)
@@ -27,9 +30,36 @@ def ledger_to_read(path: str, wait: float) -> Iterator[Ledger]:
             if error.errno not in NOT_WRITABLE:
                 raise
             folder = stack.enter_context(TemporaryDirectory(prefix="udfburn-ledger-"))
-            ledger = opened_copy(path, copied(path, folder))
+            with unchanged(path, wait):
+                copy = copied(path, folder)
+            ledger = opened_copy(path, copy)
         stack.callback(ledger.close)
         yield ledger
+
+
+@contextmanager
+def unchanged(path: str, wait: float) -> Iterator[None]:
+    """Keeps out processes that can write the ledger, as those outside of a container for which it is read-only."""
+    try:
+        descriptor = os.open(path + ".lock", os.O_RDONLY | os.O_CLOEXEC)
+    except FileNotFoundError:
+        # Whoever has the ledger has made this file.
+        yield
+        return
+    try:
+        await_lock(lambda: is_locked(descriptor), path, wait)
+        yield
+    finally:
+        os.close(descriptor)
+
+
+def is_locked(descriptor: int) -> bool:
+    """Tries to take a lock that readers share. Where there are no locks, as on a disc, nobody else has one."""
+    try:
+        fcntl.flock(descriptor, fcntl.LOCK_SH | fcntl.LOCK_NB)
+        return True
+    except OSError as error:
+        return error.errno not in (errno.EAGAIN, errno.EINTR)
 
 
 def opened_copy(path: str, copy: str) -> Ledger:
@@ -50,7 +80,7 @@ def copied(path: str, folder: str) -> str:
             if not end or os.path.exists(path + end):
                 shutil.copyfile(path + end, copy + end)
     except OSError as error:
-        raise LedgerError(f"{shown(path)}: cannot be read ({error.strerror or error})") from error
+        raise LedgerError(f"{shown(path)}: cannot be copied to a temporary folder, where it would be read ({error.strerror or error})") from error
     return copy
 
 

@@ -37,6 +37,9 @@ def folder_lock(folder: str) -> Optional[int]:
     except BlockingIOError:
         os.close(descriptor)
         return None
+    except OSError:
+        os.close(descriptor)
+        raise
 
 
 def sweep(above: str, prefix: str) -> None:

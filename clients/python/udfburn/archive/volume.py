@@ -281,7 +281,7 @@ class OpenVolume:
         return {} if known is None else {commit: file.sha256 for commit, file in Files(ledger, known).by_commit.items()}
 
     def plan_marker(self, text: str, after: int) -> None:
-        """Plans the text that notes a run before its first file. Its moment is later than another one."""
+        """Plans the text that notes a run before its first file. The run counts as begun after the moment `after`."""
         self.began = clamped(max(now(), after + 1))
         path: Path = (RUNS, f"{self.runs + 1:05}.txt")
         self.tree.small(path, len(text))
