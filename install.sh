@@ -112,13 +112,17 @@ put_library() {
 }
 
 # put_starter NAME PACKAGE: a program that runs a package of ours. The current folder is kept out of Python's path, since a file there may
-# have the name of a module. PYTHONSAFEPATH does that from Python 3.11 on, and the code does it for earlier ones.
+# have the name of a module. PYTHONSAFEPATH does that from Python 3.11 on, and the code does it for earlier ones. An interrupt while the
+# package loads ends the program with 130, as later ones do.
 put_starter() {
     put 755 - "$prefix/bin/$1" << END
 #!/bin/sh
 PYTHONSAFEPATH=1 PYTHONPATH=$python_dir\${PYTHONPATH:+:\$PYTHONPATH} exec python3 -c 'import sys
 if not sys.path[0]: del sys.path[0]
-from $2.cli import main
+try:
+    from $2.cli import main
+except KeyboardInterrupt:
+    sys.exit(130)
 sys.exit(main())' "\$@"
 END
 }

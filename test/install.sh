@@ -165,6 +165,14 @@ fi
 DESTDIR=$room/root ./install.sh --uninstall /usr/local > "$room/listed" 2> "$room/errors"
 holds 'nothing is left of the client' [ -z "$(files "$room/root")" ]
 
+# interrupted NAME: whether an installed program that is interrupted while it loads a module ends with 130 and prints nothing.
+interrupted() {
+    status=0
+    PYTHONPATH=$room/interrupted "$prefix/bin/$1" --help > "$room/told" 2>&1 || status=$?
+    cat "$room/told"
+    [ "$status" -eq 130 ] && [ ! -s "$room/told" ]
+}
+
 # A prefix of one's own: the programs run from there.
 prefix=$room/prefix
 holds 'it installs into a prefix' ./install.sh "$prefix"
@@ -177,6 +185,9 @@ if [ -d clients/python/udfburn ] && [ -f clients/python/udfburn/__main__.py ]; t
         mkdir "$room/modules"
         for module in argparse json socket udfburn; do echo 'raise SystemExit(9)' > "$room/modules/$module.py"; done
         holds 'it takes no module from the folder where it is started' sh -c 'cd "$1/modules" && "$2/bin/udfburn-client" --help' - "$room" "$prefix"
+        mkdir "$room/interrupted"
+        echo 'raise KeyboardInterrupt' > "$room/interrupted/argparse.py"
+        holds 'an interrupt while it loads ends it with 130 and no traceback' interrupted udfburn-client
         # Its page has the options that its commands have.
         for command in put get ls mkdir mv rm verify resume map format status check seal salvage log; do
             "$prefix/bin/udfburn-client" "$command" --help
@@ -187,6 +198,7 @@ if [ -d clients/python/udfburn ] && [ -f clients/python/udfburn/__main__.py ]; t
         holds 'its page has its options' same "$room/wanted" sort -u "$room/page"
         if python3 -c 'import tomllib' 2> "$room/which"; then
             holds 'the installed archive says its words' "$prefix/bin/udfburn-archive" --help
+            holds 'an interrupt while the archive loads ends it with 130 and no traceback' interrupted udfburn-archive
             holds 'the archive takes no module from there' sh -c 'cd "$1/modules" && "$2/bin/udfburn-archive" --help' - "$room" "$prefix"
             for command in init add ls find history where get status close check repair rebuild adopt report; do
                 "$prefix/bin/udfburn-archive" "$command" --help

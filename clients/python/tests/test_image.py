@@ -94,20 +94,37 @@ class Image(unittest.TestCase):
 
     def test_copies_that_killed_readers_left(self) -> None:
         """They go when the next copy is made, and those of readers that go on stay."""
-        script = "import os, sys\nfrom udfburn import past\nwith past.front(sys.argv[1], '', None):\n    os.kill(os.getpid(), 9)\n"
         for _ in range(2):
-            subprocess.run([sys.executable, "-c", script, self.image], check=False, env={**os.environ, "PYTHONPATH": PACKAGE})
-            (left,) = self.copies()
+            left = self.left()
             with past.front(self.image, "", None) as first, past.front(self.image, "", None) as second:
                 self.assertNotIn(left, self.copies())
                 self.assertEqual({os.path.basename(os.path.dirname(copy)) for copy in (first, second)}, set(self.copies()))
             self.assertEqual(self.copies(), [])
+
+    def test_a_copy_that_cannot_be_removed(self) -> None:
+        """It stays until a later reader can remove it, and no reader fails for it."""
+        left = self.left()
+        for call in ("os.listdir", "rmtree"):
+            with self.subTest(call), mock.patch(f"udfburn.scratch.{call}", side_effect=OSError(errno.EIO, "Input/output error")) as failing:
+                with past.front(self.image, "", None) as copy:
+                    self.assertEqual(os.path.getsize(copy), 8192)
+            failing.assert_called()
+            self.assertEqual(self.copies(), [left])
+        with past.front(self.image, "", None):
+            self.assertNotIn(left, self.copies())
 
     def test_copies_where_there_are_no_locks(self) -> None:
         with mock.patch("udfburn.scratch.fcntl.flock", side_effect=OSError(errno.ENOLCK, "No locks available")):
             with past.front(self.image, "", None) as first, past.front(self.image, "", None) as second:
                 self.assertEqual([os.path.getsize(copy) for copy in (first, second)], [8192, 8192])
         self.assertEqual(self.copies(), [])
+
+    def left(self) -> str:
+        """The folder with the copy that a reader left when it was killed."""
+        script = "import os, sys\nfrom udfburn import past\nwith past.front(sys.argv[1], '', None):\n    os.kill(os.getpid(), 9)\n"
+        subprocess.run([sys.executable, "-c", script, self.image], check=False, env={**os.environ, "PYTHONPATH": PACKAGE})
+        (left,) = self.copies()
+        return left
 
     def copies(self) -> List[str]:
         """The folders with copies that are beside the image."""

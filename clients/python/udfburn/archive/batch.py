@@ -17,6 +17,7 @@ from functools import lru_cache
 from shutil import rmtree
 from typing import IO, Optional, Type
 
+from ..disk import room_left
 from ..ledger_file import remove, sync_folder
 from ..protocol import limits
 from ..scratch import own_folder, sweep
@@ -118,8 +119,8 @@ def memory_folder() -> Optional[str]:
 
 def has_room(folder: str, wanted: int) -> bool:
     """Whether there is memory for a copy, and as much again for others."""
-    found = os.statvfs(folder)
-    if found.f_bavail * found.f_frsize < 2 * wanted:
+    left = room_left(folder)
+    if left is None or left < 2 * wanted:
         return False
     try:
         with open("/proc/meminfo", encoding="ascii") as file:

@@ -6,13 +6,14 @@ import argparse
 from datetime import datetime, timezone
 from typing import Dict, Optional
 
+from ..disk import room_left
 from ..errors import UsageError
 from ..sources import shown
 from .catalogue import Catalogue
 from .config import config_of
 from .get import Getter, once, require_folder, wanted
 from .names import path_of
-from .status import Line, incomplete, lines, room
+from .status import Line, incomplete, lines
 from .tell import plural, size, stamp, tell_of
 
 
@@ -71,7 +72,7 @@ def status(arguments: argparse.Namespace) -> int:
             tell.say(f"    ! {text}")
     for path, where in lacking:
         tell.say(f"    ! {path}: parts are missing (those on {where} are there): add the file again", did="incomplete", path=path, volumes=where)
-    files, left = sum(line.row.files for line in found), room(config)
+    files, left = sum(line.row.files for line in found), room_left(config.folder)
     words = f"{config.label}: {plural(len(found), 'volume', 'volumes')}, {plural(files, 'file', 'files')}"
     words += f", {size(left)} left on the disk" if left is not None else ""
     tell.result(

@@ -4,7 +4,7 @@ from __future__ import annotations
 
 import os
 import time
-from typing import Dict, List, NamedTuple, Optional, Tuple
+from typing import Dict, List, NamedTuple, Tuple
 
 from ..protocol import limits
 from .batch import sound_length
@@ -122,12 +122,3 @@ def incomplete(catalogue: Catalogue) -> List[Tuple[str, str]]:
         groups.setdefault(held.version(), []).append(held)
     lacking = [group for group in groups.values() if not is_whole(group)]
     return [(shown_path(group[0].path), ", ".join(f"{catalogue.config.label}-{held.volume:06}" for held in group)) for group in lacking]
-
-
-def room(config: Config) -> Optional[int]:
-    """Bytes that the disk of the archive's folder has left."""
-    try:
-        found = os.statvfs(config.folder)
-    except OSError:
-        return None
-    return found.f_bavail * found.f_frsize
