@@ -182,6 +182,9 @@ def _shared(v: Vectors) -> None:
     blocks += [directory(10, 1, A), root_entry(1, 80, 10), used([0, 11, 5], 9, commits=2), entry_of_table(208, 12, 13)]
     v.case("an-entry-of-one-virtual-address", of + "an_entry_is_that_of_one_virtual_address", "bytes {formatted}", "bytes " + words(blocks),
            f"states 270 266 270 -> commits 2 ; {told((262, 21))} ; commits 2")
+    blocks = [used([0, 7, 7], 9, commits=2), entry_of_table(208, 10, 11)]
+    v.case("the-roots-entry-at-another-address", "", "bytes {created}", "bytes " + words(blocks),
+           f"states 266 268 -> commits 1 ; {told((264, 21))}")
 
 
 def _fronts(v: Vectors) -> None:
