@@ -5,6 +5,7 @@
 # usage: test/archive.sh [--large] [UDFBURN [NAME..]]
 # --large adds what takes long: 200 kills, 3 GB, 10^7 rows. A NAME is a module of test/archive, as test_commands. Its last line is
 # 'archive: N passed, M failed'. It takes Python 3.11 or later; PYTHON names another than Debian's, which has the driver of PostgreSQL.
+# ANEW=1 of the environment gives each command a Python of its own.
 set -u
 home=$(cd "$(dirname "$0")" && pwd)
 suite=archive
@@ -44,10 +45,12 @@ cd "$home" || exit 1
 room=$(mktemp -d) || exit 1
 trap 'rm -rf "$output" "$room"' EXIT
 # Where no compiled files are kept, each command compiles the client anew. From a copy that is compiled once it takes half the
-# processor time.
+# processor time. Most commands take less again: each is a child of a process that has imported the client, as tests/forked.py has it.
 PACKAGE=$room/python
 export PACKAGE
-mkdir "$PACKAGE" && cp -R "$home/../clients/python/udfburn" "$PACKAGE" && "$python" -m compileall -q "$PACKAGE" || exit 1
+client=$home/../clients/python
+mkdir -p "$PACKAGE/tests" && cp -R "$client/udfburn" "$PACKAGE" && cp "$client/tests/__init__.py" "$client/tests/forked.py" "$PACKAGE/tests" &&
+    "$python" -m compileall -q "$PACKAGE" || exit 1
 kernel() {
     ./packages.sh --lists > "$room/apt.log" 2>&1
     package=$(apt-cache depends linux-image-cloud-amd64 | sed -n 's/.*Depends: \(linux-image-[0-9].*\)/\1/p' | head -n 1)

@@ -2,7 +2,8 @@
 # The Python client: its unit tests, and its tests over the built programs.
 #
 # usage: test/client.sh [UDFBURN UDFBURND]
-# KILLS of the environment is how often clients and daemons are killed (200). TIMES=1 reports which tests take long.
+# KILLS of the environment is how often clients and daemons are killed (200). TIMES=1 reports which tests take long. ANEW=1 gives
+# each command a Python of its own.
 # Its last line is 'client: N passed, M failed'. It takes a POSIX shell, Python 3.9 or later (PYTHON names another) and a C
 # compiler, cc, for the library by which the client's calls are followed.
 set -u
@@ -35,7 +36,7 @@ trap 'rm -rf "$room"' EXIT
 trap 'exit 1' HUP INT PIPE TERM
 output=$room/output
 # Where no compiled files are kept, each command compiles the client anew. From a copy that is compiled once it takes half the
-# processor time, and the folder of the client stays as it is.
+# processor time, and the folder of the client stays as it is. Most commands take less again: see tests/forked.py there.
 mkdir "$room/clients" && cp -R "$here/clients/python" "$room/clients/python" || exit 1
 ln -s "$here/crates" "$here/docs" "$room" || exit 1
 cd "$room/clients/python" || exit 1

@@ -2,6 +2,7 @@
 
 from __future__ import annotations
 
+import atexit
 import glob
 import importlib.util
 import os
@@ -15,9 +16,12 @@ import time
 import unittest
 from typing import Any, List, Optional
 
-from .support import PATIENCE
+from .support import COMMANDS, PATIENCE, wait_until
 
 PORT = 5432
+
+_kept: List[str] = []
+"""The files of a server as `initdb` made them, once there are some."""
 
 
 def programs() -> Optional[str]:
@@ -39,6 +43,7 @@ class Server:
         if folder is None or not driver():
             test.skipTest("PostgreSQL or python3-psycopg is not installed")
         assert folder
+        COMMANDS.modules.append("psycopg")
         self.programs = folder
         self.room = tempfile.mkdtemp(prefix="pg-")
         self.data = os.path.join(self.room, "data")
@@ -48,7 +53,7 @@ class Server:
         test.addCleanup(shutil.rmtree, self.room, ignore_errors=True)
         test.addCleanup(self.stop)
         if primary is None:
-            self._run("initdb", "-A", "trust", "-U", "postgres", "-E", "UTF8", "--no-sync", self.data)
+            self._make_data()
         else:
             self._run("pg_basebackup", "-h", primary.room, "-U", "postgres", "-D", self.data, "-R", "-X", "stream", "-c", "fast", "--no-sync")
         self.start()
@@ -68,6 +73,17 @@ class Server:
             [os.path.join(self.programs, name), *words], check=True, stdout=subprocess.DEVNULL, stderr=subprocess.DEVNULL,
             preexec_fn=self._as_user(), cwd="/", timeout=PATIENCE,
         )
+
+    def _make_data(self) -> None:
+        """The files of a new server. Each server of this process has a copy of the first one's, as they were before it ran: to copy them
+        takes a tenth of the time."""
+        if not _kept:
+            folder = tempfile.mkdtemp(prefix="pg-")
+            os.chown(folder, self.user.pw_uid, self.user.pw_gid)
+            atexit.register(shutil.rmtree, folder, ignore_errors=True)
+            self._run("initdb", "-A", "trust", "-U", "postgres", "-E", "UTF8", "--no-sync", os.path.join(folder, "data"))
+            _kept.append(os.path.join(folder, "data"))
+        self._run(shutil.which("cp") or "cp", "-a", _kept[0], self.data)
 
     def start(self) -> None:
         """Starts it, and waits until it answers."""
@@ -105,6 +121,13 @@ class Server:
         with psycopg.connect(self.url(base), autocommit=True) as connection:
             cursor = connection.execute(statement)
             return cursor.fetchall() if cursor.description else []
+
+    def await_row(self, statement: str, base: str) -> None:
+        """Waits until a statement gives a row. It is asked on one connection: to make one takes the server far longer than the answer."""
+        import psycopg
+
+        with psycopg.connect(self.url(base), autocommit=True) as connection:
+            wait_until(lambda: connection.execute(statement).fetchall())
 
     def url(self, base: str, *others: "Server") -> str:
         hosts = ",".join(server.room for server in (self, *others))

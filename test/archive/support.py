@@ -22,8 +22,14 @@ LARGE = bool(os.environ.get("LARGE"))
 HERE = os.path.dirname(os.path.abspath(__file__))
 # The folder of the client; test/archive.sh gives a copy of it that is compiled.
 PACKAGE = os.environ.get("PACKAGE") or os.path.abspath(os.path.join(HERE, "..", "..", "clients", "python"))
+sys.path.insert(0, PACKAGE)
+
+from tests.forked import Commands  # noqa: E402
+
 PATIENCE = 600.0
 """Seconds after which what did not come counts as missing."""
+
+COMMANDS = Commands("udfburn.archive", [f"udfburn.archive.{name}" for name in ("cli", "closing", "commands", "lookups", "queries")])
 
 Digests = Dict[bytes, Tuple[str, int]]
 """The SHA-256 and the moment in microseconds of each file, by its path below a folder."""
@@ -136,9 +142,7 @@ class WithArchive(unittest.TestCase):
     def run_in(self, archive: str, command: str, *words: str, status: Optional[int] = 0) -> Done:
         """Runs a command on an archive, which has to end with a status."""
         place = [] if command == "init" else ["--archive", archive]
-        done = subprocess.run(
-            words_of(command, *words, *place, "--json"), env=environment(), capture_output=True, timeout=PATIENCE, cwd=self.room,
-        )
+        done = COMMANDS.run([command, *words, *place, "--json"], environment(), self.room, PATIENCE)
         found = Done(done.returncode, done.stdout.decode(errors="replace"), done.stderr.decode(errors="replace"))
         if status is not None and found.status != status:
             self.fail(f"{command} ended with {found.status}, not {status}: {found.errors[-3000:]}{found.output[-500:]}")

@@ -15,11 +15,23 @@ from typing import List, Optional
 
 from udfburn import Client
 
+from .forked import Commands
+
 UDFBURN = os.environ.get("UDFBURN", "")
 UDFBURND = os.environ.get("UDFBURND", "")
 PACKAGE = os.path.abspath(os.path.join(os.path.dirname(__file__), ".."))
 PATIENCE = 300.0
 """Seconds after which what did not come counts as missing. It is more than any machine takes."""
+
+
+COMMANDS = Commands("udfburn", ["udfburn.cli"])
+
+
+def run_client(words: List[str], environment: "dict[str, str]", errors: str = "strict") -> "subprocess.CompletedProcess[str]":
+    """Runs a command of the client to its end, and gives what it printed as text, as `subprocess` does."""
+    done = COMMANDS.run(words, environment, os.getcwd())
+    output, told = (data.decode("utf-8", errors).replace("\r\n", "\n").replace("\r", "\n") for data in (done.stdout, done.stderr))
+    return subprocess.CompletedProcess(done.args, done.returncode, output, told)
 
 
 class Daemon:
@@ -90,13 +102,18 @@ class WithPrograms(unittest.TestCase):
 
     def run_command(self, *words: str, status: int = 0, where: Optional[List[str]] = None) -> str:
         """Runs the command line, and gives its output where its status is this."""
-        done = subprocess.run(self.words(*words, where=where), capture_output=True, text=True, env=self.environment(), check=False, errors="surrogateescape")
+        done = run_client(self.line(*words, where=where), self.environment(), "surrogateescape")
         self.assertEqual(done.returncode, status, f"{words}: {done.stdout}{done.stderr}")
         return done.stdout + done.stderr
 
-    def words(self, *words: str, where: Optional[List[str]] = None) -> List[str]:
+    def line(self, *words: str, where: Optional[List[str]] = None) -> List[str]:
+        """The words of a command, with those that say where the volume is."""
         place = ["--socket", self.path] if where is None else where
-        return [sys.executable, "-m", "udfburn", words[0], *place, *words[1:]]
+        return [words[0], *place, *words[1:]]
+
+    def words(self, *words: str, where: Optional[List[str]] = None) -> List[str]:
+        """What starts a Python that runs a command."""
+        return [sys.executable, "-m", "udfburn", *self.line(*words, where=where)]
 
     def environment(self) -> "dict[str, str]":
         return {**os.environ, "PYTHONPATH": PACKAGE, "UDFBURN": UDFBURN, "UDFBURN_LEDGER": self.ledger}

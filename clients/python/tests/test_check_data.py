@@ -20,7 +20,7 @@ from unittest import mock
 from udfburn import Client, errors as e
 from udfburn.ledger_reading import ledger_to_read
 
-from .programs import UDFBURN, WithPrograms
+from .programs import UDFBURN, WithPrograms, run_client
 
 NOWHERE = "/nonexistent/ledger.sqlite"
 
@@ -62,8 +62,7 @@ class Checked(WithPrograms):
     def check(self, *words: str, status: int = 0, ledger: bool = True, image: str = "") -> List[Dict[str, Any]]:
         """The objects that `check --data` prints."""
         environment = {**self.environment(), **({} if ledger else {"UDFBURN_LEDGER": NOWHERE})}
-        line = [*self.words("check", "--json", "--data", image or self.image, *words, where=[])]
-        done = subprocess.run(line, capture_output=True, text=True, env=environment, check=False)
+        done = run_client(["check", "--json", "--data", image or self.image, *words], environment)
         self.assertEqual(done.returncode, status, done.stdout + done.stderr)
         return [json.loads(row) for row in done.stdout.split("\n") if row]
 
@@ -98,9 +97,9 @@ class Checked(WithPrograms):
         """The files of the third directory, the tag manifest and the manifest beside the files are covered by nothing."""
         found = self.result(ledger=False)
         self.assertEqual((found["covered"], found["uncovered"], found["by_manifest"], found["damaged"]), (27, 14, 27, 0))
-        told = subprocess.run(
-            self.words("check", "--data", self.image, where=[]), capture_output=True, text=True, check=True, env={**self.environment(), "UDFBURN_LEDGER": NOWHERE},
-        ).stdout
+        done = run_client(["check", "--data", self.image], {**self.environment(), "UDFBURN_LEDGER": NOWHERE})
+        self.assertEqual(done.returncode, 0, done.stderr)
+        told = done.stdout
         self.assertIn("no digest covers 14 files", told)
         self.assertFalse(os.path.exists(NOWHERE))
 
@@ -253,7 +252,7 @@ class Checked(WithPrograms):
 
     def test_without_the_program(self) -> None:
         environment = {**self.environment(), "UDFBURN": "", "PATH": "/usr/bin:/bin"}
-        done = subprocess.run(self.words("check", "--data", self.image, where=[]), capture_output=True, text=True, env=environment, check=False)
+        done = run_client(["check", "--data", self.image], environment)
         self.assertEqual(done.returncode, 1)
         self.assertIn("the program udfburn is not on the PATH", done.stderr)
         self.assertIn("41 files", done.stdout)
@@ -262,7 +261,7 @@ class Checked(WithPrograms):
     def test_what_is_said_without_the_program(self) -> None:
         """The reader's view of the newest state is no damage, and no word on the earlier ones."""
         environment = {**self.environment(), "UDFBURN": "", "PATH": "/usr/bin:/bin"}
-        done = subprocess.run(self.words("check", self.image, where=[]), capture_output=True, text=True, env=environment, check=False)
+        done = run_client(["check", self.image], environment)
         self.assertEqual(done.returncode, 1)
         self.assertRegex(done.stdout, "its newest state, after commit [0-9]+, is as it must be; the earlier states were not checked$")
 

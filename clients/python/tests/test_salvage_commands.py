@@ -7,7 +7,6 @@ import hashlib
 import json
 import os
 import subprocess
-import sys
 import tempfile
 from contextlib import redirect_stderr, redirect_stdout
 from io import StringIO
@@ -20,7 +19,7 @@ from udfburn.protocol import Create, MakeDir
 from udfburn.salvage import DAMAGED, UNPROVED, WHOLE
 from udfburn.saving import write_all
 
-from .programs import PACKAGE, UDFBURN
+from .programs import PACKAGE, UDFBURN, run_client
 from .test_salvage import BLOCK, Damaged
 from .volumes import format_image
 
@@ -105,8 +104,7 @@ class Commands(Damaged):
     # ---- the command
 
     def command(self, *words: str) -> "subprocess.CompletedProcess[str]":
-        environment = {**os.environ, "PYTHONPATH": PACKAGE, "UDFBURN": ""}
-        return subprocess.run([sys.executable, "-m", "udfburn", *words], capture_output=True, text=True, env=environment, check=False)
+        return run_client(list(words), {**os.environ, "PYTHONPATH": PACKAGE, "UDFBURN": ""})
 
     def test_a_full_disk(self) -> None:
         """What was written whole stays, and it is said which disk is full; the same command goes on."""

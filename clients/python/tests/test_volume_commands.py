@@ -11,7 +11,7 @@ import unittest
 from typing import Any, Dict
 
 
-from .programs import WithPrograms
+from .programs import WithPrograms, run_client
 
 
 class Volumes(WithPrograms):
@@ -250,7 +250,7 @@ class Output(Volumes):
         where = ["--image", self.image]
         for words, status, kind in ((["ls", "/no"], 1, "NotFound"), (["rm", "/no"], 1, "NotFound"), (["ls", "no"], 2, "InvalidPath"),
                                     (["put", os.path.join(self.room, "no"), "/x"], 1, "DoesNotFit"), (["ls", "/"], 0, None)):
-            done = subprocess.run(self.words(words[0], *words[1:], "--json", where=where), env=self.environment(), capture_output=True, text=True, check=False)
+            done = run_client(self.line(*words, "--json", where=where), self.environment())
             self.assertEqual(done.returncode, status, done.stderr)
             lines = [json.loads(line) for line in done.stdout.splitlines()]
             self.assertEqual((lines[-1]["did"], lines[-1]["status"], len(lines[-1]["failures"])), (words[0], status, 1 if kind else 0))
