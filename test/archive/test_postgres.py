@@ -37,7 +37,7 @@ class Machines(OnServer):
         first, second = self.machine(1), self.machine(2)
         make_tree(self.source, 1400, 1)
         process = start("add", self.source, "--at", "/s/a", "--archive", first)
-        wait_until(lambda: self.server.sql("SELECT 1 FROM volume", "archive"))
+        self.server.await_row("SELECT 1 FROM volume", "archive")
         # It stands still, and has its claims all the same.
         self.addCleanup(kill, process)
         process.send_signal(signal.SIGSTOP)
@@ -56,7 +56,7 @@ class Machines(OnServer):
         first, second = self.machine(1), self.machine(2)
         make_tree(self.source, 1300, 2)
         process = start("add", self.source, "--at", "/s", "--archive", first)
-        wait_until(lambda: self.server.sql("SELECT 1 FROM file", "archive"))
+        self.server.await_row("SELECT 1 FROM file", "archive")
         kill(process)
         done = self.run_in(second, "add", self.source, "--at", "/s")
         self.assertEqual(done.last()["files"] + done.last()["same"], 1300)
@@ -128,7 +128,7 @@ class Machines(OnServer):
         first, second = self.machine(1), self.machine(2)
         make_tree(self.source, 1500, 3)
         process = start("add", self.source, "--at", "/s", "--archive", first)
-        wait_until(lambda: self.server.sql("SELECT 1 FROM file", "archive"))
+        self.server.await_row("SELECT 1 FROM file", "archive")
         self.addCleanup(kill, process)
         process.send_signal(signal.SIGSTOP)
         self.assertIsNone(process.poll())
@@ -142,7 +142,7 @@ class Machines(OnServer):
         make_tree(self.source, 2500, 5)
         before = digests(self.source)
         process = start("add", self.source, "--at", "/s", "--archive", first, "--delete-source")
-        wait_until(lambda: self.server.sql("SELECT 1 FROM file", "archive"))
+        self.server.await_row("SELECT 1 FROM file", "archive")
         self.server.sql("SELECT pg_terminate_backend(pid) FROM pg_stat_activity WHERE datname = 'archive' AND state = 'idle in transaction'")
         kept = {row[0] for row in self.server.sql("SELECT id FROM file", "archive")}
         self.assertEqual(process.wait(), 1)
@@ -289,7 +289,7 @@ class Standby(WithArchive):
             make_tree(source, 1500 if LARGE else 800, 9 + index)
         words = {machine: ("add", source, "--at", f"/s/{os.path.basename(source)}") for machine, source in machines.items()}
         processes = [start(*words[machine], "--archive", machine) for machine in machines]
-        wait_until(lambda: primary.sql("SELECT 1 FROM file", "archive"))
+        primary.await_row("SELECT 1 FROM file", "archive")
         acknowledged = {row[0] for row in primary.sql("SELECT id FROM file", "archive")}
         primary.kill()
         for process in processes:

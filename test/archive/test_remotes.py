@@ -220,7 +220,12 @@ class Copies(WithRemotes):
         os.rename(self.path("folder.gone"), self.path("folder"))
         self.assertEqual(self.do("close").last()["copied"], 1)
 
+
+class Some(WithArchive):
+    """Checks of some of the volumes. Where their copies are is of no account."""
+
     def test_the_oldest_first(self) -> None:
+        self.init("--capacity", "5000")
         for index in range(3):
             write(os.path.join(self.source, f"big{index}"), os.urandom(4_900_000))
         self.add()

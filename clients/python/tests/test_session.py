@@ -473,17 +473,20 @@ class Interrupted(WithServer):
             file.write("a")
         with self.client() as client:
             client.put_tree(local, "/x")
+        # As far as the first question they go as any command does. To declare the words of all commands takes most of the time, so that is
+        # done once.
+        declared = cli.parser()
         for words in (["get", "-r", "/x", back], ["get", "/x/a", back], ["verify", local, "/x"], ["ls", "-l", "/x"]):
-            # As far as the first question they go as any command does.
-            lines, status = 401, 130
+            lines, status = 46, 130
             while status == 130:
                 shutil.rmtree(back, ignore_errors=True)
                 if os.path.exists(back):
                     os.unlink(back)
-                status = interrupted([words[0], "--socket", self.server.path, *words[1:]], lines)
+                with mock.patch.object(cli, "parser", lambda: declared):
+                    status = interrupted([words[0], "--socket", self.server.path, *words[1:]], lines)
                 lines += LINES // 3
             self.assertEqual(status, ENDED, f"{words} interrupted at line {lines - LINES // 3} of the client's code")
-            self.assertGreater(lines, 600)
+            self.assertGreater(lines, 245)
 
 
 ENDED = 99
