@@ -11,7 +11,9 @@ seed=${3:-42}
 room=$(mktemp -d) || exit 1
 trap 'rm -rf "$room"' EXIT
 trap 'exit 1' HUP INT PIPE TERM
-export PYTHONDONTWRITEBYTECODE=1 PYTHONUTF8=1
+# Each command takes the client as the first one compiled it, and its folder stays as it is.
+unset PYTHONDONTWRITEBYTECODE
+export PYTHONPYCACHEPREFIX="$room/compiled" PYTHONUTF8=1
 for program in "$udfburn" python3; do
     if ! command -v "$program" > "$room/which"; then
         echo "bad_day: $program is no program"

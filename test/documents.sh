@@ -11,5 +11,7 @@ if [ $# -gt 2 ]; then shift 2; else set -- docs/OPERATIONS.md; fi
 room=$(mktemp -d) || exit 1
 trap 'rm -rf "$room"' EXIT
 trap 'exit 1' HUP INT PIPE TERM
-export PYTHONDONTWRITEBYTECODE=1
+# Each command takes the client as the first one compiled it, and its folder stays as it is.
+unset PYTHONDONTWRITEBYTECODE
+export PYTHONPYCACHEPREFIX="$room/compiled"
 python3 test/documents/documents.py "$udfburn" "$udfburnd" "$room" "$@"

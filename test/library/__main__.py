@@ -78,7 +78,9 @@ def main() -> int:
     room = make_room()
     os.environ["LIBRARY_ROOM"] = str(room)
     os.environ["LIBRARY_CORE"] = core
-    os.environ["PYTHONDONTWRITEBYTECODE"] = "1"
+    # The client is compiled once, and its folder stays as it is.
+    os.environ.pop("PYTHONDONTWRITEBYTECODE", None)
+    os.environ["PYTHONPYCACHEPREFIX"] = str(room / "compiled")
     try:
         build_library(core, room / "plain")
         build_library(core, room / "watched", SANITIZERS)
