@@ -5,25 +5,20 @@ ghost use types.Logic.{sem};
 ghost use base.Fml.{fex};
 ghost use Rattle.std.specs.Prelude.{◌≡◌, ⊤, Option, Result};
 ghost use Rattle.std.specs.Ptr.{points_to};
-ghost use Rattle.capi.specs.declared.fault.Fault.{Fault};
-ghost use Rattle.capi.specs.declared.session.Session.{Session};
-ghost use Rattle.capi.specs.contracts.session.Session.{the_row};
-ghost use Rattle.capi.specs.Numbers.{status};
-ghost use Rattle.capi.specs.Formats.{FormatsFile};
-ghost use Rattle.capi.specs.Calls.{OpensVolume, OpensNewVolume, AnswersBytes, Counts, ShowsBlock, GivesBlock, Ended};
-ghost use Rattle.capi.specs.Handing.{HandsOut, handed_at};
-ghost use Rattle.capi.specs.Commits.{AsksCommit};
-ghost use Rattle.capi.specs.Questions.{LastNumber};
-ghost use Rattle.capi.specs.StatusCalls.{AsksStatus};
-ghost use Rattle.capi.specs.Sessions.{Took};
+ghost use Rattle.sessions.specs.declared.fault.Fault.{Fault};
+ghost use Rattle.sessions.specs.declared.session.Session.{Session};
+ghost use Rattle.sessions.specs.contracts.session.Session.{the_row};
+ghost use Rattle.sessions.specs.Numbers.{status};
+ghost use Rattle.sessions.specs.Formats.{FormatsFile};
+ghost use Rattle.sessions.specs.Calls.{OpensVolume, OpensNewVolume, AnswersBytes, Counts, ShowsBlock, GivesBlock, Ended};
+ghost use Rattle.sessions.specs.Handing.{HandsOut, handed_at};
+ghost use Rattle.sessions.specs.Commits.{AsksCommit};
+ghost use Rattle.sessions.specs.Questions.{LastNumber};
+ghost use Rattle.sessions.specs.StatusCalls.{AsksStatus};
+ghost use Rattle.sessions.specs.Sessions.{Took};
 
-use crate::calls;
-use crate::fault::status_of;
-use crate::handed::Handed;
-use crate::session::Session;
-use crate::told::{CommitStatus, Status};
-use crate::volumes::format_file;
 use limits::Block;
+use sessions::{CommitStatus, Handed, Session, Status, calls, format_file, status_of};
 use std::alloc::Global;
 
 /// Makes a volume on the file of a descriptor, or finishes one that a format with the same words began. The descriptor

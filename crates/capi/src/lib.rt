@@ -1,18 +1,7 @@
-//! The core of the C library: sessions of the engine, and the functions by which C uses them.
+//! The core of the C library: the functions by which C uses sessions of the engine.
 #![tactic(auto)]
 
-mod calls;
-mod commits;
 mod exports;
-mod fault;
-mod handed;
-mod lending;
-mod loose;
-mod medium;
-mod questions;
-mod session;
-mod told;
-mod volumes;
 
 pub use exports::{
     udfburn_core_answer, udfburn_core_answered, udfburn_core_end, udfburn_core_format_fd,
