@@ -136,6 +136,39 @@ def nested(depth: int) -> "tuple[list[bytes], int]":
     return blocks, 257 + first + 1
 
 
+def pushed_down() -> "tuple[list[bytes], int, int]":
+    """Fifteen directories that lie each in the one before, with a file in the last; then another one between the root and the first of
+    them, so that the file has 17 names. And the addresses of the two VAT ICBs."""
+    blocks = [file(31, 17)]
+    numbers = []
+    for level in range(15, -1, -1):
+        inner = ("a", "directory", level + 2, level + 16) if level < 15 else ("x", "file", 17, 31)
+        numbers.append(_put_directory(blocks, max(level, 1), level + 15 if level else 0, level + 1, inner))
+    numbers.append(0)
+    before = _put_table(blocks, numbers[::-1] + [5], 4, 16, 32, 16)
+    first = _put_directory(blocks, 18, 16, 2, ("a", "directory", 3, 17))
+    between = _put_directory(blocks, 1, 32, 18, ("a", "directory", 2, 16))
+    root = _put_directory(blocks, 1, 0, 1, ("q", "directory", 18, 32))
+    after = _put_table(blocks, [0, root, first] + numbers[:-3][::-1] + [5, between], before - 257, 17, 33, 17)
+    return blocks, before, after
+
+
+def _put_directory(blocks: "list[bytes]", above: int, unique: int, address: int, name: "tuple[str, str, int, int]") -> int:
+    """Appends a directory with one name, and its entry. The number of that."""
+    first = 5 + len(blocks)
+    blocks.append(directory(first, above, name))
+    blocks.append(directory_entry(unique, 1 + (name[1] == "directory"), 80, first, address))
+    return first + 1
+
+
+def _put_table(blocks: "list[bytes]", entries_: "list[int]", previous: int, count: int, next_unique: int, commits: int) -> int:
+    """Appends a table of a volume with one file, and its entry. The address of that."""
+    first = 5 + len(blocks)
+    blocks.append(used(entries_, previous, 1, count, next_unique, commits))
+    blocks.append(entry_of_table(196 + 4 * len(entries_), first, first + 1))
+    return 257 + first + 1
+
+
 def _chains(v: Vectors) -> None:
     v.about("The last table, and the chain from it back to the format. One bit that is changed in a table's entry gives the table before.")
     of = OLD + "chains::"
@@ -185,6 +218,9 @@ def _shared(v: Vectors) -> None:
     blocks = [used([0, 7, 7], 9, commits=2), entry_of_table(208, 10, 11)]
     v.case("the-roots-entry-at-another-address", "", "bytes {created}", "bytes " + words(blocks),
            f"states 266 268 -> commits 1 ; {told((264, 21))}")
+    blocks, before, after = pushed_down()
+    v.case("a-file-that-a-later-state-has-too-deep", "", "bytes {formatted}", "bytes " + words(blocks),
+           f"states {before} {after} -> commits 16 ; {told((262, TOO_DEEP))}")
 
 
 def _fronts(v: Vectors) -> None:
