@@ -43,8 +43,8 @@ fn main(rt: HostRuntime) -> ExitCode {
         return ExitCode::from(3u8);
     }
     let mut number: u64 = 0;
-    let mut status = sessions::Status { moment: 0, capacity: 0, next: 0, commits: 0, files: 0, directories: 0, clients: 0, label_length: 0, label: [0; 64] };
-    let mut commit = sessions::CommitStatus { moment: 0, number: 0, address: 0, files: 0, directories: 0 };
+    let mut status = embedding::Status { moment: 0, capacity: 0, next: 0, commits: 0, files: 0, directories: 0, clients: 0, label_length: 0, label: [0; 64] };
+    let mut commit = embedding::CommitStatus { moment: 0, number: 0, address: 0, files: 0, directories: 0 };
     unsafe {
         let _ = exports::udfburn_core_open_fd(out, -1);
         let _ = exports::udfburn_core_open_memory(out, b"MEM", 0, 3000);

@@ -1,24 +1,24 @@
 //! The functions that C calls. A handle is the address of a session's box, which C frees after the session has ended.
-//! Each status is a number of `fault.rt`.
+//! Each status is a number of `embedding::status_of`.
 
 ghost use types.Logic.{sem};
 ghost use base.Fml.{fex};
 ghost use Rattle.std.specs.Prelude.{◌≡◌, ⊤, Option, Result};
 ghost use Rattle.std.specs.Ptr.{points_to};
-ghost use Rattle.sessions.specs.declared.fault.Fault.{Fault};
-ghost use Rattle.sessions.specs.declared.session.Session.{Session};
-ghost use Rattle.sessions.specs.contracts.session.Session.{the_row};
-ghost use Rattle.sessions.specs.Numbers.{status};
-ghost use Rattle.sessions.specs.Formats.{FormatsFile};
-ghost use Rattle.sessions.specs.Calls.{OpensVolume, OpensNewVolume, AnswersBytes, Counts, ShowsBlock, GivesBlock, Ended};
-ghost use Rattle.sessions.specs.Handing.{HandsOut, handed_at};
-ghost use Rattle.sessions.specs.Commits.{AsksCommit};
-ghost use Rattle.sessions.specs.Questions.{LastNumber};
-ghost use Rattle.sessions.specs.StatusCalls.{AsksStatus};
-ghost use Rattle.sessions.specs.Sessions.{Took};
+ghost use Rattle.embedding.specs.declared.fault.Fault.{Fault};
+ghost use Rattle.embedding.specs.declared.session.Session.{Session};
+ghost use Rattle.embedding.specs.contracts.session.Session.{the_row};
+ghost use Rattle.embedding.specs.Numbers.{status};
+ghost use Rattle.embedding.specs.Formats.{FormatsFile};
+ghost use Rattle.embedding.specs.Calls.{OpensVolume, OpensNewVolume, AnswersBytes, Counts, ShowsBlock, GivesBlock, Ended};
+ghost use Rattle.embedding.specs.Handing.{HandsOut, handed_at};
+ghost use Rattle.embedding.specs.Commits.{AsksCommit};
+ghost use Rattle.embedding.specs.Questions.{LastNumber};
+ghost use Rattle.embedding.specs.StatusCalls.{AsksStatus};
+ghost use Rattle.embedding.specs.Sessions.{Took};
 
+use embedding::{CommitStatus, Handed, Session, Status, calls, format_file, status_of};
 use limits::Block;
-use sessions::{CommitStatus, Handed, Session, Status, calls, format_file, status_of};
 use std::alloc::Global;
 
 /// Makes a volume on the file of a descriptor, or finishes one that a format with the same words began. The descriptor

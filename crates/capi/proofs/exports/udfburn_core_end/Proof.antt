@@ -1,13 +1,13 @@
 -- `udfburn_core_end` lends what lies at the handle for the call, and has it back.
 use Rattle.capi.proofs.Walking.{ℕ, [], ◌∷◌, refl, ap, MutBor, proved, full_share, id⊢, ftrue, flft, flent, named, vunit, vptr, fact, tables, WpFn, ‵, raw, ◌⊛◌, some, later, prop, at_ret, ◌$◌, ◌∵◌, !, qed, done, move, keep, drop, use1, use2, use3, split, join, fsplit, feq_i, feq_l, fpack, pick, await, regoal, suffices, group, enter, of_opd, unit_lit, addr, stop, no_more, and_then, first, blocks, exec, returns, alloc_all, pass_all, free_all, look_at, get, through, sets, sets_last, lands_as, env, Borrowed, lft_new, lft_end, unit, yes, mem, lends_ref, ref_back, Ptr, RawPtr, block_ptr, lies_at, in_a_block, rawptr_vals, rawptr_Tells, MutRef, plain, nothing, heard, only, calls_at, lasts, on_entry, triple_of, Stays, walk_of, stay_dropped, Goes-dropped, ends_at, framed}
-use Rattle.sessions.specs.declared.session.Session.{Session}
-use Rattle.sessions.specs.contracts.session.Session.{the_row}
-use Rattle.sessions.specs.Calls.{Ended}
+use Rattle.embedding.specs.declared.session.Session.{Session}
+use Rattle.embedding.specs.contracts.session.Session.{the_row}
+use Rattle.embedding.specs.Calls.{Ended}
 use Rattle.capi.specs.contracts.exports.udfburn_core_end as f
 use Rattle.capi.proofs.exports.udfburn_core_end.Statement.{statement}
 use Rattle.capi.proofs.exports.udfburn_core_end.Code as code
-use Rattle.sessions.specs.contracts.calls.end as g
-use Rattle.sessions.proofs.calls.end.Met.{met}
+use Rattle.embedding.specs.contracts.calls.end as g
+use Rattle.embedding.proofs.calls.end.Met.{met}
 
 abbrev stayed : Stays f.ended.signature.params f.ended.kept
 stayed = (stay_dropped _ yes, tt)
@@ -38,7 +38,7 @@ udfburn_core_end_spec 𝓤 𝓛 𝓜 𝓡 wired =
     let z : G.Ghost = (((α ∷ [], tt), (full_share, tt), tt, (r δ, tt), (vs, tt)), tt) in
     nothing ! $ move ! (1 ∷ 0 ∷ []) $ join ! $ nothing ! $ move ! (3 ∷ 0 ∷ []) $ join ! $ join ! $ nothing ! $ move ! (1 ∷ 0 ∷ []) $
     use2 𝓛 (raw (G.pre z)) (id⊢ 𝓤 _) $
-    calls_at ! (framed 𝓤 𝓛.H 𝓜 𝓣) G (met 𝓤 𝓛 𝓜 𝓡 (code.calls-sessions::calls::end 𝓡.env wired)) z
+    calls_at ! (framed 𝓤 𝓛.H 𝓜 𝓣) G (met 𝓤 𝓛 𝓜 𝓡 (code.calls-embedding::calls::end 𝓡.env wired)) z
     (and_then ! (get ! refl) (no_more !)) (λ v.
     use1 𝓛 (later (some (λ (u : Unit {0}). ((‵ (flft (α ∷ []) full_share) ⊛ ‵ ftrue) ⊛ ‵ (unit.own_val u (v ∷ []))) ⊛
     some (λ (ws : Session × Unit {0}). ‵ (lasts g.ended z.0.0 z.0.3 ws) ⊛ raw (fact 𝓤 (Ended ws.0)))))) (id⊢ 𝓤 _) $

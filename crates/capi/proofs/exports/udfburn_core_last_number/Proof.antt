@@ -1,13 +1,13 @@
 -- `udfburn_core_last_number` lends what lies at the handle for the call, and has it back.
 use Rattle.capi.proofs.Walking.{ℕ, ℤ, [], ◌∷◌, ◌++◌, refl, w32, w64, MutBor, proved, full_share, id⊢, ftrue, flft, flent, named, vptr, fact, tables, WpFn, ‵, raw, ◌⊛◌, some, later, prop, at_ret, ◌$◌, ◌∵◌, !, qed, done, move, keep, drop, use1, use2, use3, split, join, fsplit, fpack, pick, await, regoal, suffices, group, enter, of_opd, addr, stop, no_more, and_then, first, blocks, exec, returns, alloc_all, pass_all, free_all, look_at, get, through, sets, sets_last, lands_as, env, Borrowed, lft_new, lft_end, owns, u64, i32, yes, Is, shows, uint_vals, uint_Tells, sint_Lawful, mem, lends_ref, ref_back, Ptr, RawPtr, block_ptr, lies_at, in_a_block, rawptr_vals, rawptr_Tells, MutRef, mut_vals, mut_Tells, plain, nothing, heard, peeks, calls_at, lasts, triple_of, Stays, walk_of, stay_dropped, gave_ref, Goes-dropped, Goes-gave_ref, ends_at, framed}
-use Rattle.sessions.specs.declared.session.Session.{Session}
-use Rattle.sessions.specs.contracts.session.Session.{the_row}
-use Rattle.sessions.specs.Questions.{LastNumber}
+use Rattle.embedding.specs.declared.session.Session.{Session}
+use Rattle.embedding.specs.contracts.session.Session.{the_row}
+use Rattle.embedding.specs.Questions.{LastNumber}
 use Rattle.capi.specs.contracts.exports.udfburn_core_last_number as f
 use Rattle.capi.proofs.exports.udfburn_core_last_number.Statement.{statement}
 use Rattle.capi.proofs.exports.udfburn_core_last_number.Code as code
-use Rattle.sessions.specs.contracts.calls.last_number as g
-use Rattle.sessions.proofs.calls.last_number.Met.{met}
+use Rattle.embedding.specs.contracts.calls.last_number as g
+use Rattle.embedding.proofs.calls.last_number.Met.{met}
 
 abbrev stayed : Stays f.ended.signature.params f.ended.kept
 stayed = (stay_dropped _ yes, (stay_dropped _ yes, (gave_ref (0 ∷ []) tt (plain (λ _. u64)), tt)))
@@ -42,7 +42,7 @@ udfburn_core_last_number_spec 𝓤 𝓛 𝓜 𝓡 wired =
     let z : G.Ghost = (((α ∷ [], (κ, tt)), (full_share, (q, tt)), tt, (r δ, (client, (number, tt))), (vs, (uint_vals w64 client, (mut_vals number, tt)))), tt) in
     nothing ! $ move ! (4 ∷ 0 ∷ []) $ join ! $ move ! (4 ∷ 0 ∷ []) $ join ! $ move ! (1 ∷ 0 ∷ []) $ join ! $ nothing ! $ move ! (4 ∷ 0 ∷ []) $ join ! $ move ! (3 ∷ 0 ∷ []) $ join ! $ join ! $ nothing ! $ move ! (1 ∷ 0 ∷ []) $
     use2 𝓛 (raw (G.pre z)) (id⊢ 𝓤 _) $
-    calls_at ! (framed 𝓤 𝓛.H 𝓜 𝓣) G (met 𝓤 𝓛 𝓜 𝓡 (code.calls-sessions::calls::last_number 𝓡.env wired)) z
+    calls_at ! (framed 𝓤 𝓛.H 𝓜 𝓣) G (met 𝓤 𝓛 𝓜 𝓡 (code.calls-embedding::calls::last_number 𝓡.env wired)) z
     (and_then ! (get ! refl) (and_then ! (get ! refl) (and_then ! (get ! refl) (no_more !)))) (λ v.
     use1 𝓛 (later (some (λ (u : ℤ). ((‵ (flft (α ∷ []) full_share) ⊛ (‵ (flft κ q) ⊛ ‵ ftrue)) ⊛ ‵ (i32.own_val u (v ∷ []))) ⊛
     some (λ (ws : Session × (Unit {0} × (ℕ × Unit {0}))). ‵ (lasts g.ended z.0.0 z.0.3 ws) ⊛ raw (fact 𝓤 (LastNumber client u number.now ws.1.1.0 held ws.0)))))) (id⊢ 𝓤 _) $

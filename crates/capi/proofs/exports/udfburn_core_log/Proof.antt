@@ -1,15 +1,15 @@
 -- `udfburn_core_log` lends what lies at the handle for the call, and has it back.
 use Rattle.capi.proofs.Walking.{ℕ, ℤ, [], ◌∷◌, ◌++◌, refl, w32, MutBor, proved, full_share, id⊢, ftrue, flft, flent, named, vptr, fact, tables, WpFn, ‵, raw, ◌⊛◌, some, later, prop, at_ret, ◌$◌, ◌∵◌, !, qed, done, move, keep, drop, use1, use2, use3, split, join, fsplit, fpack, pick, await, regoal, suffices, group, enter, of_opd, addr, stop, no_more, and_then, first, blocks, exec, returns, alloc_all, pass_all, free_all, look_at, get, through, sets, sets_last, lands_as, env, Borrowed, lft_new, lft_end, owns, u32, i32, yes, Is, shows, uint_vals, uint_Tells, sint_Lawful, mem, lends_ref, ref_back, Ptr, RawPtr, block_ptr, lies_at, in_a_block, rawptr_vals, rawptr_Tells, MutRef, mut_vals, mut_Tells, plain, nothing, heard, peeks, calls_at, lasts, triple_of, Stays, walk_of, stay_dropped, gave_ref, Goes-dropped, Goes-gave_ref, ends_at, framed}
-use Rattle.sessions.specs.declared.session.Session.{Session}
-use Rattle.sessions.specs.contracts.session.Session.{the_row}
-use Rattle.sessions.specs.declared.told.CommitStatus.{CommitStatus}
-use Rattle.sessions.specs.contracts.told.CommitStatus.{the_row as the_commit}
-use Rattle.sessions.specs.Commits.{AsksCommit}
+use Rattle.embedding.specs.declared.session.Session.{Session}
+use Rattle.embedding.specs.contracts.session.Session.{the_row}
+use Rattle.embedding.specs.declared.told.CommitStatus.{CommitStatus}
+use Rattle.embedding.specs.contracts.told.CommitStatus.{the_row as the_commit}
+use Rattle.embedding.specs.Commits.{AsksCommit}
 use Rattle.capi.specs.contracts.exports.udfburn_core_log as f
 use Rattle.capi.proofs.exports.udfburn_core_log.Statement.{statement}
 use Rattle.capi.proofs.exports.udfburn_core_log.Code as code
-use Rattle.sessions.specs.contracts.calls.log as g
-use Rattle.sessions.proofs.calls.log.Met.{met}
+use Rattle.embedding.specs.contracts.calls.log as g
+use Rattle.embedding.proofs.calls.log.Met.{met}
 
 abbrev stayed : Stays f.ended.signature.params f.ended.kept
 stayed = (stay_dropped _ yes, (stay_dropped _ yes, (gave_ref (0 ∷ []) tt (plain (λ _. the_commit)), tt)))
@@ -44,7 +44,7 @@ udfburn_core_log_spec 𝓤 𝓛 𝓜 𝓡 wired =
     let z : G.Ghost = (((α ∷ [], (κ, tt)), (full_share, (q, tt)), tt, (r δ, (after, (told, tt))), (vs, (uint_vals w32 after, (mut_vals told, tt)))), tt) in
     nothing ! $ move ! (4 ∷ 0 ∷ []) $ join ! $ move ! (4 ∷ 0 ∷ []) $ join ! $ move ! (1 ∷ 0 ∷ []) $ join ! $ nothing ! $ move ! (4 ∷ 0 ∷ []) $ join ! $ move ! (3 ∷ 0 ∷ []) $ join ! $ join ! $ nothing ! $ move ! (1 ∷ 0 ∷ []) $
     use2 𝓛 (raw (G.pre z)) (id⊢ 𝓤 _) $
-    calls_at ! (framed 𝓤 𝓛.H 𝓜 𝓣) G (met 𝓤 𝓛 𝓜 𝓡 (code.calls-sessions::calls::log 𝓡.env wired)) z
+    calls_at ! (framed 𝓤 𝓛.H 𝓜 𝓣) G (met 𝓤 𝓛 𝓜 𝓡 (code.calls-embedding::calls::log 𝓡.env wired)) z
     (and_then ! (get ! refl) (and_then ! (get ! refl) (and_then ! (get ! refl) (no_more !)))) (λ v.
     use1 𝓛 (later (some (λ (u : ℤ). ((‵ (flft (α ∷ []) full_share) ⊛ (‵ (flft κ q) ⊛ ‵ ftrue)) ⊛ ‵ (i32.own_val u (v ∷ []))) ⊛
     some (λ (ws : Session × (Unit {0} × (CommitStatus × Unit {0}))). ‵ (lasts g.ended z.0.0 z.0.3 ws) ⊛ raw (fact 𝓤 (AsksCommit after u told.now ws.1.1.0 held ws.0)))))) (id⊢ 𝓤 _) $

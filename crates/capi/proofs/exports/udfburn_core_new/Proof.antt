@@ -34,16 +34,16 @@ use Rattle.std.specs.Prelude.{Option}
 use Rattle.std.specs.contracts.alloc.Global as heap
 use Rattle.std.specs.contracts.impls.GlobalAllocator.TheImpl.{ghosts}
 use Rattle.std.proofs.alloc.Global.TheLaws as heap_laws
-use Rattle.sessions.specs.declared.session.Session.{Session}
-use Rattle.sessions.specs.Handing.{HandsOut}
-use Rattle.sessions.specs.Handing as handing
-use Rattle.sessions.specs.contracts.handed.Handed as handed
-use Rattle.sessions.proofs.Handing.{ptr_typed, word_told, word_typed}
+use Rattle.embedding.specs.declared.session.Session.{Session}
+use Rattle.embedding.specs.Handing.{HandsOut}
+use Rattle.embedding.specs.Handing as handing
+use Rattle.embedding.specs.contracts.handed.Handed as handed
+use Rattle.embedding.proofs.Handing.{ptr_typed, word_told, word_typed}
 use Rattle.capi.specs.contracts.exports.udfburn_core_new as f
 use Rattle.capi.proofs.exports.udfburn_core_new.Statement.{statement}
 use Rattle.capi.proofs.exports.udfburn_core_new.Code as code
-use Rattle.sessions.specs.contracts.calls.hand_out as g
-use Rattle.sessions.proofs.calls.hand_out.Met.{met}
+use Rattle.embedding.specs.contracts.calls.hand_out as g
+use Rattle.embedding.proofs.calls.hand_out.Met.{met}
 
 abbrev stayed : Stays f.ended.signature.params f.ended.kept
 stayed = (stay_dropped (plain (λ _. heap.the_row)) yes, (stay_ref (0 ∷ []) tt (plain (λ _. RawPtr)), tt))
@@ -74,7 +74,7 @@ udfburn_core_new_spec 𝓤 𝓛 𝓜 𝓡 wired =
     let y : G.Ghost = ((tt, tt, tt, (alloc, (before, tt)), (h ∷ [], (ptr_val before ∷ [], tt))), tt) in
     nothing ! $ feq_i ! (List Val) (ptr_val before ∷ []) (ptr_val before ∷ []) refl $ join ! $ move ! (6 ∷ 0 ∷ []) $ join ! $ nothing ! $ join ! $ nothing ! $ move ! (1 ∷ 0 ∷ []) $
     use2 𝓛 (raw (G.pre y)) (id⊢ 𝓤 _) $
-    calls_at ! (framed 𝓤 𝓛.H 𝓜 𝓣) G (met 𝓤 𝓛 𝓜 𝓡 (code.calls-sessions::calls::hand_out 𝓡.env wired)) y
+    calls_at ! (framed 𝓤 𝓛.H 𝓜 𝓣) G (met 𝓤 𝓛 𝓜 𝓡 (code.calls-embedding::calls::hand_out 𝓡.env wired)) y
     (and_then ! (get ! refl) (and_then ! (get ! refl) (no_more !))) (λ v.
     use1 𝓛 (later (some (λ (u : (handed.the_row).Denot). (‵ ftrue ⊛ ‵ ((handed.the_row).own_val u (v ∷ []))) ⊛
     some (λ (ws : Unit {0} × (Unit {0} × Unit {0})). ‵ (lasts g.ended y.0.0 y.0.3 ws) ⊛ raw (fact 𝓤 (HandsOut u.status before u.at u.core)))))) (id⊢ 𝓤 _) $

@@ -1,13 +1,13 @@
 -- `udfburn_core_next_block` lends what lies at the handle for the call, and has it back.
 use Rattle.capi.proofs.Walking.{ℕ, ℤ, List, [], ◌∷◌, ◌++◌, refl, w32, MutBor, proved, full_share, id⊢, ftrue, flft, flent, named, vptr, fact, tables, WpFn, ‵, raw, ◌⊛◌, some, later, prop, at_ret, ◌$◌, ◌∵◌, !, qed, done, move, keep, drop, use1, use2, use3, split, join, fsplit, fpack, pick, await, regoal, suffices, group, enter, of_opd, addr, stop, no_more, and_then, first, blocks, exec, returns, alloc_all, pass_all, free_all, look_at, get, through, sets, sets_last, lands_as, env, Borrowed, lft_new, lft_end, owns, u8, u32, i32, Array, yes, Is, shows, sint_Lawful, mem, lends_ref, ref_back, Ptr, RawPtr, block_ptr, lies_at, in_a_block, rawptr_vals, rawptr_Tells, MutRef, mut_vals, mut_Tells, plain, nothing, heard, peeks, calls_at, lasts, triple_of, Stays, walk_of, stay_dropped, gave_ref, Goes-dropped, Goes-gave_ref, ends_at, framed}
-use Rattle.sessions.specs.declared.session.Session.{Session}
-use Rattle.sessions.specs.contracts.session.Session.{the_row}
-use Rattle.sessions.specs.Calls.{ShowsBlock}
+use Rattle.embedding.specs.declared.session.Session.{Session}
+use Rattle.embedding.specs.contracts.session.Session.{the_row}
+use Rattle.embedding.specs.Calls.{ShowsBlock}
 use Rattle.capi.specs.contracts.exports.udfburn_core_next_block as f
 use Rattle.capi.proofs.exports.udfburn_core_next_block.Statement.{statement}
 use Rattle.capi.proofs.exports.udfburn_core_next_block.Code as code
-use Rattle.sessions.specs.contracts.calls.next_block as g
-use Rattle.sessions.proofs.calls.next_block.Met.{met}
+use Rattle.embedding.specs.contracts.calls.next_block as g
+use Rattle.embedding.proofs.calls.next_block.Met.{met}
 
 abbrev stayed : Stays f.ended.signature.params f.ended.kept
 stayed = (stay_dropped _ yes, (gave_ref (0 ∷ []) tt (plain (λ _. u32)), (gave_ref (1 ∷ []) tt (plain (λ _. (Array u8 tt 2048))), tt)))
@@ -42,7 +42,7 @@ udfburn_core_next_block_spec 𝓤 𝓛 𝓜 𝓡 wired =
     let z : G.Ghost = (((α ∷ [], (κ, (κ', tt))), (full_share, (q, (q', tt))), tt, (r δ, (address, (block, tt))), (vs, (mut_vals address, (mut_vals block, tt)))), tt) in
     nothing ! $ move ! (4 ∷ 0 ∷ []) $ join ! $ move ! (4 ∷ 0 ∷ []) $ join ! $ move ! (1 ∷ 0 ∷ []) $ join ! $ nothing ! $ move ! (5 ∷ 0 ∷ []) $ join ! $ move ! (4 ∷ 0 ∷ []) $ join ! $ move ! (3 ∷ 0 ∷ []) $ join ! $ join ! $ nothing ! $ move ! (1 ∷ 0 ∷ []) $
     use2 𝓛 (raw (G.pre z)) (id⊢ 𝓤 _) $
-    calls_at ! (framed 𝓤 𝓛.H 𝓜 𝓣) G (met 𝓤 𝓛 𝓜 𝓡 (code.calls-sessions::calls::next_block 𝓡.env wired)) z
+    calls_at ! (framed 𝓤 𝓛.H 𝓜 𝓣) G (met 𝓤 𝓛 𝓜 𝓡 (code.calls-embedding::calls::next_block 𝓡.env wired)) z
     (and_then ! (get ! refl) (and_then ! (get ! refl) (and_then ! (get ! refl) (no_more !)))) (λ v.
     use1 𝓛 (later (some (λ (u : ℤ). ((‵ (flft (α ∷ []) full_share) ⊛ (‵ (flft κ q) ⊛ (‵ (flft κ' q') ⊛ ‵ ftrue))) ⊛ ‵ (i32.own_val u (v ∷ []))) ⊛
     some (λ (ws : Session × (ℕ × (List ℕ × Unit {0}))). ‵ (lasts g.ended z.0.0 z.0.3 ws) ⊛ raw (fact 𝓤 (ShowsBlock u (address.now, block.now) (ws.1.0, ws.1.1.0) held ws.0)))))) (id⊢ 𝓤 _) $

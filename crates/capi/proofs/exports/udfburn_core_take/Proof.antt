@@ -1,13 +1,13 @@
 -- `udfburn_core_take` lends what lies at the handle for the call, and has it back.
 use Rattle.capi.proofs.Walking.{ℕ, List, [], ◌∷◌, ◌++◌, refl, w64, MutBor, proved, full_share, id⊢, ftrue, flft, flent, named, vptr, fact, tables, WpFn, ‵, raw, ◌⊛◌, some, later, prop, at_ret, ◌$◌, ◌∵◌, !, qed, done, move, keep, drop, use1, use2, use3, split, join, fsplit, fjoin, feq_l, fpack, pick, await, regoal, suffices, group, enter, of_opd, addr, from, fld, hop, stop, no_more, and_then, first, blocks, exec, returns, whole, sub, agg, alloc_all, pass_all, free_all, look_at, look_in_at, get, get_in, through, sets, sets_last, lands_as, env, Borrowed, lft_new, lft_end, owns, u8, u64, yes, Is, shows, uint_Lawful, MutSlice, mut_slice_vals, mut_slice_Tells, mem, lends_ref, ref_back, Ptr, RawPtr, block_ptr, lies_at, in_a_block, rawptr_vals, rawptr_Tells, MutRef, plain, nothing, heard, peeks, calls_at, lasts, triple_of, Stays, walk_of, stay_dropped, gave_slice, Goes-dropped, Goes-gave_slice, ends_at, framed}
-use Rattle.sessions.specs.declared.session.Session.{Session}
-use Rattle.sessions.specs.contracts.session.Session.{the_row}
-use Rattle.sessions.specs.Sessions.{Took}
+use Rattle.embedding.specs.declared.session.Session.{Session}
+use Rattle.embedding.specs.contracts.session.Session.{the_row}
+use Rattle.embedding.specs.Sessions.{Took}
 use Rattle.capi.specs.contracts.exports.udfburn_core_take as f
 use Rattle.capi.proofs.exports.udfburn_core_take.Statement.{statement}
 use Rattle.capi.proofs.exports.udfburn_core_take.Code as code
-use Rattle.sessions.specs.contracts.calls.take as g
-use Rattle.sessions.proofs.calls.take.Met.{met}
+use Rattle.embedding.specs.contracts.calls.take as g
+use Rattle.embedding.proofs.calls.take.Met.{met}
 
 abbrev stayed : Stays f.ended.signature.params f.ended.kept
 stayed = (stay_dropped _ yes, (gave_slice (0 ∷ []) tt (plain (λ _. u8)), tt))
@@ -42,7 +42,7 @@ udfburn_core_take_spec 𝓤 𝓛 𝓜 𝓡 wired =
     let z : G.Ghost = (((α ∷ [], (κ, tt)), (full_share, (q, tt)), tt, (r δ, (into, tt)), (vs, (mut_slice_vals into, tt))), tt) in
     nothing ! $ move ! (4 ∷ 0 ∷ []) $ join ! $ move ! (1 ∷ 0 ∷ []) $ join ! $ nothing ! $ move ! (4 ∷ 0 ∷ []) $ join ! $ move ! (3 ∷ 0 ∷ []) $ join ! $ join ! $ nothing ! $ move ! (1 ∷ 0 ∷ []) $
     use2 𝓛 (raw (G.pre z)) (id⊢ 𝓤 _) $
-    calls_at ! (framed 𝓤 𝓛.H 𝓜 𝓣) G (met 𝓤 𝓛 𝓜 𝓡 (code.calls-sessions::calls::take 𝓡.env wired)) z
+    calls_at ! (framed 𝓤 𝓛.H 𝓜 𝓣) G (met 𝓤 𝓛 𝓜 𝓡 (code.calls-embedding::calls::take 𝓡.env wired)) z
     (and_then ! (get ! refl) (and_then ! (get ! refl) (no_more !))) (λ v.
     use1 𝓛 (later (some (λ (u : ℕ). ((‵ (flft (α ∷ []) full_share) ⊛ (‵ (flft κ q) ⊛ ‵ ftrue)) ⊛ ‵ (u64.own_val u (v ∷ []))) ⊛
     some (λ (ws : Session × (List ℕ × Unit {0})). ‵ (lasts g.ended z.0.0 z.0.3 ws) ⊛ raw (fact 𝓤 (Took held into.now u ws.0 ws.1.0)))))) (id⊢ 𝓤 _) $

@@ -1,0 +1,66 @@
+-- A volume that is made on a drive, or on the file under a descriptor.
+use Rattle.std.specs.Prelude.{◌≡◌, ◌⊎◌, ◌≤◌, ℕ, Bool, List, [], IsUtf8, Option, Result, Ok, Err}
+use Rattle.limits.specs.declared.TheConstants.{MOMENT_LIMIT}
+use Rattle.drive.specs.Journal.{Event}
+use Rattle.drive.specs.FileDrive.{journal_of, capacity_of, honest_of, BeginsWith}
+use Rattle.drive.specs.MemDrive as memory
+use Rattle.drive.specs.declared.file.FileDrive.{FileDrive}
+use Rattle.drive.specs.declared.memory.MemDrive.{MemDrive}
+use Rattle.recover.specs.declared.fault.StoreFault.{StoreFault}
+use Rattle.formatting.specs.NewVolume.{words_on, IsFormatted, IsFormatRefused}
+use Rattle.formatting.specs.Beginning.{IsBegun, IsUnbegun}
+use Rattle.embedding.specs.declared.fault.Fault.{Fault}
+use Rattle.embedding.specs.declared.fault.Fault.TheVariants.{Device, Text, Volume}
+use Rattle.embedding.specs.Numbers.{fault_of_store}
+
+-- The format was finished, so that on an honest drive the new volume is recovered, or what a refusal leaves.
+abbrev pub Makes : {T : Type 0} → List ℕ → ℕ → ℕ → Result T Fault → List Event → List Event → Bool → Type 0
+Makes label moment capacity (Ok x) before afterwards honest = IsFormatted capacity (words_on capacity label moment) before afterwards honest
+Makes label moment capacity (Err fault) before afterwards honest =
+    (cause : StoreFault) × (fault ≡ fault_of_store cause) × IsFormatRefused capacity (words_on capacity label moment) before afterwards honest cause
+
+-- no volume can have these words
+abbrev pub AreNoWords : {T : Type 0} → List ℕ → ℕ → Result T Fault → Type 0
+AreNoWords label moment outcome = ((outcome ≡ Err Text) × (IsUtf8 label → ⊥)) ⊎ ((outcome ≡ Err Volume) × (MOMENT_LIMIT ≤ moment))
+
+-- What a look found after the last whole block of the file was refused, and nothing was done.
+pub record IsForeign {T : Type 0} (label : List ℕ) (moment : ℕ) (outcome : Result T Fault) (look : Option (List ℕ)) (before afterwards : FileDrive) : Type 0 where
+  pub cause : StoreFault
+  pub told : outcome ≡ Err (fault_of_store cause)
+  pub why : IsUnbegun (capacity_of before) label moment (journal_of before) look cause
+  pub journal : journal_of afterwards ≡ journal_of before
+
+-- What a format on a file does, by its outcome and by what a look found after the last whole block.
+abbrev pub FormatsOn : {T : Type 0} → List ℕ → ℕ → Result T Fault → Option (List ℕ) → FileDrive → FileDrive → Type 0
+FormatsOn label moment outcome look before afterwards =
+    (AreNoWords label moment outcome × (afterwards ≡ before))
+    ⊎ (IsForeign label moment outcome look before afterwards
+    ⊎ (IsBegun (capacity_of before) label moment (journal_of before) look × Makes label moment (capacity_of before) outcome (journal_of before) (journal_of afterwards) (honest_of afterwards)))
+
+-- This was done on a drive over the file, from its opening on. What the file has no clause can know: it is whatever blocks the
+-- drive's reads agree with, and whatever the look found.
+pub record OnFile (capacity : ℕ) (Did : FileDrive → FileDrive → Type 0) : Type 0 where
+  pub image : List (List ℕ)
+  pub before : FileDrive
+  pub begins : BeginsWith image before
+  pub size : capacity_of before ≡ capacity
+  pub afterwards : FileDrive
+  pub did : Did before afterwards
+
+-- The file could not be had, or this was done on it.
+abbrev pub FormatsFile : {T : Type 0} → List ℕ → ℕ → ℕ → Result T Fault → Type 0
+FormatsFile label moment capacity outcome = (outcome ≡ Err Device) ⊎ ((look : Option (List ℕ)) × OnFile capacity (λ before afterwards. FormatsOn label moment outcome look before afterwards))
+
+-- ---- in memory
+
+-- the drive holds a new volume with these words, and has room for so many blocks
+abbrev pub IsMadeInMemory : List ℕ → ℕ → ℕ → MemDrive → Type 0
+IsMadeInMemory label moment capacity drive =
+    IsFormatted capacity (words_on capacity label moment) [] (memory.journal_of drive) (memory.honest_of drive) × (memory.capacity_of drive ≡ capacity)
+
+-- why it was not made: no volume can have these words, or a format on a blank drive in memory was refused
+abbrev pub IsNotMade : List ℕ → ℕ → ℕ → Fault → Type 0
+IsNotMade label moment capacity fault =
+    ((fault ≡ Text) × (IsUtf8 label → ⊥))
+    ⊎ (((fault ≡ Volume) × (MOMENT_LIMIT ≤ moment))
+    ⊎ ((cause : StoreFault) × (fault ≡ fault_of_store cause) × (afterwards : List Event) × (honest : Bool) × IsFormatRefused capacity (words_on capacity label moment) [] afterwards honest cause))
