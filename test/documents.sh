@@ -11,7 +11,5 @@ if [ $# -gt 2 ]; then shift 2; else set -- docs/OPERATIONS.md; fi
 room=$(mktemp -d) || exit 1
 trap 'rm -rf "$room"' EXIT
 trap 'exit 1' HUP INT PIPE TERM
-# Each command takes the client as the first one compiled it, and its folder stays as it is.
-unset PYTHONDONTWRITEBYTECODE
-export PYTHONPYCACHEPREFIX="$room/compiled"
+export PYTHONDONTWRITEBYTECODE=1
 python3 test/documents/documents.py "$udfburn" "$udfburnd" "$room" "$@"

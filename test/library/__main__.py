@@ -78,9 +78,7 @@ def main() -> int:
     room = make_room()
     os.environ["LIBRARY_ROOM"] = str(room)
     os.environ["LIBRARY_CORE"] = core
-    # The client is compiled once, and its folder stays as it is.
-    os.environ.pop("PYTHONDONTWRITEBYTECODE", None)
-    os.environ["PYTHONPYCACHEPREFIX"] = str(room / "compiled")
+    os.environ["PYTHONDONTWRITEBYTECODE"] = "1"
     try:
         build_library(core, room / "plain")
         build_library(core, room / "watched", SANITIZERS)
