@@ -53,8 +53,12 @@ if have mypy mypy; then
     holds 'the tests of the archive are typed' apart test "$top/test:$top/clients/python:$top/test/readers" --config-file ../clients/python/pyproject.toml --python-version 3.11 -p archive
     holds 'the tests of the library are typed' apart test "$top/test:$top/clients/python" --config-file ../clients/python/pyproject.toml -p library
     holds 'the tests of damaged images are typed' apart test/bad_day "$top/clients/python:$top/test" --config-file ../../clients/python/pyproject.toml bad_day.py images.py
-    for file in test/protocol.py test/copies/*.py test/readers/*.py test/documents/*.py bench/*/*.py; do
-        holds "$file is typed" apart "$top" "$top/test:$top/test/readers:$top/bench/apply" "$file"
+    others=$top/test:$top/test/readers:$top/bench/apply
+    holds 'the other tests are typed' apart "$top" "$others" test/protocol.py test/copies/*.py test/readers/*.py test/documents/*.py
+    # Some of these have the same name, so each folder is looked at apart.
+    for folder in bench/*/; do
+        set -- "$folder"*.py
+        [ ! -e "$1" ] || holds "$folder is typed" apart "$top" "$others" "$@"
     done
 fi
 if have pyflakes3 pyflakes3; then
