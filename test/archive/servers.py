@@ -123,7 +123,7 @@ class Server:
             return cursor.fetchall() if cursor.description else []
 
     def await_row(self, statement: str, base: str) -> None:
-        """Waits until a statement gives a row. It is asked on one connection: to make one takes the server far longer than the answer."""
+        """Waits until a statement gives a row. It asks on one connection: the server takes far longer to make one than to answer."""
         import psycopg
 
         with psycopg.connect(self.url(base), autocommit=True) as connection:

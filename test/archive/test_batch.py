@@ -45,6 +45,18 @@ sys.exit(main(sys.argv[1:]))
 """
 """Runs the command with another folder in memory, which is said to have room."""
 
+UNKNOWN = """
+import os, sys
+from udfburn.archive import batch
+batch.FOLDER = sys.argv.pop(1)
+def fail(path):
+    raise OSError(5, "Input/output error")
+os.statvfs = fail
+from udfburn.archive.cli import main
+sys.exit(main(sys.argv[1:]))
+"""
+"""Runs the command with another folder in memory, of which nobody knows what room it has."""
+
 
 class Batches(WithArchive):
     def image(self) -> str:
@@ -191,15 +203,23 @@ class Batches(WithArchive):
         self.assertEqual([[row[key] for key in keys] for row in self.rows()], [[row[key] for key in keys] for row in one])
         self.require_all()
 
-    def patched(self, folder: str) -> None:
+    def patched(self, folder: str, program: str = PATCHED) -> None:
         words = ["add", self.source, "--at", "/s", "--archive", self.archive, "--quiet"]
-        done = subprocess.run([sys.executable, "-c", PATCHED, folder, *words], env=environment(), capture_output=True, timeout=PATIENCE)
+        done = subprocess.run([sys.executable, "-c", program, folder, *words], env=environment(), capture_output=True, timeout=PATIENCE)
         self.assertEqual(done.returncode, 0, done.stderr.decode())
 
     def test_no_memory(self) -> None:
         self.init()
         make_tree(self.source, 30, 6)
         self.patched(self.path("nowhere"))
+        self.require_all()
+
+    def test_memory_whose_room_is_not_known(self) -> None:
+        self.init()
+        make_tree(self.source, 30, 6)
+        folder = self.path("memory")
+        os.mkdir(folder)
+        self.patched(folder, UNKNOWN)
         self.require_all()
 
     @staticmethod

@@ -222,7 +222,7 @@ class Copies(WithRemotes):
 
 
 class Some(WithArchive):
-    """Checks of some of the volumes. Where their copies are is of no account."""
+    """Checks of some of the volumes, which have no copies."""
 
     def test_the_oldest_first(self) -> None:
         self.init("--capacity", "5000")
