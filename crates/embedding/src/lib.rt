@@ -1,8 +1,8 @@
 //! Sessions of the engine, as the C library uses them.
 //!
-//! A session is an engine, what its volume lies on, and the answers that were not taken yet. Each call of C is a function
-//! on the session of a handle here, which returns its outcome as a number. The exports (`capi`) find the session at
-//! the handle.
+//! A session is an engine, the medium that its volume is on, and the answers that C has not taken yet. Each function of
+//! `calls` is what one call of C does to a session, and returns the outcome as a number. The exports in `capi` find the
+//! session by its handle.
 #![tactic(auto)]
 
 pub mod calls;
