@@ -38,7 +38,7 @@ apart() {
 
 # all_are_looked_at: whether each Python file is in a folder that mypy looks at below.
 all_are_looked_at() {
-    find . -name '*.py' ! -path '*/out/*' | sed 's|^\./||' | grep -v -E '^(clients/python/(udfburn|tests)/|clients/python/bench(_calls)?\.py$|test/(faults|vectors|archive|library|bad_day|copies|readers|documents)/|test/protocol\.py$|bench/[a-z]+/)' > "$room/others"
+    find . -name '*.py' ! -path '*/out/*' | sed 's|^\./||' | grep -v -E '^(clients/python/(udfburn|tests)/|clients/python/bench(_calls)?\.py$|test/(commands|faults|vectors|archive|library|bad_day|copies|readers|documents)/|test/protocol\.py$|bench/[a-z]+/)' > "$room/others"
     cat "$room/others"
     ! [ -s "$room/others" ]
 }
@@ -48,7 +48,7 @@ if have mypy mypy; then
     holds 'the client is typed' apart clients/python . -p udfburn
     holds "the client's tests are typed" apart clients/python . -p tests
     holds "the client's measurements are typed" apart clients/python . bench.py bench_calls.py
-    holds 'the fault tests are typed' apart test . -p faults
+    holds 'the fault tests are typed' apart test . -p faults -p commands
     holds 'what writes the vectors is typed' apart test/vectors . make.py count.py
     holds 'the tests of the archive are typed' apart test "$top/test:$top/clients/python:$top/test/readers" --config-file ../clients/python/pyproject.toml --python-version 3.11 -p archive
     holds 'the tests of the library are typed' apart test "$top/test:$top/clients/python" --config-file ../clients/python/pyproject.toml -p library

@@ -1,0 +1,1 @@
+"""The built programs from outside, byte by byte: see test/commands.sh."""
