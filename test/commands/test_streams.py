@@ -27,7 +27,7 @@ class Failing(Case):
         ours, theirs = socket.socketpair()
         output, written = socket.socketpair()
         with ours, theirs, output, written:
-            # Our end closes with a byte that nobody read: so the read of the other end fails, behind what was sent before.
+            # Our end closes with a byte that nobody read: so the read of the other end fails, after what was sent before.
             theirs.sendall(b"x")
             process = self.start("UDFBURN", "apply", "mem:3000", stdin=theirs, stdout=written)
             theirs.close()
