@@ -1,33 +1,51 @@
 //! Answers as words, read from the bytes of their frames.
 
 use crate::trouble::Trouble;
-use std::alloc::Global;
 use std::fmt::Write;
 use words::show_bytes;
 
-/// The answers in the bytes of a stream, separated by semicolons. What is left after the last complete one is shown as
-/// bytes.
-pub fn told(alloc: Global, stream: &[u8]) -> Result<String, Trouble> {
-    let mut text = String::new(alloc);
+/// The answers that are a word, and a number of so many bytes where that is not 0, by their codes.
+const WORDS: [(u16, usize, &str); 11] = [
+    (32, 8, "stale"),
+    (33, 8, "gap"),
+    (34, 0, "clients full"),
+    (35, 0, "full"),
+    (36, 0, "failed"),
+    (37, 0, "no memory"),
+    (38, 2, "malformed"),
+    (39, 0, "damaged"),
+    (96, 0, "not found"),
+    (97, 0, "is directory"),
+    (98, 0, "not directory"),
+];
+
+/// Appends the answers in the bytes of a stream, separated by semicolons. What is left after the last complete one is
+/// shown as bytes.
+pub fn tell(stream: &[u8], out: &mut String) -> Result<(), Trouble> {
     let mut rest = stream;
     for turn in 0..stream.len() {
         if rest.is_empty() {
             break;
         }
         if turn > 0 {
-            text.push_str("; ")?;
+            out.push_str("; ")?;
         }
         let Some((payload, later)) = first_frame(rest) else {
             break;
         };
-        tell_payload(payload, &mut text)?;
+        tell_payload(payload, out)?;
         rest = later;
     }
+    tell_rest("bytes ", rest, out)
+}
+
+/// Appends the bytes that are left, if there are any, after this word.
+fn tell_rest(word: &str, rest: &[u8], out: &mut String) -> Result<(), Trouble> {
     if !rest.is_empty() {
-        text.push_str("bytes ")?;
-        show_bytes(rest, &mut text)?;
+        out.push_str(word)?;
+        show_bytes(rest, out)?;
     }
-    Ok(text)
+    Ok(())
 }
 
 /// The payload of the first frame, and what is after it.
@@ -51,43 +69,38 @@ fn tell_payload(payload: &[u8], out: &mut String) -> Result<(), Trouble> {
         [low, high, body @ ..] => (u16::from_le_bytes([*low, *high]), body),
         _ => (u16::MAX, payload),
     };
-    match (code, body.len()) {
-        (_, 0) => tell_code(code, payload, out),
-        (0..=10, 4) => tell_reply(code, little(body), out),
-        (32, 8) => tell_number("stale", little(body), out),
-        (33, 8) => tell_number("gap", little(body), out),
-        (38, 2) => tell_number("malformed", little(body), out),
-        (64, 4..) => tell_data(body, out),
-        (65, 2..) => tell_names(body, out),
-        (66, 17) => tell_node(body, out),
+    if let Some(word) = word_of(code, body.len()) {
+        return tell_word(word, body, out);
+    }
+    match code {
+        0..=10 if body.len() == 4 => tell_reply(code, little(body), out),
+        64 if body.len() >= 4 => tell_data(body, out),
+        65 if body.len() >= 2 => tell_names(body, out),
+        66 if body.len() == 17 => tell_node(body, out),
         _ => tell_other(payload, out),
     }
 }
 
-/// An answer that is only a code.
-fn tell_code(code: u16, payload: &[u8], out: &mut String) -> Result<(), Trouble> {
-    let word = match code {
-        34 => "clients full",
-        35 => "full",
-        36 => "failed",
-        37 => "no memory",
-        39 => "damaged",
-        96 => "not found",
-        97 => "is directory",
-        98 => "not directory",
-        _ => return tell_other(payload, out),
-    };
+/// The word of an answer with a number of this many bytes.
+fn word_of(code: u16, size: usize) -> Option<&'static str> {
+    for (known, number, word) in &WORDS {
+        if *known == code && *number == size {
+            return Some(word);
+        }
+    }
+    None
+}
+
+fn tell_word(word: &str, number: &[u8], out: &mut String) -> Result<(), Trouble> {
     out.push_str(word)?;
+    if !number.is_empty() {
+        write!(out, " {}", little(number))?;
+    }
     Ok(())
 }
 
 fn tell_reply(code: u16, commit: u64, out: &mut String) -> Result<(), Trouble> {
     write!(out, "code {code} commit {commit}")?;
-    Ok(())
-}
-
-fn tell_number(word: &str, number: u64, out: &mut String) -> Result<(), Trouble> {
-    write!(out, "{word} {number}")?;
     Ok(())
 }
 
@@ -119,11 +132,7 @@ fn tell_names(body: &[u8], out: &mut String) -> Result<(), Trouble> {
         };
         rest = after;
     }
-    if !rest.is_empty() {
-        out.push_str(" and bytes ")?;
-        show_bytes(rest, out)?;
-    }
-    Ok(())
+    tell_rest(" and bytes ", rest, out)
 }
 
 /// The first name, and what is after it.

@@ -3,7 +3,7 @@
 ghost use Rattle.std.specs.Prelude.{ℕ};
 ghost use Rattle.model.specs.PlainState.{IsWholeState};
 
-use crate::answers::{node_text, told};
+use crate::answers::node_text;
 use crate::changes::{Asked, Change, query};
 use crate::die::Die;
 use crate::machine::Machine;
@@ -17,8 +17,8 @@ use std::marker::Model;
 use store::Snapshot;
 use words::show_bytes;
 
-/// What is reported if the machine and the plain program agree.
-const SAME: &str = "same";
+/// The trouble with a step that needs a request.
+const NOTHING_SENT: Trouble = Trouble::Line("nothing was sent");
 
 /// The plain program.
 #[derive(Drop)]
@@ -41,21 +41,25 @@ impl Plain {
         })
     }
 
-    /// The answer to a request that is not new.
-    fn refusal(&self, alloc: Global, client: u64, number: u64) -> Result<Option<String>, Trouble> {
-        Ok(Some(match self.state.due(client, number) {
-            Due::New => return Ok(None),
-            Due::Repeat(reply) => replied(alloc, reply)?,
-            Due::Stale(latest) => format!(in alloc; "stale {latest}")?,
-            Due::Gap(latest) => format!(in alloc; "gap {latest}")?,
-            Due::ClientsFull => String::from_str(alloc, "clients full")?,
-        }))
+    /// Appends the answer to a request that is not new.
+    fn refuse(&self, client: u64, number: u64, out: &mut String) -> Result<(), Trouble> {
+        match self.state.due(client, number) {
+            Due::New => return Err(Trouble::Line("a new request")),
+            Due::Repeat(reply) => return put_reply(reply, out),
+            Due::Stale(latest) => write!(out, "stale {latest}")?,
+            Due::Gap(latest) => write!(out, "gap {latest}")?,
+            Due::ClientsFull => out.push_str("clients full")?,
+        }
+        Ok(())
     }
 
-    /// The program after a request that is new, and the answer.
-    fn apply(self, alloc: Global, change: Change) -> Result<(Plain, String), Trouble> {
+    /// The program after a request that is new. Appends the answer.
+    fn apply(self, alloc: Global, change: Change, out: &mut String) -> Result<Plain, Trouble> {
         match self.state.apply(alloc, change.plain()) {
-            Ok((state, reply)) => Ok((Plain { state }, replied(alloc, reply)?)),
+            Ok((state, reply)) => {
+                put_reply(reply, out)?;
+                Ok(Plain { state })
+            }
             Err(_) => Err(Trouble::Memory),
         }
     }
@@ -64,39 +68,40 @@ impl Plain {
     fn tree(&self, alloc: Global) -> Result<Vec<Expected>, Trouble> {
         let mut all = Vec::new(alloc);
         for entry in &self.state.nodes {
-            let mut text = String::new(alloc);
-            let (asked, size) = match &entry.node.content {
-                Content::File(bytes) => {
-                    show_bytes(bytes, &mut text)?;
-                    (Asked::Data, bytes.len())
-                }
-                Content::Directory(below) => {
-                    names_text(alloc, &self.state, entry, below, &mut text)?;
-                    (Asked::Names, below.len())
-                }
-            };
-            let payload = query(alloc, asked, &entry.path)?;
-            all.push(Expected { payload, text })?;
-            let mut text = String::new(alloc);
-            let is_directory = entry.node.is_directory();
-            node_text(is_directory, size as u64, entry.node.moment, &mut text)?;
-            let payload = query(alloc, Asked::Node, &entry.path)?;
-            all.push(Expected { payload, text })?;
+            all.push(self.content(alloc, entry)?)?;
+            all.push(node(alloc, entry)?)?;
         }
         Ok(all)
     }
 
-    /// The sessions, as `sessions_text` reports those of a snapshot.
-    fn sessions(&self, alloc: Global) -> Result<String, Trouble> {
+    /// What is reported of the content of a node.
+    fn content(&self, alloc: Global, entry: &Entry) -> Result<Expected, Trouble> {
+        let mut text = String::new(alloc);
+        let asked = match &entry.node.content {
+            Content::File(bytes) => {
+                show_bytes(bytes, &mut text)?;
+                Asked::Data
+            }
+            Content::Directory(below) => {
+                put_names(alloc, &self.state, entry, below, &mut text)?;
+                Asked::Names
+            }
+        };
+        let payload = query(alloc, asked, &entry.path)?;
+        Ok(Expected { payload, text })
+    }
+
+    /// Appends the sessions, as `put_sessions` does those of a snapshot.
+    fn put_sessions(&self, out: &mut String) -> Result<(), Trouble> {
         let state = &self.state;
-        let mut text = format!(in alloc; "{} {}", state.next_identity, state.commits)?;
+        put_pair("", state.next_identity, state.commits, out)?;
         for record in &state.records {
-            write!(text, ", {} {}", record.client, record.latest)?;
+            put_pair(", ", record.client, record.latest, out)?;
             for reply in &record.replies {
-                write!(text, " {} {}", reply.code as u8, reply.commit)?;
+                put_pair(" ", u64::from(reply.code as u8), reply.commit, out)?;
             }
         }
-        Ok(text)
+        Ok(())
     }
 
     /// How many commits, files and directories there are.
@@ -114,25 +119,38 @@ impl Plain {
     }
 }
 
-/// The answer to a request that was committed.
-fn replied(alloc: Global, reply: Reply) -> Result<String, Trouble> {
-    Ok(format!(in alloc; "code {} commit {}", reply.code as u8, reply.commit)?)
+/// Appends the answer to a request that was committed.
+fn put_reply(reply: Reply, out: &mut String) -> Result<(), Trouble> {
+    write!(out, "code {} commit {}", reply.code as u8, reply.commit)?;
+    Ok(())
 }
 
-/// What is reported of the names in a directory.
-fn names_text(
+/// What is reported of the kind, the size and the moment of a node.
+fn node(alloc: Global, entry: &Entry) -> Result<Expected, Trouble> {
+    let (is_directory, size) = match &entry.node.content {
+        Content::File(bytes) => (false, bytes.len()),
+        Content::Directory(below) => (true, below.len()),
+    };
+    let mut text = String::new(alloc);
+    node_text(is_directory, size as u64, entry.node.moment, &mut text)?;
+    let payload = query(alloc, Asked::Node, &entry.path)?;
+    Ok(Expected { payload, text })
+}
+
+/// Appends what is reported of the names in a directory.
+fn put_names(
     alloc: Global,
     state: &State,
     entry: &Entry,
     below: &[String],
-    text: &mut String,
+    out: &mut String,
 ) -> Result<(), Trouble> {
-    write!(text, "names {}", below.len())?;
+    write!(out, "names {}", below.len())?;
     for name in below {
         let path = path_below(alloc, &entry.path, name)?;
         let is_directory = state.node(&path).is_some_and(Node::is_directory);
-        let letter = if is_directory { 'd' } else { 'f' };
-        write!(text, " {letter} {name}")?;
+        out.push_str(if is_directory { " d " } else { " f " })?;
+        out.push_str(name)?;
     }
     Ok(())
 }
@@ -147,18 +165,24 @@ fn path_below(alloc: Global, directory: &[String], name: &str) -> Result<Vec<Str
     Ok(path)
 }
 
-/// The sessions of a state: the next unique ID, the count of commits, and for each client its number, its latest
-/// request number, and the code and the commit of each kept reply.
-pub fn sessions_text(alloc: Global, snapshot: &Snapshot) -> Result<String, Trouble> {
+/// Appends the sessions of a state: the next unique ID, the count of commits, and for each client its number, its
+/// latest request number, and the code and the commit of each kept reply.
+pub fn put_sessions(snapshot: &Snapshot, out: &mut String) -> Result<(), Trouble> {
     let sessions = snapshot.sessions();
-    let mut text = format!(in alloc; "{} {}", sessions.next_unique, sessions.commits)?;
+    put_pair("", u64::from(sessions.next_unique), u64::from(sessions.commits), out)?;
     for record in &sessions.records {
-        write!(text, ", {} {}", record.client, record.latest)?;
+        put_pair(", ", record.client, record.latest, out)?;
         for reply in record.replies.as_slice() {
-            write!(text, " {} {}", reply.code, reply.commit)?;
+            put_pair(" ", u64::from(reply.code), u64::from(reply.commit), out)?;
         }
     }
-    Ok(text)
+    Ok(())
+}
+
+/// Appends two numbers, after what parts them from those before.
+fn put_pair(parted: &str, first: u64, second: u64, out: &mut String) -> Result<(), Trouble> {
+    write!(out, "{parted}{first} {second}")?;
+    Ok(())
 }
 
 /// A query, and what is to be reported.
@@ -176,14 +200,13 @@ struct Mark {
     tree: Vec<Expected>,
 }
 
-/// A request that was committed, the answer, and how many blocks there were before it.
+/// A request that was committed with the answer, and how many blocks there were before it.
 #[derive(Drop)]
 struct Sent {
     client: u64,
     number: u64,
-    payload: Vec<u8>,
-    text: String,
     before: usize,
+    expected: Expected,
 }
 
 /// Random numbers, the plain program, and what was sent.
@@ -201,21 +224,44 @@ pub struct Beside {
     counts: Vec<(u64, u32, u32)>,
 }
 
-/// `same` if the two texts are the same, and otherwise both.
-fn compare(alloc: Global, got: &str, wanted: &str) -> Result<String, Trouble> {
+/// Whether two texts are the same. Appends both if they are not.
+fn compare(got: &str, wanted: &str, out: &mut String) -> Result<bool, Trouble> {
     if got == wanted {
-        return Ok(String::from_str(alloc, SAME)?);
+        return Ok(true);
     }
-    Ok(format!(in alloc; "{got} and not {wanted}")?)
+    write!(out, "{got} and not {wanted}")?;
+    Ok(false)
 }
 
-/// The answer to a payload, which is sent again if the drive failed.
-fn ask(alloc: Global, machine: &mut Machine, payload: &[u8]) -> Result<String, Trouble> {
-    let text = told(alloc, &machine.ask(payload)?)?;
-    if text.as_str() != "failed" {
-        return Ok(text);
+/// Whether a machine, or a snapshot of it, gives this answer to a payload. Appends both answers if it does not.
+fn is_answered(
+    alloc: Global,
+    machine: &mut Machine,
+    snapshot: Option<&Snapshot>,
+    expected: &Expected,
+    out: &mut String,
+) -> Result<bool, Trouble> {
+    let mut got = String::new(alloc);
+    match snapshot {
+        Some(snapshot) => machine.ask_then(snapshot, &expected.payload, &mut got)?,
+        None => machine.ask(&expected.payload, &mut got)?,
     }
-    told(alloc, &machine.ask(payload)?)
+    compare(&got, &expected.text, out)
+}
+
+/// The same for a machine. If the drive failed, the payload is sent again.
+fn is_answered_again(
+    alloc: Global,
+    machine: &mut Machine,
+    expected: &Expected,
+    out: &mut String,
+) -> Result<bool, Trouble> {
+    let mut got = String::new(alloc);
+    machine.ask(&expected.payload, &mut got)?;
+    if got.as_str() == "failed" {
+        return is_answered(alloc, machine, None, expected, out);
+    }
+    compare(&got, &expected.text, out)
 }
 
 /// Compares what the machine reports of its tree, or of that of a snapshot, with what is expected.
@@ -224,18 +270,14 @@ fn compare_tree(
     machine: &mut Machine,
     snapshot: Option<&Snapshot>,
     tree: &[Expected],
-) -> Result<String, Trouble> {
-    for one in tree {
-        let frame = match snapshot {
-            Some(snapshot) => machine.ask_then(snapshot, &one.payload)?,
-            None => machine.ask(&one.payload)?,
-        };
-        let got = told(alloc, &frame)?;
-        if got.as_str() != one.text.as_str() {
-            return compare(alloc, &got, &one.text);
+    out: &mut String,
+) -> Result<bool, Trouble> {
+    for expected in tree {
+        if !is_answered(alloc, machine, snapshot, expected, out)? {
+            return Ok(false);
         }
     }
-    Ok(String::from_str(alloc, SAME)?)
+    Ok(true)
 }
 
 impl Beside {
@@ -275,77 +317,91 @@ impl Beside {
     }
 
     /// Sends the next request of one of three clients.
-    pub fn fall(&mut self, machine: &mut Machine) -> Result<String, Trouble> {
-        let alloc = self.alloc;
+    pub fn fall(&mut self, machine: &mut Machine, out: &mut String) -> Result<bool, Trouble> {
         let client = self.die.roll(3) as usize % 3;
         let number = self.latest[client].saturating_add(1);
         self.latest[client] = number;
         let client = client as u64 + 1;
-        let change = self.die.choose(alloc, client, number)?;
-        let payload = change.payload(alloc)?;
-        let before = machine.blocks();
-        let got = ask(alloc, machine, &payload)?;
-        let plain = self.plain.take().ok_or(Trouble::Line("no die"))?;
-        let (plain, text) = plain.apply(alloc, change)?;
-        self.counts.push(plain.counts())?;
-        self.plain = Some(plain);
-        let outcome = compare(alloc, &got, &text)?;
-        self.sent.push(Sent {
+        let change = self.die.choose(self.alloc, client, number)?;
+        let sent = Sent {
             client,
             number,
-            payload,
-            text,
-            before,
-        })?;
-        Ok(outcome)
+            before: machine.blocks(),
+            expected: self.expect(change)?,
+        };
+        let is_same = is_answered_again(self.alloc, machine, &sent.expected, out)?;
+        self.sent.push(sent)?;
+        Ok(is_same)
+    }
+
+    /// Applies a request to the plain program, and returns its payload and the answer.
+    fn expect(&mut self, change: Change) -> Result<Expected, Trouble> {
+        let payload = change.payload(self.alloc)?;
+        let mut text = String::new(self.alloc);
+        let plain = self.plain.take().ok_or(Trouble::Line("no die"))?;
+        let plain = plain.apply(self.alloc, change, &mut text)?;
+        self.counts.push(plain.counts())?;
+        self.plain = Some(plain);
+        Ok(Expected { payload, text })
     }
 
     /// Sends a request that was sent before, or one whose number is too large.
-    pub fn stray(&mut self, machine: &mut Machine) -> Result<String, Trouble> {
-        let alloc = self.alloc;
+    pub fn stray(&mut self, machine: &mut Machine, out: &mut String) -> Result<bool, Trouble> {
         let index = self.die.roll(40) as usize;
         let gap = self.latest[0].saturating_add(2);
-        let made = self.die.choose(alloc, 1, gap)?;
-        let (client, number, payload) = match self.sent.get(index) {
-            Some(sent) => (sent.client, sent.number, sent.payload.clone()?),
-            None => (1, gap, made.payload(alloc)?),
+        let made = self.die.choose(self.alloc, 1, gap)?;
+        let expected = match self.sent.get(index) {
+            Some(sent) => {
+                let payload = sent.expected.payload.clone()?;
+                self.refused(sent.client, sent.number, payload)?
+            }
+            None => self.refused(1, gap, made.payload(self.alloc)?)?,
         };
-        let got = ask(alloc, machine, &payload)?;
-        match self.plain()?.refusal(alloc, client, number)? {
-            Some(wanted) => compare(alloc, &got, &wanted),
-            None => Err(Trouble::Line("a new request")),
-        }
+        is_answered_again(self.alloc, machine, &expected, out)
+    }
+
+    /// The payload of a request that is not new, and the answer of the plain program.
+    fn refused(&self, client: u64, number: u64, payload: Vec<u8>) -> Result<Expected, Trouble> {
+        let mut text = String::new(self.alloc);
+        self.plain()?.refuse(client, number, &mut text)?;
+        Ok(Expected { payload, text })
     }
 
     /// Checks each prefix of what was written since the last look: without the last block it must have the tree of that
     /// look, and with it the current tree.
-    pub fn fronts(&mut self, machine: &Machine) -> Result<String, Trouble> {
-        let alloc = self.alloc;
+    pub fn fronts(&mut self, machine: &Machine, out: &mut String) -> Result<bool, Trouble> {
         let until = machine.blocks();
         for blocks in self.blocks..until {
-            let mut front = machine.front(blocks)?;
-            let outcome = compare_tree(alloc, &mut front, None, &self.tree)?;
-            if outcome.as_str() != SAME {
-                return Ok(outcome);
+            if !self.has_tree(machine, blocks, out)? {
+                return Ok(false);
             }
         }
-        self.tree = self.plain()?.tree(alloc)?;
+        self.tree = self.plain()?.tree(self.alloc)?;
         self.blocks = until;
-        compare_tree(alloc, &mut machine.front(until)?, None, &self.tree)
+        self.has_tree(machine, until, out)
+    }
+
+    /// Checks that a prefix has the tree of the last look.
+    fn has_tree(
+        &self,
+        machine: &Machine,
+        blocks: usize,
+        out: &mut String,
+    ) -> Result<bool, Trouble> {
+        let mut front = machine.front(blocks)?;
+        compare_tree(self.alloc, &mut front, None, &self.tree, out)
     }
 
     /// Checks the tree of the newest state.
-    pub fn tree(&self, machine: &mut Machine) -> Result<String, Trouble> {
+    pub fn tree(&self, machine: &mut Machine, out: &mut String) -> Result<bool, Trouble> {
         let tree = self.plain()?.tree(self.alloc)?;
-        compare_tree(self.alloc, machine, None, &tree)
+        compare_tree(self.alloc, machine, None, &tree, out)
     }
 
     /// One time in four, cuts the medium after some of the blocks of the last commit, from none to all, up to three
     /// times. If a block is lost, so is the commit, and its request is sent again.
-    pub fn lose(&mut self, machine: &mut Machine) -> Result<String, Trouble> {
-        let alloc = self.alloc;
-        let sent = self.sent.last().ok_or(Trouble::Line("nothing was sent"))?;
-        let mut from = sent.before;
+    pub fn lose(&mut self, machine: &mut Machine, out: &mut String) -> Result<bool, Trouble> {
+        let mut from = self.last_sent()?.before;
         let cuts = if self.die.roll(4) == 0 {
             self.die.roll(4)
         } else {
@@ -355,93 +411,81 @@ impl Beside {
             let until = machine.blocks();
             let kept = from.saturating_add(self.die.roll(10) as usize).min(until);
             *machine = machine.front(kept)?;
-            let got = told(alloc, &machine.ask(&sent.payload)?)?;
-            let lost = if kept < until {
-                until.saturating_sub(from)
-            } else {
-                0
-            };
-            if got.as_str() != sent.text.as_str() {
-                return compare(alloc, &got, &sent.text);
-            }
-            if machine.blocks() != kept.saturating_add(lost) {
-                return Ok(String::from_str(alloc, "other blocks")?);
-            }
+            let mut lost = 0;
             if kept < until {
+                lost = until.saturating_sub(from);
                 from = kept;
             }
+            if !self.put_again(machine, lost, out)? {
+                return Ok(false);
+            }
         }
-        Ok(String::from_str(alloc, SAME)?)
+        Ok(true)
     }
 
     /// Sends a new request, and loses the power during its commit. The state before it must be recovered, or the one
     /// after it if the last block is there. Then the request is sent again.
-    pub fn tear(&mut self, machine: &mut Machine) -> Result<String, Trouble> {
+    pub fn tear(&mut self, machine: &mut Machine, out: &mut String) -> Result<bool, Trouble> {
         let old = self.plain()?.tree(self.alloc)?;
         let before = machine.blocks();
-        let outcome = self.fall(machine)?;
-        if outcome.as_str() != SAME {
-            return Ok(outcome);
+        if !self.fall(machine, out)? {
+            return Ok(false);
         }
         let size = machine.blocks().saturating_sub(before);
-        let left = self.lose_power(machine)?;
-        let is_there = left.journal().last() == machine.journal().last();
-        *machine = left;
-        if is_there {
-            return self.go_on(machine, None, 0);
+        if self.lose_power(machine)? {
+            return Ok(self.tree(machine, out)? && self.put_again(machine, 0, out)?);
         }
-        self.go_on(machine, Some(&old), size)
+        let is_old = compare_tree(self.alloc, machine, None, &old, out)?;
+        Ok(is_old && self.put_again(machine, size, out)?)
     }
 
-    /// What is left of the machine if the power is lost during the last commit.
-    fn lose_power(&mut self, machine: &Machine) -> Result<Machine, Trouble> {
-        let sent = self.sent.last().ok_or(Trouble::Line("nothing was sent"))?;
+    /// Loses the power during the last commit. Returns whether the last block is there.
+    fn lose_power(&mut self, machine: &mut Machine) -> Result<bool, Trouble> {
+        let sent = self.sent.last().ok_or(NOTHING_SENT)?;
         let commit = LastCommit {
             alloc: self.alloc,
             machine,
             before: sent.before,
-            payload: &sent.payload,
+            payload: &sent.expected.payload,
         };
-        commit.torn(&mut self.die)
+        let left = commit.torn(&mut self.die)?;
+        let is_there = left.journal().last() == machine.journal().last();
+        *machine = left;
+        Ok(is_there)
     }
 
-    /// Checks that the tree is `old`, or the current one if that is `None`. Then sends the last request again, which
-    /// must add `size` blocks.
-    fn go_on(
+    fn last_sent(&self) -> Result<&Sent, Trouble> {
+        self.sent.last().ok_or(NOTHING_SENT)
+    }
+
+    /// Sends the last request again, and checks its answer, and that it adds `size` blocks.
+    fn put_again(
         &self,
         machine: &mut Machine,
-        old: Option<&[Expected]>,
         size: usize,
-    ) -> Result<String, Trouble> {
-        let outcome = match old {
-            Some(tree) => compare_tree(self.alloc, machine, None, tree)?,
-            None => self.tree(machine)?,
-        };
-        if outcome.as_str() != SAME {
-            return Ok(outcome);
-        }
+        out: &mut String,
+    ) -> Result<bool, Trouble> {
         let blocks = machine.blocks().saturating_add(size);
-        let outcome = self.put_again(machine)?;
-        if machine.blocks() != blocks {
-            return Ok(String::from_str(self.alloc, "other blocks")?);
+        let sent = self.last_sent()?;
+        if !is_answered(self.alloc, machine, None, &sent.expected, out)? {
+            return Ok(false);
         }
-        Ok(outcome)
-    }
-
-    /// Sends the last request again, and checks its answer.
-    fn put_again(&self, machine: &mut Machine) -> Result<String, Trouble> {
-        let sent = self.sent.last().ok_or(Trouble::Line("nothing was sent"))?;
-        let got = told(self.alloc, &machine.ask(&sent.payload)?)?;
-        compare(self.alloc, &got, &sent.text)
+        if machine.blocks() != blocks {
+            out.push_str("other blocks")?;
+            return Ok(false);
+        }
+        Ok(true)
     }
 
     /// Keeps what the plain program has now.
     pub fn mark(&mut self) -> Result<(), Trouble> {
         let plain = self.plain()?;
         let (commits, _, _) = plain.counts();
+        let mut sessions = String::new(self.alloc);
+        plain.put_sessions(&mut sessions)?;
         let mark = Mark {
             commit: (commits % 0x1_0000_0000) as u32,
-            sessions: plain.sessions(self.alloc)?,
+            sessions,
             tree: plain.tree(self.alloc)?,
         };
         self.marks.push(mark)?;
@@ -454,45 +498,57 @@ impl Beside {
         machine: &mut Machine,
         snapshot: &Snapshot,
         index: usize,
-    ) -> Result<String, Trouble> {
+        out: &mut String,
+    ) -> Result<bool, Trouble> {
         let mark = self.marks.get(index).ok_or(Trouble::Line("no mark"))?;
         if snapshot.commit().commit != mark.commit {
-            return Ok(String::from_str(self.alloc, "another commit")?);
+            out.push_str("another commit")?;
+            return Ok(false);
         }
-        let got = sessions_text(self.alloc, snapshot)?;
-        if got.as_str() != mark.sessions.as_str() {
-            return compare(self.alloc, &got, &mark.sessions);
-        }
-        compare_tree(self.alloc, machine, Some(snapshot), &mark.tree)
+        let has_sessions = compare_sessions(self.alloc, snapshot, &mark.sessions, out)?;
+        Ok(has_sessions && compare_tree(self.alloc, machine, Some(snapshot), &mark.tree, out)?)
     }
 
     /// Checks the states after the marked commits.
-    pub fn marks(&self, machine: &mut Machine) -> Result<String, Trouble> {
+    pub fn marks(&self, machine: &mut Machine, out: &mut String) -> Result<bool, Trouble> {
         for index in 0..self.marks.len() {
             let snapshot = machine.as_of(self.marks[index].commit)?;
-            let outcome = self.at_mark(machine, &snapshot, index)?;
-            if outcome.as_str() != SAME {
-                return Ok(outcome);
+            if !self.at_mark(machine, &snapshot, index, out)? {
+                return Ok(false);
             }
         }
-        Ok(String::from_str(self.alloc, SAME)?)
+        Ok(true)
     }
 
     /// Checks the list of the commits: each once, the newest first, at decreasing addresses, with the counts of the
     /// plain program.
-    pub fn listed(&self, machine: &mut Machine) -> Result<String, Trouble> {
+    pub fn listed(&self, machine: &mut Machine, out: &mut String) -> Result<bool, Trouble> {
         let commits = machine.history()?;
         if commits.len() != self.counts.len() {
-            return Ok(String::from_str(self.alloc, "another count")?);
+            out.push_str("another count")?;
+            return Ok(false);
         }
         let mut above = u32::MAX;
         for (commit, counts) in commits.iter().zip(self.counts.iter().rev()) {
             let got = (u64::from(commit.commit), commit.files, commit.directories);
             if got != *counts || commit.vat_icb_address >= above {
-                return Ok(format!(in self.alloc; "{commit:?}")?);
+                write!(out, "{commit:?}")?;
+                return Ok(false);
             }
             above = commit.vat_icb_address;
         }
-        Ok(String::from_str(self.alloc, SAME)?)
+        Ok(true)
     }
+}
+
+/// Compares the sessions of a snapshot with those that are expected.
+fn compare_sessions(
+    alloc: Global,
+    snapshot: &Snapshot,
+    wanted: &str,
+    out: &mut String,
+) -> Result<bool, Trouble> {
+    let mut got = String::new(alloc);
+    put_sessions(snapshot, &mut got)?;
+    compare(&got, wanted, out)
 }

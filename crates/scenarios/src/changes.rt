@@ -6,6 +6,9 @@ use model::plain::{Operation, Request};
 use std::alloc::Global;
 use words::number;
 
+/// The trouble with the words of a request.
+const NO_REQUEST: Trouble = Trouble::Line("no request");
+
 /// What a request does.
 #[derive(Clone, Copy, PartialEq, Eq)]
 pub enum Action {
@@ -31,40 +34,17 @@ pub struct Change {
 }
 
 impl Change {
-    /// Reads `CLIENT[@MOMENT] NUMBER PATH`, and after them `PATH` or the bytes.
-    pub fn read(alloc: Global, action: Action, words: &[&str]) -> Result<Change, Trouble> {
-        let [client, order, path, rest @ ..] = words else {
-            return Err(Trouble::Line("no request"));
-        };
-        let (client, moment) = read_client(client)?;
-        let number = number(order)?;
-        let path = read_path(alloc, path)?;
-        let (to, bytes) = read_rest(alloc, action, rest)?;
-        Ok(Change {
-            action,
-            client,
-            number,
-            moment,
-            path,
-            to,
-            bytes,
-        })
-    }
-
     /// The payload of its frame.
     pub fn payload(&self, alloc: Global) -> Result<Vec<u8>, Trouble> {
         let mut payload = Vec::new(alloc);
-        payload.push(self.action as u8)?;
-        payload.extend_from_slice(&self.client.to_le_bytes())?;
-        payload.extend_from_slice(&self.number.to_le_bytes())?;
-        payload.extend_from_slice(&self.moment.to_le_bytes())?;
+        put_head(
+            self.action,
+            [self.client, self.number, self.moment],
+            &mut payload,
+        )?;
         put_path(&self.path, &mut payload)?;
         match self.action {
-            Action::Create | Action::Replace => {
-                let length = (self.bytes.len() % 0x1_0000_0000) as u32;
-                payload.extend_from_slice(&length.to_le_bytes())?;
-                payload.extend_from_slice(&self.bytes)?;
-            }
+            Action::Create | Action::Replace => put_bytes(&self.bytes, &mut payload)?,
             Action::Rename => put_path(&self.to, &mut payload)?,
             Action::Make | Action::Remove => {}
         }
@@ -98,57 +78,140 @@ impl Change {
     }
 }
 
-/// The client and the moment.
-fn read_client(word: &str) -> Result<(u64, u64), Trouble> {
-    match word.split_once("@") {
-        Some((client, moment)) => Ok((number(client)?, number(moment)?)),
-        None => Ok((number(word)?, 0)),
+/// Appends what a request does, and its client, number and moment.
+fn put_head(action: Action, numbers: [u64; 3], payload: &mut Vec<u8>) -> Result<(), Trouble> {
+    payload.push(action as u8)?;
+    for number in &numbers {
+        payload.extend_from_slice(&number.to_le_bytes())?;
     }
+    Ok(())
 }
 
-/// The new path of a rename, or the bytes of a create and a replace.
-fn read_rest(
-    alloc: Global,
-    action: Action,
-    words: &[&str],
-) -> Result<(Vec<String>, Vec<u8>), Trouble> {
-    let mut bytes = Vec::new(alloc);
-    match (action, words) {
-        (Action::Create | Action::Replace, _) => read_bytes(words, &mut bytes)?,
-        (Action::Rename, [path]) => return Ok((read_path(alloc, path)?, bytes)),
-        (Action::Make | Action::Remove, []) => {}
-        _ => return Err(Trouble::Line("no request")),
-    }
-    Ok((Vec::new(alloc), bytes))
-}
-
-/// The names of a path after the root's `/`. `n*16` is sixteen names `n`.
-fn read_path(alloc: Global, word: &str) -> Result<Vec<String>, Trouble> {
-    let names = word.strip_prefix("/").ok_or(Trouble::Line("no path"))?;
-    let mut path = Vec::new(alloc);
-    if names.is_empty() {
-        return Ok(path);
-    }
-    for part in names.split('/') {
-        let (name, times) = match part.split_once("*") {
-            Some((name, times)) => (name, number(times)?),
-            None => (part, 1),
-        };
-        for _ in 0..times {
-            path.push(String::from_str(alloc, name)?)?;
-        }
-    }
-    Ok(path)
+/// Appends a file's bytes as a payload has them.
+fn put_bytes(bytes: &[u8], payload: &mut Vec<u8>) -> Result<(), Trouble> {
+    let length = (bytes.len() % 0x1_0000_0000) as u32;
+    payload.extend_from_slice(&length.to_le_bytes())?;
+    payload.extend_from_slice(bytes)?;
+    Ok(())
 }
 
 /// Appends a path as a payload has it.
-pub fn put_path(path: &[String], payload: &mut Vec<u8>) -> Result<(), Trouble> {
+fn put_path(path: &[String], payload: &mut Vec<u8>) -> Result<(), Trouble> {
     payload.push((path.len() % 256) as u8)?;
     for name in path {
-        payload.extend_from_slice(&((name.len() % 65_536) as u16).to_le_bytes())?;
-        payload.extend_from_slice(name.as_bytes())?;
+        put_name(name, payload)?;
     }
     Ok(())
+}
+
+fn put_name(name: &str, payload: &mut Vec<u8>) -> Result<(), Trouble> {
+    payload.extend_from_slice(&((name.len() % 65_536) as u16).to_le_bytes())?;
+    payload.extend_from_slice(name.as_bytes())?;
+    Ok(())
+}
+
+/// The requests by their names.
+const ACTIONS: [(&str, Action); 5] = [
+    ("create", Action::Create),
+    ("replace", Action::Replace),
+    ("make", Action::Make),
+    ("rename", Action::Rename),
+    ("remove", Action::Remove),
+];
+
+/// The queries by their names.
+const QUERIES: [(&str, Asked); 3] = [
+    ("get", Asked::Data),
+    ("list", Asked::Names),
+    ("stat", Asked::Node),
+];
+
+/// Appends the payload of a request or a query, or one that is written out. Returns whether the words are one.
+pub fn read_message(name: &str, words: &[&str], payload: &mut Vec<u8>) -> Result<bool, Trouble> {
+    for (known, action) in &ACTIONS {
+        if *known == name {
+            read_request(*action, words, payload)?;
+            return Ok(true);
+        }
+    }
+    for (known, asked) in &QUERIES {
+        if *known == name {
+            read_query(*asked, words, payload)?;
+            return Ok(true);
+        }
+    }
+    if name == "payload" {
+        read_bytes(words, payload)?;
+        return Ok(true);
+    }
+    Ok(false)
+}
+
+/// `CLIENT[@MOMENT] NUMBER PATH`, and after them `PATH` or the bytes.
+fn read_request(action: Action, words: &[&str], payload: &mut Vec<u8>) -> Result<(), Trouble> {
+    let [client, order, path, rest @ ..] = words else {
+        return Err(NO_REQUEST);
+    };
+    let (client, moment) = client.split_once("@").unwrap_or((client, "0"));
+    let client = number(client)?;
+    let moment = number(moment)?;
+    let order = number(order)?;
+    put_head(action, [client, order, moment], payload)?;
+    read_path(path, payload)?;
+    read_rest(action, rest, payload)
+}
+
+/// The new path of a rename, or the bytes of a create and a replace.
+fn read_rest(action: Action, words: &[&str], payload: &mut Vec<u8>) -> Result<(), Trouble> {
+    match action {
+        Action::Create | Action::Replace => {
+            let mut bytes = Vec::new(*payload.allocator());
+            read_bytes(words, &mut bytes)?;
+            put_bytes(&bytes, payload)
+        }
+        Action::Rename => match words {
+            [path] => read_path(path, payload),
+            _ => Err(NO_REQUEST),
+        },
+        Action::Make | Action::Remove if words.is_empty() => Ok(()),
+        _ => Err(NO_REQUEST),
+    }
+}
+
+fn read_query(asked: Asked, words: &[&str], payload: &mut Vec<u8>) -> Result<(), Trouble> {
+    let [path] = words else {
+        return Err(Trouble::Line("no query"));
+    };
+    payload.push(asked as u8)?;
+    read_path(path, payload)
+}
+
+/// The count of the names of a path after the root's `/`, and the names. `n*16` is sixteen names `n`.
+fn read_path(word: &str, payload: &mut Vec<u8>) -> Result<(), Trouble> {
+    let names = word.strip_prefix("/").ok_or(Trouble::Line("no path"))?;
+    let start = payload.len();
+    payload.push(0)?;
+    let mut count = 0u8;
+    if !names.is_empty() {
+        for part in names.split('/') {
+            count = count.wrapping_add(read_names(part, payload)?);
+        }
+    }
+    if let Some(first) = payload.get_mut(start) {
+        *first = count;
+    }
+    Ok(())
+}
+
+/// A name, or the same one several times, and how many there are.
+fn read_names(part: &str, payload: &mut Vec<u8>) -> Result<u8, Trouble> {
+    let (name, times) = part.split_once("*").unwrap_or((part, "1"));
+    let mut count = 0u8;
+    for _ in 0..number::<i32>(times)? {
+        put_name(name, payload)?;
+        count = count.wrapping_add(1);
+    }
+    Ok(count)
 }
 
 /// What a query asks for.
@@ -165,9 +228,4 @@ pub fn query(alloc: Global, asked: Asked, path: &[String]) -> Result<Vec<u8>, Tr
     payload.push(asked as u8)?;
     put_path(path, &mut payload)?;
     Ok(payload)
-}
-
-/// The payload of a query about the path of a word.
-pub fn read_query(alloc: Global, asked: Asked, word: &str) -> Result<Vec<u8>, Trouble> {
-    query(alloc, asked, &read_path(alloc, word)?)
 }

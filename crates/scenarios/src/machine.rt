@@ -1,10 +1,11 @@
 //! An engine, or a store by itself, with the drive in memory that it borrows.
 
-ghost use Rattle.std.specs.Prelude.{◌≡◌, ◌≤◌, ℕ, true, [], length, IfSome};
+ghost use Rattle.std.specs.Prelude.{◌≡◌, ◌≤◌, ℕ, true, [], length, IfSome, None};
 ghost use Rattle.drive.specs.MemDrive.{journal_of, capacity_of};
 ghost use Rattle.store.specs.Agrees.{IsStoreOn};
 ghost use Rattle.engine.specs.Situation.{IsReady, situation};
 
+use crate::answers::tell;
 use crate::streams::Pieces;
 use crate::trouble::Trouble;
 use drive::{Block, Drive, Fault, MemDrive, Scheduled};
@@ -18,6 +19,9 @@ use words::Room;
 
 /// How many calls of the drive `Machine::burn` makes.
 const CALLS_TO_BURN: u64 = 2;
+
+/// The trouble with a step that needs a store.
+const NO_STORE: Trouble = Trouble::Line("no store is open");
 
 /// What is read in place of a block that did not reach the medium while one after it did.
 const UNWRITTEN: Block = [0; 2048];
@@ -78,17 +82,14 @@ impl Machine {
         Ok(Machine::on(self.alloc, self.drive.front(blocks)?))
     }
 
-    /// A drive of this capacity with the same medium, on which one bit of a byte of a block is changed.
-    pub fn changed(&self, capacity: u32, at: u32, byte: usize) -> Result<Machine, Trouble> {
-        let mut copy = Machine::blank(self.alloc, capacity);
-        for (address, block) in self.drive.journal() {
-            let mut block = *block;
-            if *address == at && byte < block.len() {
-                block[byte] ^= 1 << (byte % 8);
-            }
-            copy.burn(&block)?;
-        }
-        Ok(copy)
+    /// A drive with the same medium, on which one bit of a byte of a block is changed.
+    pub fn flipped(&self, at: u32, byte: usize) -> Result<Machine, Trouble> {
+        self.copy(self.blank_drive(self.drive.capacity()), Copied::Flipped { at, byte })
+    }
+
+    /// A drive of another capacity with the same medium.
+    pub fn resized(&self, capacity: u32) -> Result<Machine, Trouble> {
+        self.copy(self.blank_drive(capacity), Copied::All)
     }
 
     /// A drive with the first `blocks` blocks of the medium. The call of this number from then on fails, counted from
@@ -99,41 +100,33 @@ impl Machine {
         let call = calls.saturating_add(call);
         schedule.push(Scheduled { call, keep })?;
         let drive = MemDrive::new(self.alloc, self.drive.capacity(), schedule);
-        let mut copy = Machine::on(self.alloc, drive);
-        for (address, block) in self.drive.journal() {
-            if (*address as usize) < blocks {
-                copy.burn(block)?;
-            }
-        }
-        Ok(copy)
+        self.copy(drive, Copied::First(blocks))
     }
 
     /// A drive with the first `whole` blocks of the medium, and after them for each choice the block that is there or
     /// one of zeros.
     pub fn torn(&self, whole: usize, choices: &[bool]) -> Result<Machine, Trouble> {
-        let mut copy = Machine::blank(self.alloc, self.drive.capacity());
+        self.copy(self.blank_drive(self.drive.capacity()), Copied::Torn { whole, choices })
+    }
+
+    /// A new engine on this drive, after what is copied of each block was written to it.
+    fn copy(&self, drive: MemDrive, copied: Copied<'_>) -> Result<Machine, Trouble> {
+        let mut copy = Machine::on(self.alloc, drive);
         for (address, block) in self.drive.journal() {
-            if let Some(left) = left_of(block, (*address as usize).checked_sub(whole), choices) {
-                copy.burn(&left)?;
+            if let Some(block) = copied.of(*address, block) {
+                copy.burn(&block)?;
             }
         }
         Ok(copy)
     }
 
-    /// A drive of another capacity with the same medium.
-    pub fn resized(&self, capacity: u32) -> Result<Machine, Trouble> {
-        self.changed(capacity, u32::MAX, 0)
-    }
-
-    /// How many blocks the drive has room for.
-    pub fn capacity(&self) -> u32 {
-        self.drive.capacity()
+    fn blank_drive(&self, capacity: u32) -> MemDrive {
+        MemDrive::new(self.alloc, capacity, Vec::new(self.alloc))
     }
 
     /// Writes a block after the others.
     pub fn burn(&mut self, block: &Block) -> Result<(), Trouble> {
-        self.store = None;
-        self.engine = Engine::new();
+        forget(&mut self.store, &mut self.engine);
         let next = self.drive.next()?;
         if next >= self.drive.capacity() {
             return Err(Trouble::Line("a full drive"));
@@ -149,8 +142,7 @@ impl Machine {
 
     /// Forgets all that is not on the medium. An engine takes over.
     pub fn restart(&mut self) {
-        self.store = None;
-        self.engine = Engine::new();
+        forget(&mut self.store, &mut self.engine);
     }
 
     /// Formats the medium.
@@ -158,21 +150,19 @@ impl Machine {
         if moment >= MOMENT_LIMIT {
             return Err(Trouble::Line("no moment"));
         }
-        self.store = None;
-        self.engine = Engine::new();
+        forget(&mut self.store, &mut self.engine);
         Ok(format(self.alloc, &mut self.drive, label, moment)?)
     }
 
     /// Opens a store, which takes the place of the engine.
     pub fn open(&mut self) -> Result<(), Trouble> {
-        self.store = None;
-        self.engine = Engine::new();
+        forget(&mut self.store, &mut self.engine);
         self.store = Some(Store::open(self.alloc, &mut self.drive)?);
         Ok(())
     }
 
-    /// The frame of the answer to a payload.
-    pub fn ask(&mut self, payload: &[u8]) -> Result<Vec<u8>, Trouble> {
+    /// Appends the answer to a payload.
+    pub fn ask(&mut self, payload: &[u8], out: &mut String) -> Result<(), Trouble> {
         let message = read_payload(self.alloc, payload);
         let answer = match self.store.take() {
             Some(mut store) => {
@@ -183,28 +173,31 @@ impl Machine {
             }
             None => self.engine.answer(self.alloc, &mut self.drive, message),
         };
-        frames_of(self.alloc, &[answer])
+        tell_answers(self.alloc, &[answer], out)
     }
 
-    /// The frame of the answer to a query about an earlier state.
-    pub fn ask_then(&mut self, snapshot: &Snapshot, payload: &[u8]) -> Result<Vec<u8>, Trouble> {
+    /// Appends the answer to a query about an earlier state.
+    pub fn ask_then(
+        &mut self,
+        snapshot: &Snapshot,
+        payload: &[u8],
+        out: &mut String,
+    ) -> Result<(), Trouble> {
         let Message::Query(query) = read_payload(self.alloc, payload) else {
             return Err(Trouble::Line("no query"));
         };
-        let Some(mut store) = self.store.take() else {
-            return Err(Trouble::Line("no store is open"));
+        let Some(store) = &mut self.store else {
+            return Err(NO_STORE);
         };
-        let answer = answer_then(self.alloc, &mut store, &mut self.drive, snapshot, &query);
-        self.store = Some(store);
-        frames_of(self.alloc, &[answer])
+        let answer = answer_then(self.alloc, store, &mut self.drive, snapshot, &query);
+        tell_answers(self.alloc, &[answer], out)
     }
 
-    /// The answers of a new engine to these deliveries.
-    pub fn run(&mut self, deliveries: &[Delivery]) -> Result<Vec<u8>, Trouble> {
-        self.store = None;
-        self.engine = Engine::new();
+    /// Appends the answers of a new engine to these deliveries.
+    pub fn run(&mut self, deliveries: &[Delivery], out: &mut String) -> Result<(), Trouble> {
+        forget(&mut self.store, &mut self.engine);
         let answers = run(self.alloc, &mut self.drive, deliveries)?;
-        frames_of(self.alloc, &answers)
+        tell_answers(self.alloc, &answers, out)
     }
 
     /// Answers the messages of a stream.
@@ -223,7 +216,7 @@ impl Machine {
     pub fn as_of(&mut self, commit: u32) -> Result<Snapshot, Trouble> {
         match &self.store {
             Some(store) => Ok(store.as_of(self.alloc, &mut self.drive, commit)?),
-            None => Err(Trouble::Line("no store is open")),
+            None => Err(NO_STORE),
         }
     }
 
@@ -231,7 +224,7 @@ impl Machine {
     pub fn history(&mut self) -> Result<Vec<Commit>, Trouble> {
         match &self.store {
             Some(store) => Ok(store.history(self.alloc, &mut self.drive)?),
-            None => Err(Trouble::Line("no store is open")),
+            None => Err(NO_STORE),
         }
     }
 
@@ -239,7 +232,7 @@ impl Machine {
     pub fn check(&mut self) -> Result<u32, Trouble> {
         match &self.store {
             Some(store) => Ok(store.check(self.alloc, &mut self.drive)?),
-            None => Err(Trouble::Line("no store is open")),
+            None => Err(NO_STORE),
         }
     }
 
@@ -247,9 +240,45 @@ impl Machine {
     pub fn most_held(&self) -> Result<usize, Trouble> {
         match &self.store {
             Some(store) => Ok(store.most_held()),
-            None => Err(Trouble::Line("no store is open")),
+            None => Err(NO_STORE),
         }
     }
+}
+
+/// What of a medium is copied to another drive.
+#[derive(Clone, Copy)]
+enum Copied<'c> {
+    All,
+    /// All, with one bit of a byte of a block changed.
+    Flipped { at: u32, byte: usize },
+    /// So many blocks.
+    First(usize),
+    /// The whole blocks, and by these choices those after them.
+    Torn { whole: usize, choices: &'c [bool] },
+}
+
+impl Copied<'_> {
+    /// What of a block is copied.
+    fn of(&self, address: u32, block: &Block) -> Option<Block> {
+        match self {
+            Copied::All => Some(*block),
+            Copied::Flipped { at, byte } if *at == address => Some(flipped(block, *byte)),
+            Copied::Flipped { .. } => Some(*block),
+            Copied::First(blocks) => ((address as usize) < *blocks).then_some(*block),
+            Copied::Torn { whole, choices } => {
+                left_of(block, (address as usize).checked_sub(*whole), choices)
+            }
+        }
+    }
+}
+
+/// A block of which one bit of a byte is changed, if it has that byte.
+fn flipped(block: &Block, byte: usize) -> Block {
+    let mut block = *block;
+    if let Some(changed) = block.get_mut(byte) {
+        *changed ^= 1 << (byte % 8);
+    }
+    block
 }
 
 /// What is left of a block. `after` is its place among those after the whole ones, or `None` if it is one of these.
@@ -264,13 +293,22 @@ fn left_of(block: &Block, after: Option<usize>, choices: &[bool]) -> Option<Bloc
     }
 }
 
-/// The frames of answers.
-fn frames_of(alloc: Global, answers: &[Answer]) -> Result<Vec<u8>, Trouble> {
+/// Appends answers as their frames have them.
+fn tell_answers(alloc: Global, answers: &[Answer], out: &mut String) -> Result<(), Trouble> {
     let mut frames = Vec::new(alloc);
     for answer in answers {
         encode_answer(answer, &mut frames)?;
     }
-    Ok(frames)
+    tell(&frames, out)
+}
+
+/// Forgets all that is not on a medium. An engine takes over.
+fn forget(store: &mut Option<Store>, engine: &mut Engine)
+    ensures store { store.new ≡ None }
+    ensures engine { engine.new.store ≡ None }
+{
+    *store = None;
+    *engine = Engine::new();
 }
 
 /// The answer of a store to a message.

@@ -41,17 +41,13 @@ fn play_scenario<R: Print + AllocGlobal>(
     index: usize,
     scenario: &str,
 ) -> io::Result<bool> {
-    let mut stage = Stage::new(rt.alloc(), script);
-    match stage.play(index) {
-        Ok(()) => {
-            println!(rt; "ok {scenario}")?;
-            Ok(true)
-        }
-        Err(failure) => {
-            println!(rt; "FAILED {scenario}: {name} line {failure}")?;
-            Ok(false)
-        }
+    let mut failure = String::new(rt.alloc());
+    if Stage::new(rt.alloc(), script).play(index, &mut failure) {
+        println!(rt; "ok {scenario}")?;
+        return Ok(true);
     }
+    println!(rt; "FAILED {scenario}: {name} line {failure}")?;
+    Ok(false)
 }
 
 /// Plays the scenarios of a script.

@@ -1,17 +1,29 @@
 //! Steps that are played, and what each reports.
 
-use crate::answers::told;
-use crate::beside::{Beside, sessions_text};
+use crate::answers::tell;
+use crate::beside::{Beside, put_sessions};
+use crate::bytes::read_bytes;
+use crate::changes::read_message;
 use crate::machine::Machine;
-use crate::steps::{BesideStep, Look, MediumStep, Step, Stream};
+use crate::steps::{
+    BesideStep, Look, MediumStep, NewMedium, Step, number_at, number_or, read_block, read_fault,
+    step_of, word_at,
+};
 use crate::streams::Pieces;
 use crate::trouble::Trouble;
+use drive::Block;
 use ecma::crc;
 use engine::Delivery;
 use std::alloc::Global;
 use std::fmt::Write;
-use store::Snapshot;
+use store::{Commit, Snapshot};
 use words::{Room, show_bytes};
+
+/// The trouble with a step on an earlier state.
+const NOTHING_HELD: Trouble = Trouble::Line("no state is held");
+
+/// The trouble with a step before the die.
+const NO_DIE: Trouble = Trouble::Line("no die");
 
 /// A medium that is kept under a name.
 #[derive(Drop)]
@@ -44,55 +56,105 @@ impl Player {
         }
     }
 
-    /// Plays a step, and reports how it went.
-    pub fn play(&mut self, step: Step<'_>) -> Result<String, Trouble> {
+    /// Plays the step of the words, and appends a report of how it went.
+    pub fn play(&mut self, words: &[&str], out: &mut String) -> Result<(), Trouble> {
+        let Some((name, rest)) = words.split_first() else {
+            return Err(Trouble::Line("no step"));
+        };
+        let mut payload = Vec::new(self.alloc);
+        if read_message(name, rest, &mut payload)? {
+            return self.machine.ask(&payload, out);
+        }
+        self.play_other(step_of(name, rest.len())?, rest, out)
+    }
+
+    fn play_other(&mut self, step: Step, words: &[&str], out: &mut String) -> Result<(), Trouble> {
         match step {
-            Step::Medium(step) => self.play_medium(step),
-            Step::Ask(payload) => told(self.alloc, &self.machine.ask(&payload)?),
-            Step::Then(payload) => match &self.held {
-                Some(snapshot) => told(self.alloc, &self.machine.ask_then(snapshot, &payload)?),
-                None => Err(Trouble::Line("no state is held")),
-            },
-            Step::Later(payload) => {
-                self.later.push(match payload {
-                    Some(payload) => Delivery::Frame(payload),
-                    None => Delivery::Restart,
-                })?;
-                self.done()
+            Step::Then => self.ask_then(words, out),
+            Step::Later => self.put_off(words, out),
+            Step::Run => self.machine.run(&self.later, out),
+            Step::Serve => self.serve(words, out),
+            Step::New(step) => {
+                self.machine = self.another(step, words)?;
+                done(out)
             }
-            Step::Run => told(self.alloc, &self.machine.run(&self.later)?),
-            Step::Serve(stream) => self.serve(&stream),
-            Step::Look(look) => self.look(look),
-            Step::Beside(step) => self.play_beside(step),
+            Step::Medium(step) => self.play_medium(step, words, out),
+            Step::Look(look) => self.look(look, words, out),
+            Step::Die => {
+                let seed = number_at(words, 0)?;
+                self.beside = Some(Beside::new(self.alloc, seed, &self.machine)?);
+                done(out)
+            }
+            Step::AtMark => self.at_mark(number_at(words, 0)?, out),
+            Step::Beside(step) => self.play_beside(step, out),
         }
     }
 
-    /// What is reported if there is nothing to report.
-    fn done(&self) -> Result<String, Trouble> {
-        Ok(String::from_str(self.alloc, "done")?)
+    /// The payload of a request or a query that must be there.
+    fn payload(&self, words: &[&str]) -> Result<Vec<u8>, Trouble> {
+        let mut payload = Vec::new(self.alloc);
+        if let Some((name, rest)) = words.split_first() {
+            if read_message(name, rest, &mut payload)? {
+                return Ok(payload);
+            }
+        }
+        Err(Trouble::Line("no message"))
     }
 
-    fn play_medium(&mut self, step: MediumStep<'_>) -> Result<String, Trouble> {
+    fn ask_then(&mut self, words: &[&str], out: &mut String) -> Result<(), Trouble> {
+        let payload = self.payload(words)?;
+        match &self.held {
+            Some(snapshot) => self.machine.ask_then(snapshot, &payload, out),
+            None => Err(NOTHING_HELD),
+        }
+    }
+
+    /// Puts off a message, or a restart.
+    fn put_off(&mut self, words: &[&str], out: &mut String) -> Result<(), Trouble> {
+        let delivery = match words {
+            ["restart"] => Delivery::Restart,
+            words => Delivery::Frame(self.payload(words)?),
+        };
+        self.later.push(delivery)?;
+        done(out)
+    }
+
+    /// The medium that takes the place of the one that is there.
+    fn another(&self, step: NewMedium, words: &[&str]) -> Result<Machine, Trouble> {
         match step {
-            MediumStep::Blank(capacity) => self.machine = Machine::blank(self.alloc, capacity),
-            MediumStep::Format { label, moment } => self.machine.format(label, moment)?,
-            MediumStep::Keep(name) => self.keep(name)?,
-            MediumStep::Load { name, blocks } => {
-                self.machine = self.kept_as(name)?.front(blocks)?;
+            NewMedium::Blank => Ok(Machine::blank(self.alloc, number_at(words, 0)?)),
+            NewMedium::Load => {
+                let blocks = number_or(words, 1, usize::MAX)?;
+                self.kept_as(word_at(words, 0)?)?.front(blocks)
             }
-            MediumStep::Resize(capacity) => self.machine = self.machine.resized(capacity)?,
-            MediumStep::Flip { block, byte } => {
-                let capacity = self.machine.capacity();
-                self.machine = self.machine.changed(capacity, block, byte)?;
+            NewMedium::Resize => self.machine.resized(number_at(words, 0)?),
+            NewMedium::Flip => {
+                let (block, byte) = (number_at(words, 0)?, number_at(words, 1)?);
+                self.machine.flipped(block, byte)
             }
-            MediumStep::Burn(block) => self.machine.burn(&block)?,
-            MediumStep::Fault(fault) => self.machine.arm(fault),
+        }
+    }
+
+    fn play_medium(
+        &mut self,
+        step: MediumStep,
+        words: &[&str],
+        out: &mut String,
+    ) -> Result<(), Trouble> {
+        match step {
+            MediumStep::Format => {
+                let label = word_at(words, 0)?.trim_matches('"');
+                self.machine.format(label, number_at(words, 1)?)?;
+            }
+            MediumStep::Keep => self.keep(word_at(words, 0)?)?,
+            MediumStep::Burn => self.machine.burn(&read_block(self.alloc, words)?)?,
+            MediumStep::Fault => self.machine.arm(read_fault(words)?),
             MediumStep::Restart => self.machine.restart(),
             MediumStep::Open => self.machine.open()?,
-            MediumStep::AsOf(commit) => return self.hold(commit),
-            MediumStep::Same(name) => return self.compare(name),
+            MediumStep::AsOf => return self.hold(number_at(words, 0)?, out),
+            MediumStep::Same => return self.compare(word_at(words, 0)?, out),
         }
-        self.done()
+        done(out)
     }
 
     /// Keeps the medium under a name.
@@ -105,11 +167,12 @@ impl Player {
     }
 
     /// Checks that the medium is the one that is kept under a name.
-    fn compare(&self, name: &str) -> Result<String, Trouble> {
+    fn compare(&self, name: &str, out: &mut String) -> Result<(), Trouble> {
         if self.kept_as(name)?.journal() != self.machine.journal() {
-            return Ok(String::from_str(self.alloc, "another medium")?);
+            out.push_str("another medium")?;
+            return Ok(());
         }
-        self.done()
+        done(out)
     }
 
     /// The medium that is kept under a name.
@@ -123,125 +186,175 @@ impl Player {
     }
 
     /// Holds an earlier state. Reports its commit, and the sessions.
-    fn hold(&mut self, commit: u32) -> Result<String, Trouble> {
+    fn hold(&mut self, commit: u32, out: &mut String) -> Result<(), Trouble> {
         let snapshot = self.machine.as_of(commit)?;
-        let told = snapshot.commit();
-        let sessions = sessions_text(self.alloc, &snapshot)?;
+        put_snapshot(&snapshot, out)?;
         self.held = Some(snapshot);
-        let text = format!(in self.alloc;
-            "{} {} {} {}, {sessions}",
-            told.commit, told.vat_icb_address, told.files, told.directories
-        )?;
-        Ok(text)
+        Ok(())
     }
 
     /// Answers the messages of a stream. Reports why that ended, if it failed, and the answers.
-    fn serve(&mut self, stream: &Stream) -> Result<String, Trouble> {
-        let (bytes, _) = stream.bytes.split_at(stream.end.min(stream.bytes.len()));
-        let (first, rest) = bytes.split_at(stream.first.min(bytes.len()));
-        let mut reader = Pieces {
-            first,
-            rest,
-            size: stream.size,
-        };
+    fn serve(&mut self, words: &[&str], out: &mut String) -> Result<(), Trouble> {
+        let (first, size) = (number_at(words, 0)?, number_at(words, 1)?);
+        let (end, room) = (number_at(words, 2)?, number_at(words, 3)?);
+        let mut bytes = Vec::new(self.alloc);
+        if let Some(rest) = words.get(4..) {
+            read_bytes(rest, &mut bytes)?;
+        }
         let mut writer = Room {
             bytes: Vec::new(self.alloc),
-            left: stream.room,
+            left: room,
         };
-        let served = self.machine.serve(&mut reader, &mut writer);
-        let answers = told(self.alloc, &writer.bytes)?;
-        match served {
-            Ok(()) => Ok(answers),
-            Err(fault) if answers.is_empty() => Ok(format!(in self.alloc; "{fault}")?),
-            Err(fault) => Ok(format!(in self.alloc; "{fault} behind {answers}")?),
-        }
+        self.serve_pieces(&mut pieces(&bytes, first, size, end), &mut writer, out)
     }
 
-    fn look(&mut self, look: Look) -> Result<String, Trouble> {
+    fn serve_pieces(
+        &mut self,
+        reader: &mut Pieces<'_>,
+        writer: &mut Room,
+        out: &mut String,
+    ) -> Result<(), Trouble> {
+        if let Err(fault) = self.machine.serve(reader, writer) {
+            let parted = if writer.bytes.is_empty() { "" } else { " behind " };
+            write!(out, "{fault}{parted}")?;
+        }
+        tell(&writer.bytes, out)
+    }
+
+    fn look(&mut self, look: Look, words: &[&str], out: &mut String) -> Result<(), Trouble> {
         match look {
-            Look::Blocks => self.number(self.machine.blocks()),
-            Look::Block(block) => self.show(block, 0, 2048),
-            Look::Bytes { block, from, count } => self.show(block, from, count),
-            Look::Crc { from, until } => self.crc_of(from, until),
-            Look::MostHeld => self.number(self.machine.most_held()?),
-            Look::Log => self.log(),
+            Look::Blocks => put_number(self.machine.blocks(), out),
+            Look::Block => self.show(number_at(words, 0)?, 0, 2048, out),
+            Look::Bytes => {
+                let (from, count) = (number_at(words, 1)?, number_at(words, 2)?);
+                self.show(number_at(words, 0)?, from, count, out)
+            }
+            Look::Crc => {
+                let from: usize = number_at(words, 0)?;
+                self.crc_of(from, number_or(words, 1, from.saturating_add(1))?, out)
+            }
+            Look::MostHeld => put_number(self.machine.most_held()?, out),
+            Look::Log => self.log(out),
             Look::Check => {
                 let commits = self.machine.check()?;
-                Ok(format!(in self.alloc; "sound {commits}")?)
+                write!(out, "sound {commits}")?;
+                Ok(())
             }
         }
     }
 
-    fn number(&self, number: usize) -> Result<String, Trouble> {
-        Ok(format!(in self.alloc; "{number}")?)
+    /// All commits, the newest first.
+    fn log(&mut self, out: &mut String) -> Result<(), Trouble> {
+        for commit in &self.machine.history()? {
+            let parted = if out.is_empty() { "" } else { ", " };
+            out.push_str(parted)?;
+            put_commit(commit, out)?;
+        }
+        Ok(())
     }
 
-    /// All commits, the newest first.
-    fn log(&mut self) -> Result<String, Trouble> {
-        let mut text = String::new(self.alloc);
-        for commit in &self.machine.history()? {
-            let parted = if text.is_empty() { "" } else { ", " };
-            write!(
-                text,
-                "{parted}{} {} {} {}",
-                commit.commit, commit.vat_icb_address, commit.files, commit.directories
-            )?;
-        }
-        Ok(text)
+    /// A block.
+    fn block(&self, block: usize) -> Result<&Block, Trouble> {
+        let Some(event) = self.machine.journal().get(block) else {
+            return Err(Trouble::Line("no such block"));
+        };
+        Ok(&event.1)
     }
 
     /// Some of the bytes of a block.
-    fn show(&self, block: usize, from: usize, count: usize) -> Result<String, Trouble> {
-        let (_, bytes) = self
-            .machine
-            .journal()
-            .get(block)
-            .ok_or(Trouble::Line("no such block"))?;
-        let (_, after) = bytes.split_at(from.min(2048));
+    fn show(
+        &self,
+        block: usize,
+        from: usize,
+        count: usize,
+        out: &mut String,
+    ) -> Result<(), Trouble> {
+        let (_, after) = self.block(block)?.split_at(from.min(2048));
         let (shown, _) = after.split_at(count.min(after.len()));
-        let mut text = String::new(self.alloc);
-        show_bytes(shown, &mut text)?;
-        Ok(text)
+        Ok(show_bytes(shown, out)?)
     }
 
     /// The CRC of some blocks.
-    fn crc_of(&self, from: usize, until: usize) -> Result<String, Trouble> {
+    fn crc_of(&self, from: usize, until: usize, out: &mut String) -> Result<(), Trouble> {
         let mut bytes = Vec::new(self.alloc);
         for block in from..until {
-            let event = self
-                .machine
-                .journal()
-                .get(block)
-                .ok_or(Trouble::Line("no such block"))?;
-            bytes.extend_from_slice(&event.1)?;
+            bytes.extend_from_slice(self.block(block)?)?;
         }
-        Ok(format!(in self.alloc; "{:04X}", crc(&bytes))?)
+        write!(out, "{:04X}", crc(&bytes))?;
+        Ok(())
     }
 
-    fn play_beside(&mut self, step: BesideStep) -> Result<String, Trouble> {
-        if let BesideStep::Die(seed) = step {
-            self.beside = Some(Beside::new(self.alloc, seed, &self.machine)?);
-            return self.done();
-        }
-        let machine = &mut self.machine;
-        let beside = self.beside.as_mut().ok_or(Trouble::Line("no die"))?;
-        match step {
-            BesideStep::Die(_) => {}
-            BesideStep::Upset => beside.upset(machine),
-            BesideStep::Fall => return beside.fall(machine),
-            BesideStep::Stray => return beside.stray(machine),
-            BesideStep::Fronts => return beside.fronts(machine),
-            BesideStep::Tree => return beside.tree(machine),
-            BesideStep::Lose => return beside.lose(machine),
-            BesideStep::Tear => return beside.tear(machine),
-            BesideStep::Mark => beside.mark()?,
-            BesideStep::AtMark(index) => match &self.held {
-                Some(snapshot) => return beside.at_mark(machine, snapshot, index),
-                None => return Err(Trouble::Line("no state is held")),
-            },
-            BesideStep::Marks => return beside.marks(machine),
-            BesideStep::Listed => return beside.listed(machine),
-        }
-        self.done()
+    /// Checks that the state that is held is that of a mark.
+    fn at_mark(&mut self, index: usize, out: &mut String) -> Result<(), Trouble> {
+        let beside = self.beside.as_ref().ok_or(NO_DIE)?;
+        let snapshot = self.held.as_ref().ok_or(NOTHING_HELD)?;
+        let is_same = beside.at_mark(&mut self.machine, snapshot, index, out)?;
+        put_same(is_same, out)
     }
+
+    fn play_beside(&mut self, step: BesideStep, out: &mut String) -> Result<(), Trouble> {
+        let machine = &mut self.machine;
+        let beside = self.beside.as_mut().ok_or(NO_DIE)?;
+        let is_same = match step {
+            BesideStep::Upset => {
+                beside.upset(machine);
+                return done(out);
+            }
+            BesideStep::Mark => {
+                beside.mark()?;
+                return done(out);
+            }
+            BesideStep::Fall => beside.fall(machine, out)?,
+            BesideStep::Stray => beside.stray(machine, out)?,
+            BesideStep::Fronts => beside.fronts(machine, out)?,
+            BesideStep::Tree => beside.tree(machine, out)?,
+            BesideStep::Lose => beside.lose(machine, out)?,
+            BesideStep::Tear => beside.tear(machine, out)?,
+            BesideStep::Marks => beside.marks(machine, out)?,
+            BesideStep::Listed => beside.listed(machine, out)?,
+        };
+        put_same(is_same, out)
+    }
+}
+
+/// Reports that there is nothing to report.
+fn done(out: &mut String) -> Result<(), Trouble> {
+    out.push_str("done")?;
+    Ok(())
+}
+
+/// Reports that the machine and the plain program agree. If they do not, their difference is reported already.
+fn put_same(is_same: bool, out: &mut String) -> Result<(), Trouble> {
+    if is_same {
+        out.push_str("same")?;
+    }
+    Ok(())
+}
+
+fn put_number(number: usize, out: &mut String) -> Result<(), Trouble> {
+    write!(out, "{number}")?;
+    Ok(())
+}
+
+fn put_commit(commit: &Commit, out: &mut String) -> Result<(), Trouble> {
+    write!(
+        out,
+        "{} {} {} {}",
+        commit.commit, commit.vat_icb_address, commit.files, commit.directories
+    )?;
+    Ok(())
+}
+
+/// The commit of a state, and its sessions.
+fn put_snapshot(snapshot: &Snapshot, out: &mut String) -> Result<(), Trouble> {
+    put_commit(&snapshot.commit(), out)?;
+    out.push_str(", ")?;
+    put_sessions(snapshot, out)
+}
+
+/// A stream of bytes, of which `first` come at first, and then `size` at a time, and which fails after `end`.
+fn pieces(bytes: &[u8], first: usize, size: usize, end: usize) -> Pieces<'_> {
+    let (bytes, _) = bytes.split_at(end.min(bytes.len()));
+    let (first, rest) = bytes.split_at(first.min(bytes.len()));
+    Pieces { first, rest, size }
 }

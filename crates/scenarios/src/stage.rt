@@ -1,35 +1,15 @@
 //! A scenario that is being played: which line is next, and what names stand for.
 
-use crate::bytes::read_bytes;
+use crate::bytes::read_one;
 use crate::player::Player;
 use crate::script::Script;
-use crate::steps::read_step;
 use crate::trouble::Trouble;
 use std::alloc::{AllocError, Global};
-use std::fmt;
 use std::fmt::Write;
 use words::{number, show_bytes};
 
 /// How deep blocks may be nested.
 const DEPTH: usize = 64;
-
-/// A line whose step did not report what it expects.
-#[derive(Drop)]
-pub struct Failure {
-    line: usize,
-    /// What the names stood for.
-    names: String,
-    trouble: Trouble,
-}
-
-impl fmt::Display for Failure {
-    fn fmt<W: fmt::Write>(&self, f: &mut fmt::Formatter<W>) -> fmt::Result {
-        let line = self.line;
-        let names = self.names.as_str();
-        let trouble = &self.trouble;
-        write!(f, "{line}{names}: {trouble}")
-    }
-}
 
 /// What a name stands for.
 #[derive(Drop)]
@@ -70,6 +50,9 @@ pub struct Stage<'s> {
     script: &'s Script,
     player: Player,
     open: Vec<Block>,
+    /// What the line that was played last expects, and what its step reported.
+    wanted: String,
+    got: String,
 }
 
 impl<'s> Stage<'s> {
@@ -80,44 +63,51 @@ impl<'s> Stage<'s> {
             script,
             player: Player::new(alloc),
             open: Vec::new(alloc),
+            wanted: String::new(alloc),
+            got: String::new(alloc),
         }
     }
 
     /// Plays the scenario that begins with a line, up to the first line whose step does not report what it expects.
-    pub fn play(&mut self, index: usize) -> Result<(), Failure> {
-        let first = index.saturating_add(1);
-        let end = self.script.end_of_scenario(index);
+    /// Returns whether there was none. Otherwise appends the number of that line, what the names stood for, and why it
+    /// failed.
+    pub fn play(&mut self, index: usize, failure: &mut String) -> bool {
         let mut at = index;
-        let mut played = self.enter(first, end, Vec::new(self.alloc), Vec::new(self.alloc));
+        let mut played = self.enter_scenario(index);
         for _ in 0..u64::MAX {
             if let Err(trouble) = played {
-                return Err(self.failure(at, trouble));
+                // Without memory, what is left of the failure is left out.
+                let _ = self.put_failure(at, trouble, failure);
+                return false;
             }
             let Some(next) = self.advance() else {
-                return Ok(());
+                return true;
             };
             at = next;
             played = self.play_line(at);
         }
-        Ok(())
+        true
     }
 
-    fn failure(&self, at: usize, trouble: Trouble) -> Failure {
+    fn put_failure(&self, at: usize, trouble: Trouble, out: &mut String) -> Result<(), Trouble> {
         let line = self.script.lines().get(at).map_or(0, |line| line.number);
-        let mut names = String::new(self.alloc);
+        write!(out, "{line}")?;
         for block in &self.open {
             for bound in &block.bound {
-                let name = bound.name.as_str();
-                let value = bound.value.as_str();
-                // Without memory, names are left out.
-                let _ = write!(names, ", {name} {value}");
+                put_words(&[", ", &bound.name, " ", &bound.value], out)?;
             }
         }
-        Failure {
-            line,
-            names,
-            trouble,
+        match trouble {
+            Trouble::Told => put_words(&[": wanted ", &self.wanted, ", got ", &self.got], out),
+            trouble => Ok(write!(out, ": {trouble}")?),
         }
+    }
+
+    /// Opens the block of the lines of a scenario.
+    fn enter_scenario(&mut self, index: usize) -> Result<(), Trouble> {
+        let end = self.script.end_of_scenario(index);
+        let (bound, values) = (Vec::new(self.alloc), Vec::new(self.alloc));
+        self.enter(index.saturating_add(1), end, bound, values)
     }
 
     /// Opens a block.
@@ -169,28 +159,42 @@ impl<'s> Stage<'s> {
         let text = self.expand(&line.text)?;
         let (step, wanted) = wanted_of(&text);
         let words: Vec<&str> = step.split_whitespace().collect(self.alloc)?;
-        match words.as_slice() {
+        self.play_words(at, &words, wanted)
+    }
+
+    fn play_words(
+        &mut self,
+        at: usize,
+        words: &[&str],
+        wanted: Wanted<'_>,
+    ) -> Result<(), Trouble> {
+        match words {
             ["end"] => Ok(()),
             ["define", ..] => self.leave_out(at),
             ["each", name, values @ ..] => {
                 self.leave_out(at)?;
                 self.enter_each(at, name, values)
             }
-            words => self.play_words(words, wanted),
+            [name, values @ ..] => match self.script.definition(name) {
+                Some((at, names)) => self.play_definition(at, names, values, wanted),
+                None => self.play_step(words, wanted),
+            },
+            [] => self.play_step(words, wanted),
         }
     }
 
-    /// Plays a definition, which reports nothing, or a step.
-    fn play_words(&mut self, words: &[&str], wanted: Wanted<'_>) -> Result<(), Trouble> {
-        if let Some((name, values)) = words.split_first() {
-            if let Some((at, names)) = self.script.definition(name) {
-                if !matches!(wanted, Wanted::Nothing) {
-                    return Err(Trouble::Line("a definition tells nothing"));
-                }
-                return self.enter_definition(at, names, values);
-            }
+    /// Plays a definition, which reports nothing.
+    fn play_definition(
+        &mut self,
+        at: usize,
+        names: &str,
+        words: &[&str],
+        wanted: Wanted<'_>,
+    ) -> Result<(), Trouble> {
+        if !matches!(wanted, Wanted::Nothing) {
+            return Err(Trouble::Line("a definition tells nothing"));
         }
-        self.play_step(words, wanted)
+        self.enter_definition(at, names, words)
     }
 
     /// Skips the block that begins with a line.
@@ -223,29 +227,22 @@ impl<'s> Stage<'s> {
 
     /// Plays a step, and compares what it reports with what the line expects.
     fn play_step(&mut self, words: &[&str], wanted: Wanted<'_>) -> Result<(), Trouble> {
-        let alloc = self.alloc;
-        let step = read_step(alloc, words)?;
-        let got = match (self.player.play(step), wanted) {
-            (Ok(_), Wanted::Nothing) => return Ok(()),
-            (Ok(text), _) => text,
-            (Err(Trouble::Refused(fault)), Wanted::Text(_)) => format!(in alloc; "{fault}")?,
-            (Err(trouble), _) => return Err(trouble),
-        };
-        let mut shown = String::new(alloc);
-        match wanted {
-            Wanted::Nothing => {}
-            Wanted::Text(text) => shown.push_str(text)?,
-            Wanted::Bytes(text) => {
-                let words: Vec<&str> = text.split_whitespace().collect(alloc)?;
-                let mut bytes = Vec::new(alloc);
-                read_bytes(&words, &mut bytes)?;
-                show_bytes(&bytes, &mut shown)?;
+        self.got.clear();
+        let played = self.player.play(words, &mut self.got);
+        match (played, wanted) {
+            (played, Wanted::Nothing) => return played,
+            (Err(Trouble::Refused(fault)), Wanted::Text(_)) => {
+                self.got.clear();
+                write!(self.got, "{fault}")?;
             }
+            (played, _) => played?,
         }
-        if is_one_of(&shown, &got) {
+        self.wanted.clear();
+        put_wanted(self.alloc, wanted, &mut self.wanted)?;
+        if is_one_of(&self.wanted, &self.got) {
             return Ok(());
         }
-        Err(Trouble::Told { wanted: shown, got })
+        Err(Trouble::Told)
     }
 
     /// What a name stands for.
@@ -354,6 +351,30 @@ enum Wanted<'w> {
     Text(&'w str),
     /// These bytes.
     Bytes(&'w str),
+}
+
+/// Appends what is expected.
+fn put_wanted(alloc: Global, wanted: Wanted<'_>, out: &mut String) -> Result<(), Trouble> {
+    match wanted {
+        Wanted::Nothing => {}
+        Wanted::Text(text) => out.push_str(text)?,
+        Wanted::Bytes(text) => {
+            let mut bytes = Vec::new(alloc);
+            for word in text.split_whitespace() {
+                read_one(word, &mut bytes)?;
+            }
+            show_bytes(&bytes, out)?;
+        }
+    }
+    Ok(())
+}
+
+/// Appends all of these words.
+fn put_words(words: &[&str], out: &mut String) -> Result<(), Trouble> {
+    for word in words {
+        out.push_str(word)?;
+    }
+    Ok(())
 }
 
 /// The step of a line, and what it is to report.

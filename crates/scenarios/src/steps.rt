@@ -1,79 +1,66 @@
 //! The steps of a script by their words.
 
 use crate::bytes::read_bytes;
-use crate::changes::{Action, Asked, Change, read_query};
 use crate::trouble::Trouble;
 use drive::{Block, Fault};
 use std::alloc::Global;
+use std::str::FromStr;
 use words::number;
 
-/// A step.
-#[derive(Drop)]
-pub enum Step<'w> {
-    Medium(MediumStep<'w>),
-    /// A message, by the payload of its frame.
-    Ask(Vec<u8>),
+/// A step that is no request and no query.
+#[derive(Clone, Copy)]
+pub enum Step {
     /// A query about the state that is held.
-    Then(Vec<u8>),
-    /// A payload for `run`, or a restart.
-    Later(Option<Vec<u8>>),
+    Then,
+    /// A message for `run`, or a restart.
+    Later,
     Run,
-    Serve(Stream),
+    Serve,
+    New(NewMedium),
+    Medium(MediumStep),
     Look(Look),
+    Die,
+    AtMark,
     Beside(BesideStep),
 }
 
-/// A step that changes a medium, or what uses it.
+/// A step after which there is another medium.
 #[derive(Clone, Copy)]
-pub enum MediumStep<'w> {
-    Blank(u32),
-    Format { label: &'w str, moment: u64 },
-    Keep(&'w str),
-    Load { name: &'w str, blocks: usize },
-    Resize(u32),
-    Flip { block: u32, byte: usize },
-    Burn(Block),
-    Fault(Fault),
-    Restart,
-    Open,
-    AsOf(u32),
-    Same(&'w str),
+pub enum NewMedium {
+    Blank,
+    Load,
+    Resize,
+    Flip,
 }
 
-/// A stream: its bytes, how many come first, how many come at once after that, after how many it fails, and for how
-/// many bytes of answers there is room.
-#[derive(Drop)]
-pub struct Stream {
-    pub bytes: Vec<u8>,
-    pub first: usize,
-    pub size: usize,
-    pub end: usize,
-    pub room: usize,
+/// A step on the medium that is there, or on what uses it.
+#[derive(Clone, Copy)]
+pub enum MediumStep {
+    Format,
+    Keep,
+    Burn,
+    Fault,
+    Restart,
+    Open,
+    AsOf,
+    Same,
 }
 
 /// A look at a medium, or at its history.
 #[derive(Clone, Copy)]
 pub enum Look {
     Blocks,
-    Block(usize),
-    Bytes {
-        block: usize,
-        from: usize,
-        count: usize,
-    },
-    Crc {
-        from: usize,
-        until: usize,
-    },
+    Block,
+    Bytes,
+    Crc,
     MostHeld,
     Log,
     Check,
 }
 
-/// A step with random requests.
+/// A step with random requests, after the die.
 #[derive(Clone, Copy)]
 pub enum BesideStep {
-    Die(u64),
     Upset,
     Fall,
     Stray,
@@ -82,138 +69,93 @@ pub enum BesideStep {
     Lose,
     Tear,
     Mark,
-    AtMark(usize),
     Marks,
     Listed,
 }
 
+/// Any count of words.
+const ANY: usize = usize::MAX;
+
+/// The steps by their names, and the fewest and the most words that each has.
+const STEPS: [(&str, usize, usize, Step); 35] = [
+    ("then", 0, ANY, Step::Then),
+    ("later", 0, ANY, Step::Later),
+    ("run", 0, 0, Step::Run),
+    ("serve", 4, ANY, Step::Serve),
+    ("blank", 1, 1, Step::New(NewMedium::Blank)),
+    ("load", 1, 2, Step::New(NewMedium::Load)),
+    ("resize", 1, 1, Step::New(NewMedium::Resize)),
+    ("flip", 2, 2, Step::New(NewMedium::Flip)),
+    ("format", 2, 2, Step::Medium(MediumStep::Format)),
+    ("keep", 1, 1, Step::Medium(MediumStep::Keep)),
+    ("burn", 0, ANY, Step::Medium(MediumStep::Burn)),
+    ("fault", 2, 2, Step::Medium(MediumStep::Fault)),
+    ("restart", 0, 0, Step::Medium(MediumStep::Restart)),
+    ("open", 0, 0, Step::Medium(MediumStep::Open)),
+    ("as-of", 1, 1, Step::Medium(MediumStep::AsOf)),
+    ("same", 1, 1, Step::Medium(MediumStep::Same)),
+    ("blocks", 0, 0, Step::Look(Look::Blocks)),
+    ("block", 1, 1, Step::Look(Look::Block)),
+    ("bytes", 3, 3, Step::Look(Look::Bytes)),
+    ("crc", 1, 2, Step::Look(Look::Crc)),
+    ("most-held", 0, 0, Step::Look(Look::MostHeld)),
+    ("log", 0, 0, Step::Look(Look::Log)),
+    ("check", 0, 0, Step::Look(Look::Check)),
+    ("die", 1, 1, Step::Die),
+    ("upset", 0, 0, Step::Beside(BesideStep::Upset)),
+    ("fall", 0, 0, Step::Beside(BesideStep::Fall)),
+    ("stray", 0, 0, Step::Beside(BesideStep::Stray)),
+    ("fronts", 0, 0, Step::Beside(BesideStep::Fronts)),
+    ("tree", 0, 0, Step::Beside(BesideStep::Tree)),
+    ("lose", 0, 0, Step::Beside(BesideStep::Lose)),
+    ("tear", 0, 0, Step::Beside(BesideStep::Tear)),
+    ("mark", 0, 0, Step::Beside(BesideStep::Mark)),
+    ("at-mark", 1, 1, Step::AtMark),
+    ("marks", 0, 0, Step::Beside(BesideStep::Marks)),
+    ("listed", 0, 0, Step::Beside(BesideStep::Listed)),
+];
+
 /// The trouble with words that are no step.
 const NO_STEP: Trouble = Trouble::Line("no such step");
 
-/// The step of the words.
-pub fn read_step<'w>(alloc: Global, words: &[&'w str]) -> Result<Step<'w>, Trouble> {
-    let Some((name, rest)) = words.split_first() else {
-        return Err(Trouble::Line("no step"));
-    };
-    if let Some(payload) = read_message(alloc, name, rest)? {
-        return Ok(Step::Ask(payload));
-    }
-    if let Some(step) = read_beside(name, rest)? {
-        return Ok(Step::Beside(step));
-    }
-    if let Some(look) = read_look(name, rest)? {
-        return Ok(Step::Look(look));
-    }
-    read_other(alloc, name, rest)
-}
-
-fn read_other<'w>(alloc: Global, name: &str, words: &[&'w str]) -> Result<Step<'w>, Trouble> {
-    match (name, words) {
-        ("then", words) => Ok(Step::Then(read_payload(alloc, words)?)),
-        ("later", ["restart"]) => Ok(Step::Later(None)),
-        ("later", words) => Ok(Step::Later(Some(read_payload(alloc, words)?))),
-        ("run", []) => Ok(Step::Run),
-        ("serve", words) => Ok(Step::Serve(read_stream(alloc, words)?)),
-        (name, words) => Ok(Step::Medium(read_medium(alloc, name, words)?)),
-    }
-}
-
-/// The payload of a request or a query that must be there.
-fn read_payload(alloc: Global, words: &[&str]) -> Result<Vec<u8>, Trouble> {
-    let payload = match words.split_first() {
-        Some((name, rest)) => read_message(alloc, name, rest)?,
-        None => None,
-    };
-    payload.ok_or(Trouble::Line("no message"))
-}
-
-fn read_stream(alloc: Global, words: &[&str]) -> Result<Stream, Trouble> {
-    let [first, size, end, room, words @ ..] = words else {
-        return Err(NO_STEP);
-    };
-    let (first, size) = (number(first)?, number(size)?);
-    let (end, room) = (number(end)?, number(room)?);
-    let mut bytes = Vec::new(alloc);
-    read_bytes(words, &mut bytes)?;
-    Ok(Stream {
-        bytes,
-        first,
-        size,
-        end,
-        room,
-    })
-}
-
-/// The payload of a request or a query.
-fn read_message(alloc: Global, name: &str, words: &[&str]) -> Result<Option<Vec<u8>>, Trouble> {
-    let action = match name {
-        "create" => Action::Create,
-        "replace" => Action::Replace,
-        "make" => Action::Make,
-        "rename" => Action::Rename,
-        "remove" => Action::Remove,
-        _ => return read_question(alloc, name, words),
-    };
-    let change = Change::read(alloc, action, words)?;
-    Ok(Some(change.payload(alloc)?))
-}
-
-/// The payload of a query, or one that is written out.
-fn read_question(alloc: Global, name: &str, words: &[&str]) -> Result<Option<Vec<u8>>, Trouble> {
-    let asked = match name {
-        "get" => Asked::Data,
-        "list" => Asked::Names,
-        "stat" => Asked::Node,
-        "payload" => {
-            let mut payload = Vec::new(alloc);
-            read_bytes(words, &mut payload)?;
-            return Ok(Some(payload));
+/// The step with this name and this count of words.
+pub fn step_of(name: &str, count: usize) -> Result<Step, Trouble> {
+    for (known, least, most, step) in &STEPS {
+        if *known == name && *least <= count && count <= *most {
+            return Ok(*step);
         }
-        _ => return Ok(None),
-    };
-    match words {
-        [path] => Ok(Some(read_query(alloc, asked, path)?)),
-        _ => Err(Trouble::Line("no query")),
+    }
+    Err(NO_STEP)
+}
+
+/// The word of this index.
+pub fn word_at<'w>(words: &[&'w str], index: usize) -> Result<&'w str, Trouble> {
+    match words.get(index) {
+        Some(word) => Ok(word),
+        None => Err(NO_STEP),
     }
 }
 
-fn read_medium<'w>(
-    alloc: Global,
-    name: &str,
-    words: &[&'w str],
-) -> Result<MediumStep<'w>, Trouble> {
-    match (name, words) {
-        ("keep", [name]) => Ok(MediumStep::Keep(name)),
-        ("same", [name]) => Ok(MediumStep::Same(name)),
-        ("restart", []) => Ok(MediumStep::Restart),
-        ("open", []) => Ok(MediumStep::Open),
-        ("burn", words) => Ok(MediumStep::Burn(read_block(alloc, words)?)),
-        ("format", [label, moment]) => read_format(label, moment),
-        ("load", [name, blocks @ ..]) => read_load(name, blocks),
-        ("fault", [kind, count]) => Ok(MediumStep::Fault(read_fault(kind, count)?)),
-        (name, words) => read_numbered(name, words),
+/// The number that the word of this index is.
+pub fn number_at<T: FromStr>(words: &[&str], index: usize) -> Result<T, Trouble>
+where
+    T::Err: Drop,
+{
+    Ok(number(word_at(words, index)?)?)
+}
+
+/// The number that the word of this index is, or another one if there is no such word.
+pub fn number_or(words: &[&str], index: usize, other: usize) -> Result<usize, Trouble> {
+    match words.get(index) {
+        Some(word) => Ok(number(word)?),
+        None => Ok(other),
     }
 }
 
-fn read_format<'w>(label: &'w str, moment: &str) -> Result<MediumStep<'w>, Trouble> {
-    Ok(MediumStep::Format {
-        label: label.trim_matches('"'),
-        moment: number(moment)?,
-    })
-}
-
-fn read_load<'w>(name: &'w str, blocks: &[&str]) -> Result<MediumStep<'w>, Trouble> {
-    let blocks = match blocks {
-        [] => usize::MAX,
-        [blocks] => number(blocks)?,
-        _ => return Err(NO_STEP),
-    };
-    Ok(MediumStep::Load { name, blocks })
-}
-
-fn read_fault(kind: &str, count: &str) -> Result<Fault, Trouble> {
-    let count = number(count)?;
-    match kind {
+/// The fault of a kind, with a count.
+pub fn read_fault(words: &[&str]) -> Result<Fault, Trouble> {
+    let count = number_at(words, 1)?;
+    match word_at(words, 0)? {
         "after" => Ok(Fault::AfterBlocks(count)),
         "next" => Ok(Fault::Next(count)),
         "read" => Ok(Fault::Read(count)),
@@ -221,87 +163,12 @@ fn read_fault(kind: &str, count: &str) -> Result<Fault, Trouble> {
     }
 }
 
-/// A step that has only numbers.
-fn read_numbered<'w>(name: &str, words: &[&'w str]) -> Result<MediumStep<'w>, Trouble> {
-    match (name, words) {
-        ("blank", [capacity]) => Ok(MediumStep::Blank(number(capacity)?)),
-        ("resize", [capacity]) => Ok(MediumStep::Resize(number(capacity)?)),
-        ("as-of", [commit]) => Ok(MediumStep::AsOf(number(commit)?)),
-        ("flip", [block, byte]) => Ok(MediumStep::Flip {
-            block: number(block)?,
-            byte: number(byte)?,
-        }),
-        _ => Err(NO_STEP),
-    }
-}
-
 /// A block that begins with these bytes, with zeros after them.
-fn read_block(alloc: Global, words: &[&str]) -> Result<Block, Trouble> {
+pub fn read_block(alloc: Global, words: &[&str]) -> Result<Block, Trouble> {
     let mut bytes = Vec::new(alloc);
     read_bytes(words, &mut bytes)?;
     let size = bytes.len().min(2048);
     let mut block = [0; 2048];
     block[..size].copy_from_slice(&bytes[..size]);
     Ok(block)
-}
-
-fn read_look(name: &str, words: &[&str]) -> Result<Option<Look>, Trouble> {
-    match name {
-        "blocks" | "most-held" | "log" | "check" => Ok(look_of(name, words.len(), [0; 3])),
-        "block" | "bytes" | "crc" => Ok(look_of(name, words.len(), read_numbers(words)?)),
-        _ => Ok(None),
-    }
-}
-
-/// The numbers of the first three words.
-fn read_numbers(words: &[&str]) -> Result<[usize; 3], Trouble> {
-    let mut numbers = [0; 3];
-    for (place, word) in numbers.iter_mut().zip(words) {
-        *place = number(word)?;
-    }
-    Ok(numbers)
-}
-
-/// The look with this name and this count of numbers.
-fn look_of(name: &str, count: usize, numbers: [usize; 3]) -> Option<Look> {
-    let [first, second, third] = numbers;
-    match (name, count) {
-        ("blocks", 0) => Some(Look::Blocks),
-        ("block", 1) => Some(Look::Block(first)),
-        ("bytes", 3) => Some(Look::Bytes {
-            block: first,
-            from: second,
-            count: third,
-        }),
-        ("crc", 1) => Some(Look::Crc {
-            from: first,
-            until: first.saturating_add(1),
-        }),
-        ("crc", 2) => Some(Look::Crc {
-            from: first,
-            until: second,
-        }),
-        ("most-held", 0) => Some(Look::MostHeld),
-        ("log", 0) => Some(Look::Log),
-        ("check", 0) => Some(Look::Check),
-        _ => None,
-    }
-}
-
-fn read_beside(name: &str, words: &[&str]) -> Result<Option<BesideStep>, Trouble> {
-    Ok(Some(match (name, words) {
-        ("die", [seed]) => BesideStep::Die(number(seed)?),
-        ("upset", []) => BesideStep::Upset,
-        ("fall", []) => BesideStep::Fall,
-        ("stray", []) => BesideStep::Stray,
-        ("fronts", []) => BesideStep::Fronts,
-        ("tree", []) => BesideStep::Tree,
-        ("lose", []) => BesideStep::Lose,
-        ("tear", []) => BesideStep::Tear,
-        ("mark", []) => BesideStep::Mark,
-        ("at-mark", [index]) => BesideStep::AtMark(number(index)?),
-        ("marks", []) => BesideStep::Marks,
-        ("listed", []) => BesideStep::Listed,
-        _ => return Ok(None),
-    }))
 }

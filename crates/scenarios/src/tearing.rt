@@ -1,6 +1,5 @@
 //! What a power loss leaves of a commit: the writes that had returned, and of the write under way any of its blocks.
 
-use crate::answers::told;
 use crate::die::Die;
 use crate::machine::Machine;
 use crate::trouble::Trouble;
@@ -55,7 +54,8 @@ impl LastCommit<'_> {
     /// The same, or `None` if there is no such call.
     fn stopped(&self, call: u64, keep: usize) -> Result<Option<usize>, Trouble> {
         let mut copy = self.machine.failing(self.before, call, keep)?;
-        let text = told(self.alloc, &copy.ask(self.payload)?)?;
+        let mut text = String::new(self.alloc);
+        copy.ask(self.payload, &mut text)?;
         let is_stopped = text.as_str() == "failed";
         Ok(is_stopped.then_some(copy.blocks()))
     }

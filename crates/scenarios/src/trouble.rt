@@ -7,14 +7,14 @@ use store::StoreFault;
 use words::WordsFault;
 
 /// Why a step failed.
-#[derive(Debug, Drop)]
+#[derive(Clone, Copy, Debug)]
 pub enum Trouble {
     /// The line is no step, for this reason.
     Line(&'static str),
     /// A call of the store or of the format was refused. A line may expect that.
     Refused(StoreFault),
-    /// The step reported something else than its line expects.
-    Told { wanted: String, got: String },
+    /// The step reported something else than its line expects. The stage keeps both texts.
+    Told,
     /// There was no memory for the player.
     Memory,
 }
@@ -24,7 +24,7 @@ impl fmt::Display for Trouble {
         match self {
             Trouble::Line(why) => write!(f, "{why}"),
             Trouble::Refused(fault) => write!(f, "{fault}"),
-            Trouble::Told { wanted, got } => write!(f, "wanted {wanted}, got {got}"),
+            Trouble::Told => write!(f, "another report"),
             Trouble::Memory => write!(f, "no memory"),
         }
     }
