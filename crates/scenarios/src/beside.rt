@@ -169,7 +169,12 @@ fn path_below(alloc: Global, directory: &[String], name: &str) -> Result<Vec<Str
 /// latest request number, and the code and the commit of each kept reply.
 pub fn put_sessions(snapshot: &Snapshot, out: &mut String) -> Result<(), Trouble> {
     let sessions = snapshot.sessions();
-    put_pair("", u64::from(sessions.next_unique), u64::from(sessions.commits), out)?;
+    put_pair(
+        "",
+        u64::from(sessions.next_unique),
+        u64::from(sessions.commits),
+        out,
+    )?;
     for record in &sessions.records {
         put_pair(", ", record.client, record.latest, out)?;
         for reply in record.replies.as_slice() {
@@ -349,14 +354,14 @@ impl Beside {
     pub fn stray(&mut self, machine: &mut Machine, out: &mut String) -> Result<bool, Trouble> {
         let index = self.die.roll(40) as usize;
         let gap = self.latest[0].saturating_add(2);
-        let made = self.die.choose(self.alloc, 1, gap)?;
-        let expected = match self.sent.get(index) {
-            Some(sent) => {
-                let payload = sent.expected.payload.clone()?;
-                self.refused(sent.client, sent.number, payload)?
-            }
-            None => self.refused(1, gap, made.payload(self.alloc)?)?,
-        };
+        let mut payload = self.die.choose(self.alloc, 1, gap)?.payload(self.alloc)?;
+        let (mut client, mut number) = (1, gap);
+        if let Some(sent) = self.sent.get(index) {
+            client = sent.client;
+            number = sent.number;
+            payload = sent.expected.payload.clone()?;
+        }
+        let expected = self.refused(client, number, payload)?;
         is_answered_again(self.alloc, machine, &expected, out)
     }
 
@@ -427,16 +432,31 @@ impl Beside {
     /// after it if the last block is there. Then the request is sent again.
     pub fn tear(&mut self, machine: &mut Machine, out: &mut String) -> Result<bool, Trouble> {
         let old = self.plain()?.tree(self.alloc)?;
+        self.tear_after(machine, &old, out)
+    }
+
+    /// The same, after this tree.
+    fn tear_after(
+        &mut self,
+        machine: &mut Machine,
+        old: &[Expected],
+        out: &mut String,
+    ) -> Result<bool, Trouble> {
         let before = machine.blocks();
         if !self.fall(machine, out)? {
             return Ok(false);
         }
         let size = machine.blocks().saturating_sub(before);
-        if self.lose_power(machine)? {
-            return Ok(self.tree(machine, out)? && self.put_again(machine, 0, out)?);
+        let is_there = self.lose_power(machine)?;
+        let is_recovered = if is_there {
+            self.tree(machine, out)
+        } else {
+            compare_tree(self.alloc, machine, None, old, out)
+        };
+        if !is_recovered? {
+            return Ok(false);
         }
-        let is_old = compare_tree(self.alloc, machine, None, &old, out)?;
-        Ok(is_old && self.put_again(machine, size, out)?)
+        self.put_again(machine, if is_there { 0 } else { size }, out)
     }
 
     /// Loses the power during the last commit. Returns whether the last block is there.

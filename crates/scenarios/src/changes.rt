@@ -110,41 +110,47 @@ fn put_name(name: &str, payload: &mut Vec<u8>) -> Result<(), Trouble> {
     Ok(())
 }
 
-/// The requests by their names.
-const ACTIONS: [(&str, Action); 5] = [
-    ("create", Action::Create),
-    ("replace", Action::Replace),
-    ("make", Action::Make),
-    ("rename", Action::Rename),
-    ("remove", Action::Remove),
+/// What a message is.
+#[derive(Clone, Copy)]
+enum Sort {
+    Request(Action),
+    Query(Asked),
+    /// One that is written out.
+    Payload,
+}
+
+/// The messages by their names.
+const MESSAGES: [(&str, Sort); 9] = [
+    ("create", Sort::Request(Action::Create)),
+    ("replace", Sort::Request(Action::Replace)),
+    ("make", Sort::Request(Action::Make)),
+    ("rename", Sort::Request(Action::Rename)),
+    ("remove", Sort::Request(Action::Remove)),
+    ("get", Sort::Query(Asked::Data)),
+    ("list", Sort::Query(Asked::Names)),
+    ("stat", Sort::Query(Asked::Node)),
+    ("payload", Sort::Payload),
 ];
 
-/// The queries by their names.
-const QUERIES: [(&str, Asked); 3] = [
-    ("get", Asked::Data),
-    ("list", Asked::Names),
-    ("stat", Asked::Node),
-];
+fn sort_of(name: &str) -> Option<Sort> {
+    for (known, sort) in &MESSAGES {
+        if *known == name {
+            return Some(*sort);
+        }
+    }
+    None
+}
 
-/// Appends the payload of a request or a query, or one that is written out. Returns whether the words are one.
+/// Appends the payload of a message, if the words are one. Returns whether they are.
 pub fn read_message(name: &str, words: &[&str], payload: &mut Vec<u8>) -> Result<bool, Trouble> {
-    for (known, action) in &ACTIONS {
-        if *known == name {
-            read_request(*action, words, payload)?;
-            return Ok(true);
-        }
-    }
-    for (known, asked) in &QUERIES {
-        if *known == name {
-            read_query(*asked, words, payload)?;
-            return Ok(true);
-        }
-    }
-    if name == "payload" {
-        read_bytes(words, payload)?;
-        return Ok(true);
-    }
-    Ok(false)
+    let read = match sort_of(name) {
+        Some(Sort::Request(action)) => read_request(action, words, payload),
+        Some(Sort::Query(asked)) => read_query(asked, words, payload),
+        Some(Sort::Payload) => read_bytes(words, payload),
+        None => return Ok(false),
+    };
+    read?;
+    Ok(true)
 }
 
 /// `CLIENT[@MOMENT] NUMBER PATH`, and after them `PATH` or the bytes.

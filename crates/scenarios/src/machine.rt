@@ -84,7 +84,10 @@ impl Machine {
 
     /// A drive with the same medium, on which one bit of a byte of a block is changed.
     pub fn flipped(&self, at: u32, byte: usize) -> Result<Machine, Trouble> {
-        self.copy(self.blank_drive(self.drive.capacity()), Copied::Flipped { at, byte })
+        self.copy(
+            self.blank_drive(self.drive.capacity()),
+            Copied::Flipped { at, byte },
+        )
     }
 
     /// A drive of another capacity with the same medium.
@@ -106,7 +109,10 @@ impl Machine {
     /// A drive with the first `whole` blocks of the medium, and after them for each choice the block that is there or
     /// one of zeros.
     pub fn torn(&self, whole: usize, choices: &[bool]) -> Result<Machine, Trouble> {
-        self.copy(self.blank_drive(self.drive.capacity()), Copied::Torn { whole, choices })
+        self.copy(
+            self.blank_drive(self.drive.capacity()),
+            Copied::Torn { whole, choices },
+        )
     }
 
     /// A new engine on this drive, after what is copied of each block was written to it.

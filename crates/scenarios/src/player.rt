@@ -6,7 +6,7 @@ use crate::bytes::read_bytes;
 use crate::changes::read_message;
 use crate::machine::Machine;
 use crate::steps::{
-    BesideStep, Look, MediumStep, NewMedium, Step, number_at, number_or, read_block, read_fault,
+    BesideStep, Look, MediumStep, NewMedium, Step, number_at, read_block, read_fault, read_numbers,
     step_of, word_at,
 };
 use crate::streams::Pieces;
@@ -17,7 +17,7 @@ use engine::Delivery;
 use std::alloc::Global;
 use std::fmt::Write;
 use store::{Commit, Snapshot};
-use words::{Room, show_bytes};
+use words::{Room, number, show_bytes};
 
 /// The trouble with a step on an earlier state.
 const NOTHING_HELD: Trouble = Trouble::Line("no state is held");
@@ -74,6 +74,7 @@ impl Player {
             Step::Later => self.put_off(words, out),
             Step::Run => self.machine.run(&self.later, out),
             Step::Serve => self.serve(words, out),
+            Step::Load => self.load(words, out),
             Step::New(step) => {
                 self.machine = self.another(step, words)?;
                 done(out)
@@ -119,19 +120,23 @@ impl Player {
         done(out)
     }
 
+    /// Goes on with the first blocks of a medium that is kept, or with all of them.
+    fn load(&mut self, words: &[&str], out: &mut String) -> Result<(), Trouble> {
+        let blocks = match words.get(1) {
+            Some(blocks) => number(blocks)?,
+            None => usize::MAX,
+        };
+        self.machine = self.kept_as(word_at(words, 0)?)?.front(blocks)?;
+        done(out)
+    }
+
     /// The medium that takes the place of the one that is there.
     fn another(&self, step: NewMedium, words: &[&str]) -> Result<Machine, Trouble> {
+        let number = number_at(words, 0)?;
         match step {
-            NewMedium::Blank => Ok(Machine::blank(self.alloc, number_at(words, 0)?)),
-            NewMedium::Load => {
-                let blocks = number_or(words, 1, usize::MAX)?;
-                self.kept_as(word_at(words, 0)?)?.front(blocks)
-            }
-            NewMedium::Resize => self.machine.resized(number_at(words, 0)?),
-            NewMedium::Flip => {
-                let (block, byte) = (number_at(words, 0)?, number_at(words, 1)?);
-                self.machine.flipped(block, byte)
-            }
+            NewMedium::Blank => Ok(Machine::blank(self.alloc, number)),
+            NewMedium::Resize => self.machine.resized(number),
+            NewMedium::Flip => self.machine.flipped(number, number_at(words, 1)?),
         }
     }
 
@@ -215,24 +220,24 @@ impl Player {
         out: &mut String,
     ) -> Result<(), Trouble> {
         if let Err(fault) = self.machine.serve(reader, writer) {
-            let parted = if writer.bytes.is_empty() { "" } else { " behind " };
+            let parted = if writer.bytes.is_empty() {
+                ""
+            } else {
+                " behind "
+            };
             write!(out, "{fault}{parted}")?;
         }
         tell(&writer.bytes, out)
     }
 
     fn look(&mut self, look: Look, words: &[&str], out: &mut String) -> Result<(), Trouble> {
+        let [first, second, third] = read_numbers(words)?;
         match look {
             Look::Blocks => put_number(self.machine.blocks(), out),
-            Look::Block => self.show(number_at(words, 0)?, 0, 2048, out),
-            Look::Bytes => {
-                let (from, count) = (number_at(words, 1)?, number_at(words, 2)?);
-                self.show(number_at(words, 0)?, from, count, out)
-            }
-            Look::Crc => {
-                let from: usize = number_at(words, 0)?;
-                self.crc_of(from, number_or(words, 1, from.saturating_add(1))?, out)
-            }
+            Look::Block => self.show(first, 0, 2048, out),
+            Look::Bytes => self.show(first, second, third, out),
+            Look::Crc if words.len() < 2 => self.crc_of(first, first.saturating_add(1), out),
+            Look::Crc => self.crc_of(first, second, out),
             Look::MostHeld => put_number(self.machine.most_held()?, out),
             Look::Log => self.log(out),
             Look::Check => {
@@ -304,16 +309,16 @@ impl Player {
                 beside.mark()?;
                 return done(out);
             }
-            BesideStep::Fall => beside.fall(machine, out)?,
-            BesideStep::Stray => beside.stray(machine, out)?,
-            BesideStep::Fronts => beside.fronts(machine, out)?,
-            BesideStep::Tree => beside.tree(machine, out)?,
-            BesideStep::Lose => beside.lose(machine, out)?,
-            BesideStep::Tear => beside.tear(machine, out)?,
-            BesideStep::Marks => beside.marks(machine, out)?,
-            BesideStep::Listed => beside.listed(machine, out)?,
+            BesideStep::Fall => beside.fall(machine, out),
+            BesideStep::Stray => beside.stray(machine, out),
+            BesideStep::Fronts => beside.fronts(machine, out),
+            BesideStep::Tree => beside.tree(machine, out),
+            BesideStep::Lose => beside.lose(machine, out),
+            BesideStep::Tear => beside.tear(machine, out),
+            BesideStep::Marks => beside.marks(machine, out),
+            BesideStep::Listed => beside.listed(machine, out),
         };
-        put_same(is_same, out)
+        put_same(is_same?, out)
     }
 }
 

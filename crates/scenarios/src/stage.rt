@@ -162,12 +162,7 @@ impl<'s> Stage<'s> {
         self.play_words(at, &words, wanted)
     }
 
-    fn play_words(
-        &mut self,
-        at: usize,
-        words: &[&str],
-        wanted: Wanted<'_>,
-    ) -> Result<(), Trouble> {
+    fn play_words(&mut self, at: usize, words: &[&str], wanted: Wanted<'_>) -> Result<(), Trouble> {
         match words {
             ["end"] => Ok(()),
             ["define", ..] => self.leave_out(at),

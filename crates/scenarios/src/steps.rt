@@ -16,6 +16,7 @@ pub enum Step {
     Later,
     Run,
     Serve,
+    Load,
     New(NewMedium),
     Medium(MediumStep),
     Look(Look),
@@ -24,11 +25,10 @@ pub enum Step {
     Beside(BesideStep),
 }
 
-/// A step after which there is another medium.
+/// A step after which there is another medium, by numbers.
 #[derive(Clone, Copy)]
 pub enum NewMedium {
     Blank,
-    Load,
     Resize,
     Flip,
 }
@@ -83,7 +83,7 @@ const STEPS: [(&str, usize, usize, Step); 35] = [
     ("run", 0, 0, Step::Run),
     ("serve", 4, ANY, Step::Serve),
     ("blank", 1, 1, Step::New(NewMedium::Blank)),
-    ("load", 1, 2, Step::New(NewMedium::Load)),
+    ("load", 1, 2, Step::Load),
     ("resize", 1, 1, Step::New(NewMedium::Resize)),
     ("flip", 2, 2, Step::New(NewMedium::Flip)),
     ("format", 2, 2, Step::Medium(MediumStep::Format)),
@@ -144,12 +144,13 @@ where
     Ok(number(word_at(words, index)?)?)
 }
 
-/// The number that the word of this index is, or another one if there is no such word.
-pub fn number_or(words: &[&str], index: usize, other: usize) -> Result<usize, Trouble> {
-    match words.get(index) {
-        Some(word) => Ok(number(word)?),
-        None => Ok(other),
+/// The numbers of the first three words, and 0 for each that is not there.
+pub fn read_numbers(words: &[&str]) -> Result<[usize; 3], Trouble> {
+    let mut numbers = [0; 3];
+    for (place, word) in numbers.iter_mut().zip(words) {
+        *place = number(word)?;
     }
+    Ok(numbers)
 }
 
 /// The fault of a kind, with a count.
