@@ -78,12 +78,67 @@ connects() {
     "$udfburn" send "$socket" < none > connected 2>&1
 }
 
-# serve WORD..: starts the daemon on the image and the socket, with these words after them.
-serve() {
-    "$udfburnd" "$image" "$socket" "$@" 2> daemon.errors &
+# start WORD..: starts the daemon on these words, which name the socket.
+start() {
+    "$udfburnd" "$@" 2> daemon.errors &
     daemon=$!
     # The path is there a moment before connections are taken.
     holds 'the daemon listens' await connects
+}
+
+# serve WORD..: starts the daemon on the image and the socket, with these words after them.
+serve() {
+    start "$image" "$socket" "$@"
+}
+
+# limit: waits until the file `has_ended` is there, and kills the daemon if it is not there in a minute.
+limit() {
+    tries=600
+    until [ -e has_ended ]; do
+        tries=$((tries - 1))
+        if [ "$tries" -eq 0 ]; then
+            kill -9 "$daemon"
+            return
+        fi
+        sleep 0.1
+    done
+}
+
+# ended NAME: whether the daemon ends by itself with status 0 and without a line, and leaves the socket, which is removed here.
+# One that does not end is killed after a minute.
+ended() {
+    limit 2> kill.errors &
+    watch=$!
+    status=0
+    wait "$daemon" || status=$?
+    daemon=
+    : > has_ended
+    wait "$watch"
+    rm has_ended
+    : > output
+    cp daemon.errors errors
+    told "$1" 0 '' ''
+    holds 'the socket stays' [ -S "$socket" ]
+    rm -f "$socket"
+}
+
+# no_command WORD..: whether udfburn takes these words for those of no command.
+no_command() {
+    run "$@"
+    told "no command: udfburn $*" 2 '' 'udfburn: usage\n'
+}
+
+# no_daemon WORD..: the same of udfburnd.
+no_daemon() {
+    status=0
+    "$udfburnd" "$@" > output 2> errors || status=$?
+    told "no daemon: udfburnd $*" 2 '' 'udfburnd: usage\n'
+}
+
+# bytes_are NAME FILE BLOCK OFFSET DIGITS: whether a block has these bytes, two digits each, from an offset on.
+bytes_are() {
+    dd if="$2" bs=1 skip=$(($3 * 2048 + $4)) count=$((${#5} / 2)) 2> dd.errors | od -An -v -tx1 | tr -d ' \n' > digits
+    holds "$1" [ "$(cat digits)" = "$5" ]
 }
 
 # crash: kills the daemon, and removes the socket's path as its supervisor does.
@@ -115,6 +170,9 @@ printf "$make" > make_directory
 printf "$create$make" > both
 printf "$create\\000\\000\\000\\200$make" > long
 printf '\046\000\000\000\001\007' > part
+# Client 7 creates `/a` with 300 blocks of zeros.
+printf "\\041\\140\\011\\000\\001\\007$zeros\\001$zeros\\000$zeros\\001\\001\\000a\\000\\140\\011\\000" > large
+dd if=/dev/zero bs=2048 count=300 2> dd.errors >> large
 
 # Words.
 run
@@ -124,14 +182,40 @@ told 'too small a volume' 2 '' 'udfburn: usage\n'
 run format "$image" DISC 0 450001
 told 'too large a volume' 2 '' 'udfburn: usage\n'
 holds 'usage makes no image' [ ! -e "$image" ]
-status=0
-"$udfburnd" "$image" > output 2> errors || status=$?
-told 'words of the daemon' 2 '' 'udfburnd: usage\n'
+no_command apply
+no_command apply i j
+no_command Apply i
+no_command apply mem:
+no_command apply mem:450001
+no_command apply mem:+512
+no_command apply 'mem: 512'
+no_command apply mem:18446744073709552128
+no_command format i DISC 4102444800000000 512
+no_command format i DISC 0 511
+no_command format i DISC '' 512
+no_command format i DISC 0
+no_command ls i
+no_command get i / /
+no_command log
+no_command check i 0
+no_command send
+no_daemon
+no_daemon i
+no_daemon i s t
+no_daemon i s --connections
+no_daemon i s --connections 1000001
+no_daemon i s --connections +1
+no_daemon i s --connections 1 --connections 1
+no_daemon --help
+no_daemon i s --version
+holds 'neither makes an image' [ ! -e i ]
 status=0
 "$udfburnd" "$image" "$socket" > output 2> errors || status=$?
 told 'a daemon without an image' 1 '' 'udfburnd: 64 Device\n'
 run ls "$image" nowhere
 told 'a path before the image' 1 '' 'udfburn: 55 Path\n'
+run get "$image" nowhere
+told 'a path of a file before the image' 1 '' 'udfburn: 55 Path\n'
 run ls "$image" /
 told 'no image' 1 '' 'udfburn: 64 Device\n'
 run send "$socket"
@@ -147,12 +231,33 @@ told 'a length too long' 0 "$first"'\004\000\000\000\046\000\063\000' ''
 input=part
 run apply mem:3000
 told 'a frame that ends early' 0 '' ''
+input=large
+run apply mem:512
+told 'the least volume has no room for 300 blocks' 0 '\002\000\000\000\043\000' ''
+for capacity in 3000 003000 450000; do
+    run apply "mem:$capacity"
+    told "300 blocks in a volume of $capacity" 0 "$first" ''
+done
 
 # A new image.
 input=none
 run format "$image" DISC 0 3000
 told 'format' 0 'formatted\n' ''
 holds 'a new volume has 262 blocks' blocks "$image" 262
+# The label and the moment are in the primary volume descriptor, at 24 and 376 (ECMA-167 3/10.1). How long the partition is, which
+# begins at block 257, is in its descriptor at 192 (3/10.5).
+bytes_are 'the label DISC' "$image" 32 24 0844495343
+bytes_are 'the moment 0' "$image" 32 376 0010b2070101000000000000
+bytes_are 'the capacity 3000' "$image" 34 192 b70a0000
+run format least.img TAPE 86400000000 512
+told 'the least volume' 0 'formatted\n' ''
+bytes_are 'the label TAPE' least.img 32 24 0854415045
+bytes_are 'the second day' least.img 32 376 0010b2070102000000000000
+bytes_are 'the least capacity' least.img 34 192 ff000000
+run format greatest.img DISC 4102444799999999 450000
+told 'the last moment and the greatest volume' 0 'formatted\n' ''
+bytes_are 'the last moment' greatest.img 32 376 001033080c1f173b3b636363
+bytes_are 'the greatest capacity' greatest.img 34 192 cfdc0600
 run format "$image" DISC 0 3000
 told 'format again' 0 'formatted\n' ''
 run format "$image" DISK 0 3000
@@ -189,6 +294,9 @@ run get "$image" /a
 told 'the file' 0 'hello' ''
 run ls "$image" /
 told 'the root' 0 'f a\n' ''
+cp "$image" mem:9
+run ls mem:9 /
+told 'an image by this name' 0 'f a\n' ''
 run get "$image" /
 told 'a directory is no file' 1 '' 'udfburn: 97 IsDirectory\n'
 run ls "$image" /a
@@ -242,14 +350,21 @@ crash
 serve --connections 2
 run send "$socket"
 told 'the last connection' 0 "$second" ''
-status=0
-wait "$daemon" || status=$?
-daemon=
-: > output
-cp daemon.errors errors
-told 'the daemon ends' 0 '' ''
-holds 'the socket stays' [ -S "$socket" ]
-rm -f "$socket"
+ended 'the daemon ends'
+
+# The count of connections before the image, and between it and the socket.
+start --connections 1000000 "$image" "$socket"
+crash
+start "$image" --connections=7 "$socket"
+for connection in 2 3 4 5 6 7; do
+    run send "$socket"
+    told "connection $connection of 7" 0 "$second" ''
+done
+ended 'the daemon ends after seven connections'
+# Nobody connects.
+"$udfburnd" "$image" "$socket" --connections 0 2> daemon.errors &
+daemon=$!
+ended 'the daemon ends without a connection'
 
 # Images that were cut, between blocks and inside one.
 input=none

@@ -1,10 +1,7 @@
-//! Tests of the crates that use no codec, by topic: the plain program of the model, drives, media, messages, and the
-//! words of the programs. They are in a crate of their own, so that each of those crates is proved once. They use only
-//! what is public.
+//! Tests of the crates that use no codec, by topic: drives, media and messages. They are in a crate of their own, so that
+//! each of those crates is proved once. They use only what is public.
 #![tactic(auto)]
 
-#[cfg(test)]
-mod command_lines;
 #[cfg(test)]
 mod drives;
 #[cfg(test)]
@@ -13,8 +10,6 @@ mod files;
 mod images;
 #[cfg(test)]
 mod messages;
-#[cfg(test)]
-mod plain;
 #[cfg(test)]
 mod reading;
 #[cfg(test)]

@@ -1,16 +1,17 @@
-//! Random requests, on a machine and on the plain program of `model`, whose answers are compared.
+//! Requests, most of them random, on a machine and on the plain program of `model`, whose answers are compared.
 
 ghost use Rattle.std.specs.Prelude.{ℕ};
 ghost use Rattle.model.specs.PlainState.{IsWholeState};
 
 use crate::answers::node_text;
-use crate::changes::{Asked, Change, query};
+use crate::changes::{Asked, Change, plain_request, query};
 use crate::die::Die;
 use crate::machine::Machine;
 use crate::tearing::LastCommit;
 use crate::trouble::Trouble;
 use drive::Fault;
-use model::plain::{Content, Due, Entry, Node, Reply, State};
+use model::plain::{Content, Due, Entry, Node, Reply, Request, State};
+use request::{Message, read_payload};
 use std::alloc::Global;
 use std::fmt::Write;
 use std::marker::Model;
@@ -41,6 +42,10 @@ impl Plain {
         })
     }
 
+    fn is_new(&self, client: u64, number: u64) -> bool {
+        matches!(self.state.due(client, number), Due::New)
+    }
+
     /// Appends the answer to a request that is not new.
     fn refuse(&self, client: u64, number: u64, out: &mut String) -> Result<(), Trouble> {
         match self.state.due(client, number) {
@@ -54,8 +59,8 @@ impl Plain {
     }
 
     /// The program after a request that is new. Appends the answer.
-    fn apply(self, alloc: Global, change: Change, out: &mut String) -> Result<Plain, Trouble> {
-        match self.state.apply(alloc, change.plain()) {
+    fn apply(self, alloc: Global, request: Request, out: &mut String) -> Result<Plain, Trouble> {
+        match self.state.apply(alloc, request) {
             Ok((state, reply)) => {
                 put_reply(reply, out)?;
                 Ok(Plain { state })
@@ -343,11 +348,57 @@ impl Beside {
     fn expect(&mut self, change: Change) -> Result<Expected, Trouble> {
         let payload = change.payload(self.alloc)?;
         let mut text = String::new(self.alloc);
+        self.apply(change.plain(), &mut text)?;
+        Ok(Expected { payload, text })
+    }
+
+    /// Applies a request that is new to the plain program. Appends the answer.
+    fn apply(&mut self, request: Request, out: &mut String) -> Result<(), Trouble> {
         let plain = self.plain.take().ok_or(Trouble::Line("no die"))?;
-        let plain = plain.apply(self.alloc, change, &mut text)?;
+        let plain = plain.apply(self.alloc, request, out)?;
         self.counts.push(plain.counts())?;
         self.plain = Some(plain);
-        Ok(Expected { payload, text })
+        Ok(())
+    }
+
+    /// Gives a request to the plain program and to the machine. Reports the answer if both give the same one, and
+    /// otherwise both answers.
+    pub fn both(
+        &mut self,
+        machine: &mut Machine,
+        payload: &[u8],
+        out: &mut String,
+    ) -> Result<(), Trouble> {
+        let mut wanted = String::new(self.alloc);
+        self.answer(payload, &mut wanted)?;
+        let mut got = String::new(self.alloc);
+        machine.ask(payload, &mut got)?;
+        if compare(&got, &wanted, out)? {
+            out.push_str(&got)?;
+        }
+        Ok(())
+    }
+
+    /// Appends the answer of the plain program to any request.
+    fn answer(&mut self, payload: &[u8], out: &mut String) -> Result<(), Trouble> {
+        let Message::Request(request) = read_payload(self.alloc, payload) else {
+            return Err(Trouble::Line("no request"));
+        };
+        let (client, number) = (request.client, request.number);
+        if self.plain()?.is_new(client, number) {
+            return self.apply(plain_request(self.alloc, &request)?, out);
+        }
+        self.plain()?.refuse(client, number, out)
+    }
+
+    /// Reports what is due for a number by the plain program, which knows the number 0 too. No frame can carry that one.
+    pub fn due(&self, client: u64, number: u64, out: &mut String) -> Result<(), Trouble> {
+        let plain = self.plain()?;
+        if plain.is_new(client, number) {
+            out.push_str("new")?;
+            return Ok(());
+        }
+        plain.refuse(client, number, out)
     }
 
     /// Sends a request that was sent before, or one whose number is too large.

@@ -3,6 +3,7 @@
 use crate::bytes::read_bytes;
 use crate::trouble::Trouble;
 use model::plain::{Operation, Request};
+use request::{Op, Path};
 use std::alloc::Global;
 use words::number;
 
@@ -76,6 +77,49 @@ impl Change {
             operation,
         }
     }
+}
+
+/// A request that was read from a payload, as the plain program has it.
+pub fn plain_request(alloc: Global, request: &request::Request<'_>) -> Result<Request, Trouble> {
+    Ok(Request {
+        client: request.client,
+        number: request.number,
+        moment: request.moment,
+        operation: plain_operation(alloc, &request.op)?,
+    })
+}
+
+fn plain_operation(alloc: Global, op: &Op<'_>) -> Result<Operation, Trouble> {
+    let path = match op {
+        Op::Create { path, .. } | Op::Replace { path, .. } | Op::MakeDir { path } => path,
+        Op::Rename { from, .. } => from,
+        Op::Remove { path } => path,
+    };
+    let path = names_of(alloc, path)?;
+    Ok(match op {
+        Op::Create { bytes, .. } => Operation::Create {
+            path,
+            bytes: bytes.as_slice().to_vec(alloc)?,
+        },
+        Op::Replace { bytes, .. } => Operation::Replace {
+            path,
+            bytes: bytes.as_slice().to_vec(alloc)?,
+        },
+        Op::MakeDir { .. } => Operation::MakeDir { path },
+        Op::Rename { to, .. } => Operation::Rename {
+            from: path,
+            to: names_of(alloc, to)?,
+        },
+        Op::Remove { .. } => Operation::Remove { path },
+    })
+}
+
+fn names_of(alloc: Global, path: &Path) -> Result<Vec<String>, Trouble> {
+    let mut names = Vec::new(alloc);
+    for name in path.names() {
+        names.push(String::from_str(alloc, name.as_str())?)?;
+    }
+    Ok(names)
 }
 
 /// Appends what a request does, and its client, number and moment.

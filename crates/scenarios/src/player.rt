@@ -82,9 +82,14 @@ impl Player {
             Step::Medium(step) => self.play_medium(step, words, out),
             Step::Look(look) => self.look(look, words, out),
             Step::Die => {
-                let seed = number_at(words, 0)?;
-                self.beside = Some(Beside::new(self.alloc, seed, &self.machine)?);
+                let [seed, ..] = read_numbers(words)?;
+                self.beside = Some(Beside::new(self.alloc, seed as u64, &self.machine)?);
                 done(out)
+            }
+            Step::Both => self.ask_both(words, out),
+            Step::Due => {
+                let beside = self.beside.as_ref().ok_or(NO_DIE)?;
+                beside.due(number_at(words, 0)?, number_at(words, 1)?, out)
             }
             Step::AtMark => self.at_mark(number_at(words, 0)?, out),
             Step::Beside(step) => self.play_beside(step, out),
@@ -108,6 +113,13 @@ impl Player {
             Some(snapshot) => self.machine.ask_then(snapshot, &payload, out),
             None => Err(NOTHING_HELD),
         }
+    }
+
+    /// Gives a request to the machine and to the plain program.
+    fn ask_both(&mut self, words: &[&str], out: &mut String) -> Result<(), Trouble> {
+        let payload = self.payload(words)?;
+        let beside = self.beside.as_mut().ok_or(NO_DIE)?;
+        beside.both(&mut self.machine, &payload, out)
     }
 
     /// Puts off a message, or a restart.

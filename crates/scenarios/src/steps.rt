@@ -20,7 +20,12 @@ pub enum Step {
     New(NewMedium),
     Medium(MediumStep),
     Look(Look),
+    /// The plain program begins, with random numbers if there is a seed.
     Die,
+    /// A request to the machine and to the plain program.
+    Both,
+    /// What is due for a number, by the plain program.
+    Due,
     AtMark,
     Beside(BesideStep),
 }
@@ -77,7 +82,7 @@ pub enum BesideStep {
 const ANY: usize = usize::MAX;
 
 /// The steps by their names, and the fewest and the most words that each has.
-const STEPS: [(&str, usize, usize, Step); 35] = [
+const STEPS: [(&str, usize, usize, Step); 38] = [
     ("then", 0, ANY, Step::Then),
     ("later", 0, ANY, Step::Later),
     ("run", 0, 0, Step::Run),
@@ -102,6 +107,9 @@ const STEPS: [(&str, usize, usize, Step); 35] = [
     ("log", 0, 0, Step::Look(Look::Log)),
     ("check", 0, 0, Step::Look(Look::Check)),
     ("die", 1, 1, Step::Die),
+    ("beside", 0, 0, Step::Die),
+    ("both", 1, ANY, Step::Both),
+    ("due", 2, 2, Step::Due),
     ("upset", 0, 0, Step::Beside(BesideStep::Upset)),
     ("fall", 0, 0, Step::Beside(BesideStep::Fall)),
     ("stray", 0, 0, Step::Beside(BesideStep::Stray)),
