@@ -4,9 +4,11 @@
 # usage: test/edits.sh [CRATE..]
 #        test/edits.sh --since COMMIT
 #        test/edits.sh --count
-# Without words it tries the edits of every crate; with --since, those of the crates whose files differ from the commit.
-# --count prints how many edits each crate has in must-fail/ and here, and tries none. The last line is
-# 'edits: N passed, M failed'. It takes the Rattle kit, a POSIX shell and the tools of a base system.
+#        test/edits.sh --outdated
+# Without words it tries the edits of every crate; with --since, those of the crates whose files differ from the commit. The last
+# line is then 'edits: N passed, M failed'. The other two options try none. --count prints how many edits each crate has in
+# must-fail/ and here. --outdated names those of both whose text is not in its file exactly once, and its status is 1 if there is
+# one. It takes a POSIX shell, the tools of a base system, and to try edits the Rattle kit.
 #
 # The edits are in test/edits/CRATE, and those that change a definition in test/edits/laws/CRATE. They are tried on a copy of
 # the tree in which they are in crates/CRATE/must-fail. What rt check keeps for this tree serves the copy too.
@@ -46,6 +48,26 @@ count() {
         END { printf "%-14s %9d %10d %5d\n", "all", here, there, laws }'
 }
 
+# outdated: names the edits, in must-fail/ and here, whose text is not in its file exactly once. A further pair of texts is about
+# what the earlier ones made.
+outdated() {
+    find crates/*/must-fail test/edits -name '*.edit' | LC_ALL=C sort | xargs awk '
+        function contents(path,    line, text) {
+            while ((getline line < path) > 0) text = text line "\n"
+            close(path)
+            return text
+        }
+        FNR == 1 { count = split(FILENAME, names, "/"); crate = names[1] == "crates" ? names[2] : names[count - 1]; text = "" }
+        /^file: / { text = contents("crates/" crate "/" substr($0, 7)) }
+        /^old: / { old = substr($0, 6) }
+        /^new: / {
+            at = index(text, old)
+            if (at == 0 || index(substr(text, at + 1), old) > 0) { print FILENAME ": its text is not in the file exactly once: " old; found = 1 }
+            else text = substr(text, 1, at - 1) substr($0, 6) substr(text, at + length(old))
+        }
+        END { exit found }' || return 1
+}
+
 # refuse WORD..: says what is wrong with the words, and ends.
 refuse() {
     echo "edits: $*"
@@ -64,6 +86,10 @@ case ${1:-} in
     --count)
         count
         exit 0
+        ;;
+    --outdated)
+        outdated
+        exit
         ;;
     --since)
         [ $# -eq 2 ] || refuse 'usage: test/edits.sh --since COMMIT'

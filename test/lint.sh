@@ -1,5 +1,6 @@
 #!/bin/sh
-# What static checkers say of the Python and shell of the repository: mypy --strict, pyflakes, shellcheck.
+# What static checkers say of the Python and shell of the repository (mypy --strict, pyflakes, shellcheck), and whether each edit that
+# must fail still applies to the code.
 #
 # usage: test/lint.sh
 # Its last line is 'lint: N passed, M failed'. The checkers are installed where they are missing and we may; what cannot be had is
@@ -69,4 +70,5 @@ if have shellcheck shellcheck; then
         holds "$file is clean" shellcheck -x -S warning "$file"
     done
 fi
+holds 'each edit applies to the code' test/edits.sh --outdated
 counted
