@@ -1,11 +1,13 @@
 -- What putting a file or a directory at a new path does.
-use Rattle.std.proofs.Common.{◌≡◌, ℕ, ◌==◌, if◌then◌else◌, not, Bool, true, false, List, [], ◌∷◌, ◌++◌, length, map, Option, Some, None, is_some, append_assoc, refl, sym, ap, subst, ◌∙◌, arith}
+use Rattle.std.proofs.Common.{◌≡◌, ◌<◌, ◌≤◌, ℕ, ◌==◌, if◌then◌else◌, not, Bool, true, false, List, [], ◌∷◌, ◌++◌, length, map, Option, Some, None, is_some, append_assoc, refl, sym, ap, subst, ◌∙◌, arith}
 use Rattle.std.specs.Prelude.{nat_eq, nat_lt}
 use Rattle.std.specs.Map.{lookup}
 use Rattle.std.specs.FinMap.{contains_key, len}
 use Rattle.std.specs.Cmp.Lexicographic.{pointwise}
-use Rattle.std.proofs.lemmas.Bool.{ne_eqb}
+use Rattle.std.proofs.lemmas.Bool.{ne_eqb, lt-ltb, le-ltb}
 use Rattle.std.proofs.lemmas.List.{length-map, length_push, map-append}
+use Rattle.indexmap.specs.IndexMap.{insert_entry}
+use Rattle.indexmap.proofs.CallerLemmas.{insert_entry-new}
 use Rattle.model.specs.Tree.{Name, Path, Tree, IsTree, is_directory_at, names_at, names_in, has_names, parent_of, last_of}
 use Rattle.model.specs.Graph.{Graph, Body, Entry, MakesTree, IsFunctional, Reach, as_stored, content_in}
 use Rattle.model.specs.Graph.Body.{Entries}
@@ -43,6 +45,10 @@ unfolding rest_code
 addition_code path (thing.File bytes) tree = refl
 addition_code path thing.Directory tree = refl
 
+-- the root is there already
+pub add_root : (path : Path) (what : NewContent) (tree : Tree) → length path ≡ 0 → code_of (addition path what) tree ≡ 7
+add_root path what tree none = addition_code path what tree ∙ ap (λ (n : ℕ). add_code (n == 0) (nat_lt 16 (length path)) (is_directory_at tree (parent_of path)) (rest_code path tree)) none
+
 pub not_empty : (path above : Path) (name : Name) → path ≡ above ++ name ∷ [] → (length path == 0) ≡ false
 not_empty path above name e =
     let long : length path ≡ length (above ++ name ∷ []) = ap length e in
@@ -60,6 +66,15 @@ module _ (path above : Path) (name : Name) (split : path ≡ above ++ name ∷ [
       addition_code path what tree
       ∙ (ap (λ (b : Bool). add_code b (nat_lt 16 (length path)) (is_directory_at tree (parent_of path)) (rest_code path tree)) (not_empty path above name split)
       ∙ ap (λ (p : Path). add_code false (nat_lt 16 (length path)) (is_directory_at tree p) (rest_code path tree)) above_is)
+
+  pub add_deep : 16 < length path → code_of (addition path what) tree ≡ 8
+  add_deep long = some_code ∙ ap (λ (b : Bool). add_code false b (is_directory_at tree above) (rest_code path tree)) (lt-ltb 16 (length path) long)
+
+  pub add_nowhere : length path ≤ 16 → is_directory_at tree above ≡ false → code_of (addition path what) tree ≡ 1
+  add_nowhere short none =
+      some_code
+      ∙ (ap (λ (b : Bool). add_code false b (is_directory_at tree above) (rest_code path tree)) (le-ltb 16 (length path) short)
+      ∙ ap (λ (b : Bool). add_code false false b (rest_code path tree)) none)
 
   module _ (graph : Graph) (one : IsFunctional graph) (is : IsTree tree) (makes : MakesTree graph tree) (parent : Node) (here : IsNodeAt graph above parent) (directory : names_directory parent.kind ≡ true)
       (placed : Placed) (content : Content) (shown : MatchesStored here.found.stored placed content) where
@@ -91,6 +106,10 @@ module _ (path above : Path) (name : Name) (split : path ≡ above ++ name ∷ [
 pub unlisted_yet : (o : Option DirEntry) (names nodes : ℕ) → code_by_names (is_some o) names nodes ≡ 0 → o ≡ None
 unlisted_yet None names nodes e = refl
 unlisted_yet (Some entry) names nodes e = absurd (omega (arith, e))
+
+-- a name that is not there yet goes last
+pub put_last : (name : Name) (content : Content) (entry : DirEntry) → lookup (pointwise nat_eq name) content.dir.entries.entries ≡ None → insert_entry (pointwise nat_eq) content.dir.entries.entries name entry ≡ content.dir.entries.entries ++ (name, entry) ∷ []
+put_last name content entry none = insert_entry-new (pointwise nat_eq) content.dir.entries name entry none
 
 -- ---- what is written
 

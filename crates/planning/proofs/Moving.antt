@@ -10,6 +10,7 @@ use Rattle.std.proofs.lemmas.Cmp.{nat_list_eq_equiv}
 use Rattle.std.proofs.lemmas.List.{length-map, map-append}
 use Rattle.std.proofs.lemmas.Map.{lookup-remove_entry}
 use Rattle.std.proofs.lemmas.Map.Views.{Contains-from_lookup}
+use Rattle.indexmap.specs.IndexMap.{insert_entry}
 use Rattle.limits.specs.declared.TheConstants.{DIRECTORY_NAMES}
 use Rattle.dir.specs.declared.entry.Entry.{Entry as DirEntry}
 use Rattle.model.specs.Tree.{Name, Path, Tree, IsTree, Has, is_directory_at, names_at, paths_eq, begins_with, parent_of, last_of}
@@ -38,7 +39,7 @@ use Rattle.planning.specs.Writings.{directory_writing, new_file, new_directories
 use Rattle.planning.specs.Changes.{addresses_in, gone_of, IsChangeOf}
 use Rattle.planning.proofs.Removing.{left}
 use Rattle.lookup.proofs.Walks.{step_some, step_none, texts_exact}
-use Rattle.planning.proofs.Adding.{not_empty}
+use Rattle.planning.proofs.Adding.{not_empty, put_last}
 use Rattle.lookup.proofs.Heights.{has_at, names_opened, distinct_opened}
 
 -- ---- the code
@@ -136,14 +137,12 @@ lookup_left old new es distinct none =
     no_more false o e = e
 
 -- what is there after a name is taken out and another comes in
-pub entries_renamed : (old new copy : Name) (es less more : List (Name × DirEntry)) (entry : DirEntry) → IsDistinct (pointwise nat_eq) (keys_of es) → lookup (pointwise nat_eq new) es ≡ None → copy ≡ new → less ≡ remove_entry (pointwise nat_eq old) es
-    → (lookup (pointwise nat_eq copy) less ≡ None → more ≡ less ++ (copy, entry) ∷ []) → more ≡ remove_entry (pointwise nat_eq old) es ++ (new, entry) ∷ []
-entries_renamed old new copy es less more entry distinct none same left added =
-    let free : lookup (pointwise nat_eq copy) less ≡ None = (λ i. lookup (pointwise nat_eq (same i)) (left i)) ∙ lookup_left old new es distinct none in
-    added free ∙ (λ i. left i ++ (same i, entry) ∷ [])
-
-pub entries_gained : (new copy : Name) (es more : List (Name × DirEntry)) (entry : DirEntry) → lookup (pointwise nat_eq new) es ≡ None → copy ≡ new → (lookup (pointwise nat_eq copy) es ≡ None → more ≡ es ++ (copy, entry) ∷ []) → more ≡ es ++ (new, entry) ∷ []
-entries_gained new copy es more entry none same added = added (ap (λ (n : Name). lookup (pointwise nat_eq n) es) same ∙ none) ∙ (λ i. es ++ (same i, entry) ∷ [])
+pub entries_renamed : (old new : Name) (content left : Content) (more : List (Name × DirEntry)) (entry : DirEntry) → IsDistinct (pointwise nat_eq) (keys_of content.dir.entries.entries) → lookup (pointwise nat_eq new) content.dir.entries.entries ≡ None
+    → left.dir.entries.entries ≡ remove_entry (pointwise nat_eq old) content.dir.entries.entries → more ≡ insert_entry (pointwise nat_eq) left.dir.entries.entries new entry
+    → more ≡ remove_entry (pointwise nat_eq old) content.dir.entries.entries ++ (new, entry) ∷ []
+entries_renamed old new content left more entry distinct none less is =
+    let free : lookup (pointwise nat_eq new) left.dir.entries.entries ≡ None = ap (lookup (pointwise nat_eq new)) less ∙ lookup_left old new content.dir.entries.entries distinct none in
+    is ∙ (put_last new left entry free ∙ ap (λ (es : List (Name × DirEntry)). es ++ (new, entry) ∷ []) less)
 
 -- ---- what directories say
 

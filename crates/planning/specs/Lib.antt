@@ -4,4 +4,5 @@ pub mod Last
 pub mod Moves
 pub mod Needs
 pub mod Plan
+pub mod Rewriting
 pub mod Writings

@@ -10,10 +10,11 @@ ghost use Rattle.model.specs.Tree.{Path, Tree};
 ghost use Rattle.recover.specs.Faults.{IsShortage, devices};
 ghost use Rattle.lookup.specs.Asked.{model_operation};
 ghost use Rattle.lookup.specs.Cache.{AreKept};
-ghost use Rattle.lookup.specs.Lookups.{Answers, Looks, OfStoredNode, Sees, SeesNode, graph_seen};
+ghost use Rattle.lookup.specs.Lookups.{Answers, Looks, OfDirectory, OfStoredNode, Sees, SeesNode, graph_seen};
 ghost use Rattle.planning.specs.Changes.{IsChangeRefused, IsChangeSeen, IsSameButDirectories, addition};
 ghost use Rattle.planning.specs.Last.{HasTree, IsChangeIn, IsCounted, IsLastTableOn};
 ghost use Rattle.planning.specs.Moves.{IsBetween, IsMoveWithin, Moves, Turns};
+ghost use Rattle.planning.specs.Rewriting.{TakesName};
 ghost use Rattle.planning.specs.Writings.{new_directories};
 
 use crate::change::{Change, NewContent, NewFile, code_of_addition, is_below, written};
@@ -116,7 +117,7 @@ impl<D: Drive> StateBefore<'_, '_, D> {
         let Some(parent) = self.lookup.find_directory(above)? else {
             return Ok(self.refused(Code::NoParent));
         };
-        let (placed, mut content) = self.lookup.open(parent.address)?;
+        let (placed, content) = self.lookup.open(parent.address)?;
         let code = code_of_addition(self.node_count, &content, name);
         if code != Code::Done {
             self.lookup.keep(placed, content);
@@ -127,15 +128,12 @@ impl<D: Drive> StateBefore<'_, '_, D> {
         let unique = self.next_unique;
         let mut change = Change::new(alloc);
         let kind = change.put_new(alloc, parent, address, unique, thing, moment)?;
-        content.add(
-            name.clone()?,
-            Entry {
-                kind,
-                virtual_address: address,
-                unique,
-            },
-        )?;
-        change.directories.push(written(parent, moment, content))?;
+        let entry = Entry {
+            kind,
+            virtual_address: address,
+            unique,
+        };
+        change.put_name(parent, moment, content, name, entry)?;
         Ok(change)
     }
 
@@ -183,10 +181,8 @@ impl<D: Drive> StateBefore<'_, '_, D> {
         if self.has_names(node)? {
             return Ok(self.refused(Code::NotEmpty));
         }
-        let (_, mut content) = self.lookup.open(parent.address)?;
-        content.remove(name);
         let mut change = Change::new(self.lookup.alloc());
-        change.directories.push(written(parent, moment, content))?;
+        self.take_name(parent, name, moment, &mut change)?;
         change.removed = Some(node);
         Ok(change)
     }
@@ -270,12 +266,11 @@ impl<D: Drive> StateBefore<'_, '_, D> {
         ensures looks { Looks D.Drive (devices result) self.old.lookup self.new.lookup }
     {
         let (_, mut content) = self.lookup.open(parent.address)?;
-        let mut change = Change::new(self.lookup.alloc());
         let Some(entry) = content.remove(old_name) else {
             return Err(self.lookup.damaged());
         };
-        content.add(new_name.clone()?, entry)?;
-        change.directories.push(written(parent, moment, content))?;
+        let mut change = Change::new(self.lookup.alloc());
+        change.put_name(parent, moment, content, new_name, entry)?;
         Ok(change)
     }
 
@@ -290,25 +285,38 @@ impl<D: Drive> StateBefore<'_, '_, D> {
         ensures does { Moves D.Drive self.old.lookup self.new.lookup (λ tree from to. IsBetween (graph_seen D.Drive self.old.lookup) tree from to node source_dir.entry.0 target_dir.entry.0 source_dir.entry.1.now target_dir.entry.1.now) moment result }
         ensures looks { Looks D.Drive (devices result) self.old.lookup self.new.lookup }
     {
-        let (target, mut gaining) = self.lookup.open(target_dir.0.address)?;
+        let (target, gaining) = self.lookup.open(target_dir.0.address)?;
         if gaining.dir.entries.len() >= DIRECTORY_NAMES {
             self.lookup.keep(target, gaining);
             return Ok(self.refused(Code::DirectoryFull));
         }
         let mut change = Change::new(self.lookup.alloc());
         self.set_parent(node, target_dir.0.address, &mut change)?;
-        let (_, mut losing) = self.lookup.open(source_dir.0.address)?;
-        let Some(entry) = losing.remove(source_dir.1) else {
+        let taken = self.take_name(source_dir.0, source_dir.1, moment, &mut change)?;
+        let Some(entry) = taken else {
             return Err(self.lookup.damaged());
         };
-        gaining.add(target_dir.1.clone()?, entry)?;
-        change
-            .directories
-            .push(written(source_dir.0, moment, losing))?;
-        change
-            .directories
-            .push(written(target_dir.0, moment, gaining))?;
+        change.put_name(target_dir.0, moment, gaining, target_dir.1, entry)?;
         Ok(change)
+    }
+
+    /// Removes a name from the directory of a node, and adds that directory, with this moment, to what is written. Returns
+    /// the name's entry, if it is there.
+    fn take_name<'r>(
+        &mut self,
+        node: Node,
+        name: &Name,
+        moment: Timestamp,
+        change: &mut Change<'r>,
+    ) -> Result<Option<Entry>, StoreFault>
+        ensures taken { OfDirectory D.Drive self.old.lookup self.new.lookup node.address (λ s. Answers result (λ found. TakesName s node moment name.now found change.old change.new)) }
+        ensures same { IsSameButDirectories change.old change.new }
+        ensures looks { Looks D.Drive (devices result) self.old.lookup self.new.lookup }
+    {
+        let (_, mut content) = self.lookup.open(node.address)?;
+        let entry = content.remove(name);
+        change.directories.push(written(node, moment, content))?;
+        Ok(entry)
     }
 
     /// Writes a moved directory again, with its new parent and its old moment. Does nothing for a file, whose entry

@@ -1,14 +1,16 @@
 //! What a request does to the nodes, before any place is chosen.
 
 ghost use Rattle.limits.specs.declared.TheConstants.{DIRECTORY_NAMES};
-ghost use Rattle.std.specs.Prelude.{◌≡◌, ◌<◌, [], ◌∷◌, ◌&&◌, IfOk, IfErr, None, is_some, length, nat_eq, nat_lt};
+ghost use Rattle.std.specs.Prelude.{◌≡◌, ◌<◌, [], ◌∷◌, ◌&&◌, IfOk, IfErr, None, OnOk, is_some, length, nat_eq, nat_lt};
 ghost use Rattle.std.specs.Cmp.Lexicographic.{pointwise};
 ghost use Rattle.std.specs.Map.{lookup};
+ghost use Rattle.indexmap.specs.IndexMap.{insert_entry};
 ghost use Rattle.model.specs.Tree.{Path, begins_with, has_names};
 ghost use Rattle.recover.specs.Faults.{devices};
 ghost use Rattle.recover.specs.declared.fault.StoreFault.TheVariants.{Memory};
 ghost use Rattle.table_update.specs.NextTable.{made_by};
-ghost use Rattle.planning.specs.Changes.{IsChangeRefused, addition, code_by_names, content_of_thing, new_writing};
+ghost use Rattle.planning.specs.Changes.{IsChangeRefused, IsSameButDirectories, addition, code_by_names, content_of_thing, new_writing};
+ghost use Rattle.planning.specs.Rewriting.{Rewrites};
 ghost use Rattle.planning.specs.Writings.{change_writings};
 ghost use Rattle.request.specs.Numbers.{code_number};
 ghost use Rattle.udf.specs.Said.{names_directory};
@@ -136,6 +138,27 @@ impl<'r> Change<'r> {
         };
         self.made = Some(NewNode { kind, address });
         Ok(kind)
+    }
+
+    /// Adds a name to the content of a node's directory, and that directory, with this moment, to what is written.
+    pub(crate) fn put_name(
+        &mut self,
+        node: Node,
+        moment: Timestamp,
+        mut content: Content,
+        name: &Name,
+        entry: Entry,
+    ) -> Result<(), StoreFault>
+        requires room { length content.dir.entries.entries < DIRECTORY_NAMES }
+        // A name that is there already keeps its place.
+        ensures put { OnOk result (Rewrites node moment content (insert_entry (pointwise nat_eq) content.dir.entries.entries name.now entry) self.old self.new) }
+        ensures same { IsSameButDirectories self.old self.new }
+        ensures memory { IfErr result (λ fault. fault ≡ Memory) }
+        ensures device { devices result ≡ 0 }
+    {
+        content.add(name.clone()?, entry)?;
+        self.directories.push(written(node, moment, content))?;
+        Ok(())
     }
 }
 

@@ -1,4 +1,4 @@
-use Rattle.std.proofs.Common.{◌≡◌, ◌∙◌, [], ◌∷◌, ◌++◌, Bool, if◌then◌else◌, List, None, Option, Some, inr, refl, sym, ap, subst}
+use Rattle.std.proofs.Common.{◌≡◌, ◌∙◌, [], ◌∷◌, ◌++◌, Bool, if◌then◌else◌, List, None, Option, Some, refl, sym, ap, subst}
 use Rattle.std.specs.FinMap.{get}
 use Rattle.model.specs.Operation.Operation.{Remove}
 use Rattle.model.specs.Tree.{Path}
@@ -6,10 +6,9 @@ use Rattle.request.specs.declared.answer.Code.TheVariants as code
 use Rattle.recover.specs.declared.node.Node.{Node}
 use Rattle.lookup.specs.Lookups.{free_seen, graph_seen}
 use Rattle.lookup.specs.Shows.{IsFound, IsFoundDirectory, IsNodeAt}
-use Rattle.lookup.specs.declared.content.Content.{Content}
 use Rattle.lookup.proofs.Finding.{child_between, directory_between, one_seen, opened_between, stored_between}
 use Rattle.lookup.proofs.Heights.{distinct_opened}
-use Rattle.lookup.proofs.Looking.{directory_later, failed, looks_failed, looks_none, looks_short, looks_then, sees_before, sees_next, sound, sound_before}
+use Rattle.lookup.proofs.Looking.{directory_later, failed, looks_failed, looks_none, looks_then, sees_before, sees_next, sound, sound_before}
 use Rattle.planning.specs.declared.change.Change.{Change}
 use Rattle.planning.specs.declared.change.NewDirectory.{NewDirectory}
 use Rattle.planning.proofs.Removing.{nothing_under, remove_missing, remove_there, removes}
@@ -64,7 +63,7 @@ returns-in_default-3-clause-does g c tree identity s =
     )
 
 pub returns-in_default-3-clause-looks : goal.returns-in_default-3-clause-looks
-returns-in_default-3-clause-looks g c = looks_then c.in_ok-parent.ensures.looks c.in_ok-node.ensures.looks
+returns-in_default-3-clause-looks g c = looks_then {n = 0} c.in_ok-parent.ensures.looks c.in_ok-node.ensures.looks
 
 pub returns-in_err-has_names-clause-does : goal.returns-in_err-has_names-clause-does
 returns-in_err-has_names-clause-does g c tree identity s =
@@ -95,41 +94,33 @@ returns-then-branch-clause-does g c tree identity s =
     let q1 = c.in_ok-parent.ensures.looks in
     let q2 = c.in_ok-node.ensures.looks in
     let q3 = c.in_ok-has_names.ensures.looks in
-    let up = subst (λ (o : Option Node). IsFoundDirectory graph tree above o) c.in-Some-2.is (directory_between tree above c.in_ok-parent.field-0 looks_none q1 (looks_then q2 q3) s c.in_ok-parent.ensures.found) in
+    let up = subst (λ (o : Option Node). IsFoundDirectory graph tree above o) c.in-Some-2.is (directory_between tree above c.in_ok-parent.field-0 looks_none q1 (looks_then {n = 0} q2 q3) s c.in_ok-parent.ensures.found) in
     let found = child_between tree above c.in-Some-2.parent name c.in_ok-node.field-0 q1 q2 q3 s up.0 up.1 c.in_ok-node.ensures.found in
     let here = subst (λ (p : Path). IsNodeAt graph p c.in-Some-3.node) (sym split) (subst (λ (o : Option Node). IsFound graph tree (above ++ name ∷ []) o) c.in-Some-3.is found) in
-    let has = (stored_between _ path c.in-Some-3.node (looks_then q1 q2) q3 (sound s) here c.in_ok-has_names.ensures.has).0 in (
+    let has = (stored_between _ path c.in-Some-3.node (looks_then {n = 0} q1 q2) q3 (sound s) here c.in_ok-has_names.ensures.has).0 in (
       refuses graph (free_seen a) tree (Remove path) c.args.moment identity 4 code.NotEmpty c.refused-then-branch.result c.refused-then-branch.ensures refl
           (remove_there path above name split tree graph (one_seen a) s.tree s.makes c.in-Some-3.node here c.in_ok-has_names.field-0 has ∙ ap (λ (b : Bool). if b then 5 else 0) c.if-branch.true),
       tt,
     )
 
 pub returns-then-branch-clause-looks : goal.returns-then-branch-clause-looks
-returns-then-branch-clause-looks g c = looks_then c.in_ok-parent.ensures.looks (looks_then c.in_ok-node.ensures.looks c.in_ok-has_names.ensures.looks)
+returns-then-branch-clause-looks g c = looks_then {n = 0} c.in_ok-parent.ensures.looks (looks_then {n = 0} c.in_ok-node.ensures.looks c.in_ok-has_names.ensures.looks)
 
-pub returns-in_err-content-clause-does : goal.returns-in_err-content-clause-does
-returns-in_err-content-clause-does g c tree identity s =
+pub returns-in_err-take_name-clause-does : goal.returns-in_err-take_name-clause-does
+returns-in_err-take_name-clause-does g c tree identity s =
     let a = c.args.self.now.lookup in
     let above = c.in-Some.above.now in
     let q1 = c.in_ok-parent.ensures.looks in
     let q2 = c.in_ok-node.ensures.looks in
     let q3 = c.in_ok-has_names.ensures.looks in
-    let q4 = c.in_err-content.ensures.looks in
+    let q4 = c.in_err-take_name.ensures.looks in
     let up = subst (λ (o : Option Node). IsFoundDirectory (graph_seen g.D.Drive a) tree above o) c.in-Some-2.is (directory_between tree above c.in_ok-parent.field-0 looks_none q1 (looks_then q2 (looks_then q3 q4)) s c.in_ok-parent.ensures.found) in
-    failed c.from_residual-in_err-content.result _ _ _ c.from_residual-in_err-content.ensures.1 (opened_between _ above c.in-Some-2.parent (looks_then q1 (looks_then q2 q3)) q4 (sound s) up.0 up.1 c.in_err-content.ensures.opened).1
+    failed c.from_residual-in_err-take_name.result _ _ _ c.from_residual-in_err-take_name.ensures.1 (opened_between _ above c.in-Some-2.parent (looks_then q1 (looks_then q2 q3)) q4 (sound s) up.0 up.1 c.in_err-take_name.ensures.taken).1
 
-pub returns-in_err-content-clause-looks : goal.returns-in_err-content-clause-looks
-returns-in_err-content-clause-looks g c =
-    looks_failed c.from_residual-in_err-content.result _ c.from_residual-in_err-content.ensures.1
-    (looks_then c.in_ok-parent.ensures.looks (looks_then c.in_ok-node.ensures.looks (looks_then c.in_ok-has_names.ensures.looks c.in_err-content.ensures.looks)))
-
-pub returns-in_err-push-clause-does : goal.returns-in_err-push-clause-does
-returns-in_err-push-clause-does g c tree identity s = failed c.from_residual-in_err-push.result _ _ _ c.from_residual-in_err-push.ensures.1 (inr refl)
-
-pub returns-in_err-push-clause-looks : goal.returns-in_err-push-clause-looks
-returns-in_err-push-clause-looks g c =
-    looks_short c.from_residual-in_err-push.result _ c.from_residual-in_err-push.ensures.1 refl
-    (looks_then c.in_ok-parent.ensures.looks (looks_then c.in_ok-node.ensures.looks (looks_then c.in_ok-has_names.ensures.looks c.in_ok-content.ensures.looks)))
+pub returns-in_err-take_name-clause-looks : goal.returns-in_err-take_name-clause-looks
+returns-in_err-take_name-clause-looks g c =
+    looks_failed c.from_residual-in_err-take_name.result _ c.from_residual-in_err-take_name.ensures.1
+    (looks_then c.in_ok-parent.ensures.looks (looks_then c.in_ok-node.ensures.looks (looks_then c.in_ok-has_names.ensures.looks c.in_err-take_name.ensures.looks)))
 
 pub returns-clause-does : goal.returns-clause-does
 returns-clause-does g c tree identity s =
@@ -142,26 +133,28 @@ returns-clause-does g c tree identity s =
     let split = c.in-Some.ensures.cases.0 in
     let parent = c.in-Some-2.parent in
     let node = c.in-Some-3.node in
-    let content = c.in_ok-content.content in
     let q1 = c.in_ok-parent.ensures.looks in
     let q2 = c.in_ok-node.ensures.looks in
     let q3 = c.in_ok-has_names.ensures.looks in
-    let q4 = c.in_ok-content.ensures.looks in
-    let up = subst (λ (o : Option Node). IsFoundDirectory graph tree above o) c.in-Some-2.is (directory_between tree above c.in_ok-parent.field-0 looks_none q1 (looks_then q2 (looks_then q3 q4)) s c.in_ok-parent.ensures.found) in
-    let found = child_between tree above parent name c.in_ok-node.field-0 q1 q2 (looks_then q3 q4) s up.0 up.1 c.in_ok-node.ensures.found in
+    let q4 = c.in_ok-take_name.ensures.looks in
+    let up = subst (λ (o : Option Node). IsFoundDirectory graph tree above o) c.in-Some-2.is (directory_between tree above c.in_ok-parent.field-0 looks_none q1 (looks_then {n = 0} q2 (looks_then {n = 0} q3 q4)) s c.in_ok-parent.ensures.found) in
+    let found = child_between tree above parent name c.in_ok-node.field-0 q1 q2 (looks_then {n = 0} q3 q4) s up.0 up.1 c.in_ok-node.ensures.found in
     let here = subst (λ (p : Path). IsNodeAt graph p node) (sym split) (subst (λ (o : Option Node). IsFound graph tree (above ++ name ∷ []) o) c.in-Some-3.is found) in
-    let has = (stored_between _ path node (looks_then q1 q2) q3 (sound_before q4 (sound s)) here c.in_ok-has_names.ensures.has).0 in
+    let has = (stored_between _ path node (looks_then {n = 0} q1 q2) q3 (sound_before q4 (sound s)) here c.in_ok-has_names.ensures.has).0 in
     let zero_code = remove_there path above name split tree graph one s.tree s.makes node here c.in_ok-has_names.field-0 has ∙ ap (λ (b : Bool). if b then 5 else 0) c.if-branch.false in
-    let shown = (opened_between _ above parent (looks_then q1 (looks_then q2 q3)) q4 (sound s) up.0 up.1 c.in_ok-content.ensures.opened).0 in
-    let distinct = distinct_opened graph tree one s.tree s.makes above parent up.0 c.in_ok-content.field-0-0 content shown in
-    let done = c.new-change in
-    let change : Change = record { code = done.result.code; file = done.result.file; directories = c.push.new.self; made = done.result.made; removed = Some node } in
-    let items = c.in_ok-push.ensures.items ∙ ap (λ (ds : List NewDirectory). ds ++ c.written.result ∷ []) done.ensures.directories in (
-      removes graph one (free_seen a) c.args.moment identity path above name split tree s.tree s.makes parent up.0 c.in_ok-content.field-0-0 content shown distinct node here change c.written.result zero_code
-          done.ensures.code done.ensures.made refl done.ensures.file items c.written.ensures.address c.written.ensures.unique c.written.ensures.moment
-          (ap (λ (x : Content). x.dir.parent) c.written.ensures.content ∙ c.remove.ensures.parent) (ap (λ (x : Content). x.dir.entries.entries) c.written.ensures.content ∙ c.remove.ensures.entries),
+    let taken = (opened_between _ above parent (looks_then {n = 0} q1 (looks_then {n = 0} q2 q3)) q4 (sound s) up.0 up.1 c.in_ok-take_name.ensures.taken).0 in
+    let distinct = distinct_opened graph tree one s.tree s.makes above parent up.0 taken.placed taken.content taken.shown in
+    let done = c.new-change.ensures in
+    let d = taken.written.0 in
+    let is = taken.written.2 in
+    let same = c.in_ok-take_name.ensures.same in
+    let before = c.take_name.new.change in
+    let change : Change = record { code = before.code; file = before.file; directories = before.directories; made = before.made; removed = Some node } in
+    let items = taken.written.1 ∙ ap (λ (ds : List NewDirectory). ds ++ d ∷ []) done.directories in (
+      removes graph one (free_seen a) c.args.moment identity path above name split tree s.tree s.makes parent up.0 taken.placed taken.content taken.shown distinct node here change d zero_code
+          (same.code ∙ done.code) (same.made ∙ done.made) refl (same.file ∙ done.file) items is.address is.unique is.moment_is is.parent is.entries_are,
       tt,
     )
 
 pub returns-clause-looks : goal.returns-clause-looks
-returns-clause-looks g c = looks_then c.in_ok-parent.ensures.looks (looks_then c.in_ok-node.ensures.looks (looks_then c.in_ok-has_names.ensures.looks c.in_ok-content.ensures.looks))
+returns-clause-looks g c = looks_then {n = 0} c.in_ok-parent.ensures.looks (looks_then {n = 0} c.in_ok-node.ensures.looks (looks_then {n = 0} c.in_ok-has_names.ensures.looks c.in_ok-take_name.ensures.looks))

@@ -51,7 +51,7 @@ node_there g c r tree s source =
 target_there : (g : Over) (c : In-Some-4 g) {n : ℕ} {z : _} → Looks g.D.Drive n c.find_directory-2.new.self z → (tree : Tree) → Sees g.D.Drive c.args.self.now.lookup z tree
     → IsNodeAt (graph_seen g.D.Drive c.args.self.now.lookup) c.in-Some-split_last.beyond.now c.in-Some-4.target_dir × (names_directory c.in-Some-4.target_dir.kind ≡ true)
 target_there g c r tree s =
-    let p = looks_then c.in_ok-source_dir.ensures.looks c.in_ok-node.ensures.looks in
+    let p = looks_then {n = 0} c.in_ok-source_dir.ensures.looks c.in_ok-node.ensures.looks in
     subst (λ (o : Option Node). IsFoundDirectory (graph_seen g.D.Drive c.args.self.now.lookup) tree c.in-Some-split_last.beyond.now o) c.in-Some-4.is
     (directory_between tree c.in-Some-split_last.beyond.now c.in_ok-target_dir.field-0 p c.in_ok-target_dir.ensures.looks r s c.in_ok-target_dir.ensures.found)
 
@@ -60,14 +60,14 @@ new_there : (g : Over) (c : In_ok-there g) {n : ℕ} {z : _} → Looks g.D.Drive
     → IsFound (graph_seen g.D.Drive c.args.self.now.lookup) tree c.args.to.now c.in_ok-there.there
 new_there g c r tree s target =
     let graph = graph_seen g.D.Drive c.args.self.now.lookup in
-    let p = looks_then c.in_ok-source_dir.ensures.looks (looks_then c.in_ok-node.ensures.looks c.in_ok-target_dir.ensures.looks) in
+    let p = looks_then {n = 0} c.in_ok-source_dir.ensures.looks (looks_then {n = 0} c.in_ok-node.ensures.looks c.in_ok-target_dir.ensures.looks) in
     subst (λ (p : Path). IsFound graph tree p c.in_ok-there.there) (sym c.in-Some-split_last.ensures.cases.0)
     (child_between tree c.in-Some-split_last.beyond.now c.in-Some-4.target_dir c.in-Some-split_last.new_name.now c.in_ok-there.there p c.in_ok-there.ensures.looks r s target.0 target.1 c.in_ok-there.ensures.found)
 
 deep_there : (g : Over) (c : In_ok-deep g) {n : ℕ} {z : _} → Looks g.D.Drive n c.is_too_deep.new.self.lookup z → (tree : Tree) → Sees g.D.Drive c.args.self.now.lookup z tree
     → IsNodeAt (graph_seen g.D.Drive c.args.self.now.lookup) c.args.from.now c.in-Some-3.node → moves_too_deep c.args.from.now c.args.to.now tree ≡ c.in_ok-deep.deep
 deep_there g c r tree s here =
-    let p = looks_then c.in_ok-source_dir.ensures.looks (looks_then c.in_ok-node.ensures.looks (looks_then c.in_ok-target_dir.ensures.looks c.in_ok-there.ensures.looks)) in
+    let p = looks_then {n = 0} c.in_ok-source_dir.ensures.looks (looks_then {n = 0} c.in_ok-node.ensures.looks (looks_then {n = 0} c.in_ok-target_dir.ensures.looks c.in_ok-there.ensures.looks)) in
     let q = c.in_ok-deep.ensures.looks in
     sym (c.in_ok-deep.ensures.deep tree c.args.from.now c.args.to.now (sees_next tree p q (sees_before c.args.self.now.lookup tree r s), node_later p here) refl refl)
 
@@ -118,7 +118,7 @@ returns-in_default-3-clause-does g c tree identity s =
     )
 
 pub returns-in_default-3-clause-looks : goal.returns-in_default-3-clause-looks
-returns-in_default-3-clause-looks g c = looks_then c.in_ok-source_dir.ensures.looks c.in_ok-node.ensures.looks
+returns-in_default-3-clause-looks g c = looks_then {n = 0} c.in_ok-source_dir.ensures.looks c.in_ok-node.ensures.looks
 
 pub returns-then-is_below-clause-does : goal.returns-then-is_below-clause-does
 returns-then-is_below-clause-does g c tree identity s =
@@ -133,7 +133,7 @@ returns-then-is_below-clause-does g c tree identity s =
     )
 
 pub returns-then-is_below-clause-looks : goal.returns-then-is_below-clause-looks
-returns-then-is_below-clause-looks g c = looks_then c.in_ok-source_dir.ensures.looks c.in_ok-node.ensures.looks
+returns-then-is_below-clause-looks g c = looks_then {n = 0} c.in_ok-source_dir.ensures.looks c.in_ok-node.ensures.looks
 
 pub returns-in_err-target_dir-clause-does : goal.returns-in_err-target_dir-clause-does
 returns-in_err-target_dir-clause-does g c tree identity s =
@@ -152,18 +152,18 @@ returns-in_default-4-clause-does g c tree identity s =
     let at = goal.at.returns-in_default-4-clause-does g c in
     let q2 = c.in_ok-node.ensures.looks in
     let q3 = c.in_ok-target_dir.ensures.looks in
-    let here = node_there g at.In-Some-3 q3 tree s (source_there g at.In-Some-2 (looks_then q2 q3) tree s) in
+    let here = node_there g at.In-Some-3 q3 tree s (source_there g at.In-Some-2 (looks_then {n = 0} q2 q3) tree s) in
     let has = has_at graph tree (one_seen a) s.tree s.makes c.args.from.now c.in-Some-3.node here in
     let apart : goes_into c.args.from.now c.args.to.now ≡ false = sym c.is_below.ensures ∙ c.if-is_below.false in
     let none = subst (λ (o : Option Node). IsFoundDirectory graph tree beyond o) c.in_default-4.is
-    (directory_between tree beyond c.in_ok-target_dir.field-0 (looks_then c.in_ok-source_dir.ensures.looks q2) q3 looks_none s c.in_ok-target_dir.ensures.found) in (
+    (directory_between tree beyond c.in_ok-target_dir.field-0 (looks_then {n = 0} c.in_ok-source_dir.ensures.looks q2) q3 looks_none s c.in_ok-target_dir.ensures.found) in (
       refuses graph (free_seen a) tree (Rename c.args.from.now c.args.to.now) c.args.moment identity 0 code.NoParent c.refused-in_default-4.result c.refused-in_default-4.ensures refl
           (rename_nowhere c.args.from.now c.args.to.now c.in-Some.above.now beyond c.in-Some.old_name.now c.in-Some-split_last.new_name.now c.in-Some.ensures.cases.0 c.in-Some-split_last.ensures.cases.0 tree has apart none),
       tt,
     )
 
 pub returns-in_default-4-clause-looks : goal.returns-in_default-4-clause-looks
-returns-in_default-4-clause-looks g c = looks_then c.in_ok-source_dir.ensures.looks (looks_then c.in_ok-node.ensures.looks c.in_ok-target_dir.ensures.looks)
+returns-in_default-4-clause-looks g c = looks_then {n = 0} c.in_ok-source_dir.ensures.looks (looks_then {n = 0} c.in_ok-node.ensures.looks c.in_ok-target_dir.ensures.looks)
 
 pub returns-in_err-there-clause-does : goal.returns-in_err-there-clause-does
 returns-in_err-there-clause-does g c tree identity s =
@@ -184,8 +184,8 @@ returns-then-is_some-clause-does g c tree identity s =
     let graph = graph_seen g.D.Drive a in
     let at = goal.at.returns-then-is_some-clause-does g c in
     let q4 = c.in_ok-there.ensures.looks in
-    let q3 = looks_then c.in_ok-target_dir.ensures.looks q4 in
-    let q2 = looks_then c.in_ok-node.ensures.looks q3 in
+    let q3 = looks_then {n = 0} c.in_ok-target_dir.ensures.looks q4 in
+    let q2 = looks_then {n = 0} c.in_ok-node.ensures.looks q3 in
     let here = node_there g at.In-Some-3 q3 tree s (source_there g at.In-Some-2 q2 tree s) in
     let has = has_at graph tree (one_seen a) s.tree s.makes c.args.from.now c.in-Some-3.node here in
     let apart : goes_into c.args.from.now c.args.to.now ≡ false = sym c.is_below.ensures ∙ c.if-is_below.false in
@@ -200,7 +200,7 @@ returns-then-is_some-clause-does g c tree identity s =
     )
 
 pub returns-then-is_some-clause-looks : goal.returns-then-is_some-clause-looks
-returns-then-is_some-clause-looks g c = looks_then c.in_ok-source_dir.ensures.looks (looks_then c.in_ok-node.ensures.looks (looks_then c.in_ok-target_dir.ensures.looks c.in_ok-there.ensures.looks))
+returns-then-is_some-clause-looks g c = looks_then {n = 0} c.in_ok-source_dir.ensures.looks (looks_then {n = 0} c.in_ok-node.ensures.looks (looks_then {n = 0} c.in_ok-target_dir.ensures.looks c.in_ok-there.ensures.looks))
 
 pub returns-in_err-deep-clause-does : goal.returns-in_err-deep-clause-does
 returns-in_err-deep-clause-does g c tree identity s =
@@ -222,9 +222,9 @@ returns-then-deep-clause-does g c tree identity s =
     let graph = graph_seen g.D.Drive a in
     let at = goal.at.returns-then-deep-clause-does g c in
     let q5 = c.in_ok-deep.ensures.looks in
-    let q4 = looks_then c.in_ok-there.ensures.looks q5 in
-    let q3 = looks_then c.in_ok-target_dir.ensures.looks q4 in
-    let q2 = looks_then c.in_ok-node.ensures.looks q3 in
+    let q4 = looks_then {n = 0} c.in_ok-there.ensures.looks q5 in
+    let q3 = looks_then {n = 0} c.in_ok-target_dir.ensures.looks q4 in
+    let q2 = looks_then {n = 0} c.in_ok-node.ensures.looks q3 in
     let here = node_there g at.In-Some-3 q3 tree s (source_there g at.In-Some-2 q2 tree s) in
     let has = has_at graph tree (one_seen a) s.tree s.makes c.args.from.now c.in-Some-3.node here in
     let apart : goes_into c.args.from.now c.args.to.now ≡ false = sym c.is_below.ensures ∙ c.if-is_below.false in
@@ -239,7 +239,7 @@ returns-then-deep-clause-does g c tree identity s =
 
 pub returns-then-deep-clause-looks : goal.returns-then-deep-clause-looks
 returns-then-deep-clause-looks g c =
-    looks_then c.in_ok-source_dir.ensures.looks (looks_then c.in_ok-node.ensures.looks (looks_then c.in_ok-target_dir.ensures.looks (looks_then c.in_ok-there.ensures.looks c.in_ok-deep.ensures.looks)))
+    looks_then {n = 0} c.in_ok-source_dir.ensures.looks (looks_then {n = 0} c.in_ok-node.ensures.looks (looks_then {n = 0} c.in_ok-target_dir.ensures.looks (looks_then {n = 0} c.in_ok-there.ensures.looks c.in_ok-deep.ensures.looks)))
 
 pub returns-then-source_dir-target_dir-clause-does : goal.returns-then-source_dir-target_dir-clause-does
 returns-then-source_dir-target_dir-clause-does g c tree identity s =
