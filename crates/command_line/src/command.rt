@@ -61,29 +61,14 @@ pub fn read_command<'w>(words: &[&'w str]) -> Option<Command<'w>>
     ensures only { IfNone result ((command : _) → Asks (map (λ w. w.now) words.now) command → ⊥) }
 {
     let (name, rest) = words.split_first()?;
-    match *name {
-        "format" => read_format(rest),
-        "apply" => read_apply(rest),
-        "ls" => {
-            let (image, path) = two(rest)?;
-            Some(Command::List { image, path })
-        }
-        "get" => {
-            let (image, path) = two(rest)?;
-            Some(Command::Get { image, path })
-        }
-        "log" => {
-            let image = one(rest)?;
-            Some(Command::Log { image })
-        }
-        "check" => {
-            let image = one(rest)?;
-            Some(Command::Check { image })
-        }
-        "send" => {
-            let socket = one(rest)?;
-            Some(Command::Send { socket })
-        }
+    match (*name, rest) {
+        ("format", _) => read_format(rest),
+        ("apply", _) => read_apply(rest),
+        ("ls", [image, path]) => Some(Command::List { image, path }),
+        ("get", [image, path]) => Some(Command::Get { image, path }),
+        ("log", [image]) => Some(Command::Log { image }),
+        ("check", [image]) => Some(Command::Check { image }),
+        ("send", [socket]) => Some(Command::Send { socket }),
         _ => None,
     }
 }
@@ -95,17 +80,6 @@ fn one<'w>(words: &[&'w str]) -> Option<&'w str>
 {
     match words {
         [word] => Some(*word),
-        _ => None,
-    }
-}
-
-/// The two words.
-fn two<'w>(words: &[&'w str]) -> Option<(&'w str, &'w str)>
-    ensures some { IfSome result (λ pair. words.now ≡ pair.0 ∷ pair.1 ∷ []) }
-    ensures none { IfNone result (length words.now ≡ 2 → ⊥) }
-{
-    match words {
-        [first, second] => Some((*first, *second)),
         _ => None,
     }
 }

@@ -1,8 +1,8 @@
 //! The words of `udfburnd`.
 
-ghost use Rattle.std.specs.Prelude.{◌≡◌, ℕ, Option, IfErr, IfOk, codes, map};
-ghost use Rattle.clap.specs.Words.{app_of, first_value, found_of, kind_of};
-ghost use Rattle.command_line.specs.Daemon.{AsksDaemon, IsCount, daemon_app, fault_for};
+ghost use Rattle.std.specs.Prelude.{◌≡◌, ℕ, Option, IfErr, IfOk, codes, false, map};
+ghost use Rattle.clap.specs.Words.{app_of, first_value, found_of, kind_of, rule_of};
+ghost use Rattle.command_line.specs.Daemon.{AsksDaemon, IsCount, daemon_app, fault_for, option_of, wanted};
 ghost use Rattle.command_line.specs.declared.daemon.WordsFault.TheVariants.{Memory, Usage};
 
 use crate::number::read_number;
@@ -93,17 +93,26 @@ fn connections(matches: &ArgMatches<'_>) -> Result<Option<u64>, WordsFault>
 fn daemon_command<'w>(alloc: Global) -> Result<Command<'w>, AllocError>
     ensures { IfOk result (λ command. app_of command ≡ daemon_app) }
 {
-    let image = Arg::new(alloc, IMAGE).required(true).action(ArgAction::Set);
-    let socket = Arg::new(alloc, SOCKET)
-        .required(true)
-        .action(ArgAction::Set);
-    let connections = Arg::new(alloc, CONNECTIONS)
-        .long(CONNECTIONS)
-        .action(ArgAction::Set);
     Command::new(alloc, "udfburnd")
         .disable_help_flag(true)
         .disable_version_flag(true)
-        .arg(image)?
-        .arg(socket)?
-        .arg(connections)
+        .arg(required(alloc, IMAGE))?
+        .arg(required(alloc, SOCKET))?
+        .arg(option(alloc, CONNECTIONS))
+}
+
+/// A word that has to be there, by its place.
+fn required<'w>(alloc: Global, id: &'w str) -> Arg<'w>
+    ensures rule { rule_of result ≡ wanted id.now }
+    ensures local { result.global ≡ false }
+{
+    Arg::new(alloc, id).required(true).action(ArgAction::Set)
+}
+
+/// An option with a word after it.
+fn option<'w>(alloc: Global, id: &'w str) -> Arg<'w>
+    ensures rule { rule_of result ≡ option_of id.now }
+    ensures local { result.global ≡ false }
+{
+    Arg::new(alloc, id).long(id).action(ArgAction::Set)
 }
