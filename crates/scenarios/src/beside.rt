@@ -11,7 +11,6 @@ use crate::tearing::LastCommit;
 use crate::trouble::Trouble;
 use drive::Fault;
 use model::plain::{Content, Due, Entry, Node, Reply, Request, State};
-use request::{Message, read_payload};
 use std::alloc::Global;
 use std::fmt::Write;
 use std::marker::Model;
@@ -381,12 +380,10 @@ impl Beside {
 
     /// Appends the answer of the plain program to any request.
     fn answer(&mut self, payload: &[u8], out: &mut String) -> Result<(), Trouble> {
-        let Message::Request(request) = read_payload(self.alloc, payload) else {
-            return Err(Trouble::Line("no request"));
-        };
+        let request = plain_request(self.alloc, payload)?;
         let (client, number) = (request.client, request.number);
         if self.plain()?.is_new(client, number) {
-            return self.apply(plain_request(self.alloc, &request)?, out);
+            return self.apply(request, out);
         }
         self.plain()?.refuse(client, number, out)
     }
@@ -405,21 +402,19 @@ impl Beside {
     pub fn stray(&mut self, machine: &mut Machine, out: &mut String) -> Result<bool, Trouble> {
         let index = self.die.roll(40) as usize;
         let gap = self.latest[0].saturating_add(2);
-        let mut payload = self.die.choose(self.alloc, 1, gap)?.payload(self.alloc)?;
-        let (mut client, mut number) = (1, gap);
-        if let Some(sent) = self.sent.get(index) {
-            client = sent.client;
-            number = sent.number;
-            payload = sent.expected.payload.clone()?;
-        }
-        let expected = self.refused(client, number, payload)?;
+        let payload = self.die.choose(self.alloc, 1, gap)?.payload(self.alloc)?;
+        let expected = match self.sent.get(index) {
+            Some(sent) => self.refused(sent.client, sent.number, &sent.expected.payload)?,
+            None => self.refused(1, gap, &payload)?,
+        };
         is_answered_again(self.alloc, machine, &expected, out)
     }
 
     /// The payload of a request that is not new, and the answer of the plain program.
-    fn refused(&self, client: u64, number: u64, payload: Vec<u8>) -> Result<Expected, Trouble> {
+    fn refused(&self, client: u64, number: u64, payload: &[u8]) -> Result<Expected, Trouble> {
         let mut text = String::new(self.alloc);
         self.plain()?.refuse(client, number, &mut text)?;
+        let payload = payload.to_vec(self.alloc)?;
         Ok(Expected { payload, text })
     }
 

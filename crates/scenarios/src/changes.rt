@@ -3,7 +3,7 @@
 use crate::bytes::read_bytes;
 use crate::trouble::Trouble;
 use model::plain::{Operation, Request};
-use request::{Op, Path};
+use request::{Message, Op, Path, read_payload};
 use std::alloc::Global;
 use words::number;
 
@@ -79,8 +79,11 @@ impl Change {
     }
 }
 
-/// A request that was read from a payload, as the plain program has it.
-pub fn plain_request(alloc: Global, request: &request::Request<'_>) -> Result<Request, Trouble> {
+/// The request of a payload, as the plain program has it.
+pub fn plain_request(alloc: Global, payload: &[u8]) -> Result<Request, Trouble> {
+    let Message::Request(request) = read_payload(alloc, payload) else {
+        return Err(NO_REQUEST);
+    };
     Ok(Request {
         client: request.client,
         number: request.number,

@@ -21,6 +21,7 @@ mod trouble;
 
 use script::Script;
 use stage::Stage;
+use std::alloc::Global;
 use std::process::ExitCode;
 use std::rt::{Env, Files};
 use std::{env, fs, io};
@@ -32,8 +33,14 @@ struct Counts {
     failed: u64,
 }
 
-/// Plays the scenario that begins with a line, from nothing, and prints how it went. Returns whether it went as its
-/// lines expect.
+/// Plays the scenario that begins with a line, from nothing. Returns why it did not go as its lines expect, if it did not.
+fn failure_of(alloc: Global, script: &Script, index: usize) -> Option<String> {
+    let mut failure = String::new(alloc);
+    let went = Stage::new(alloc, script).play(index, &mut failure);
+    if went { None } else { Some(failure) }
+}
+
+/// Plays the scenario that begins with a line, and prints how it went. Returns whether it went as its lines expect.
 fn play_scenario<R: Print + AllocGlobal>(
     rt: &R,
     name: &str,
@@ -41,13 +48,16 @@ fn play_scenario<R: Print + AllocGlobal>(
     index: usize,
     scenario: &str,
 ) -> io::Result<bool> {
-    let mut failure = String::new(rt.alloc());
-    if Stage::new(rt.alloc(), script).play(index, &mut failure) {
-        println!(rt; "ok {scenario}")?;
-        return Ok(true);
+    match failure_of(rt.alloc(), script, index) {
+        None => {
+            println!(rt; "ok {scenario}")?;
+            Ok(true)
+        }
+        Some(failure) => {
+            println!(rt; "FAILED {scenario}: {name} line {failure}")?;
+            Ok(false)
+        }
     }
-    println!(rt; "FAILED {scenario}: {name} line {failure}")?;
-    Ok(false)
 }
 
 /// Plays the scenarios of a script.
@@ -80,14 +90,28 @@ fn play_all<R: Print + Files + Env + Input + AllocGlobal>(rt: &R) -> io::Result<
     };
     let words: Vec<String> = env::args(rt)?.collect(rt.alloc())?;
     for name in words.iter().skip(1) {
-        let text = fs::read_to_string(rt, name.as_str())?;
-        counts = play_script(rt, name, &text, counts)?;
+        counts = play_file(rt, name, counts)?;
     }
     if words.len() < 2 {
-        let text = io::read_to_string(rt.alloc(), rt.reader())?;
-        counts = play_script(rt, "the input", &text, counts)?;
+        counts = play_input(rt, counts)?;
     }
     Ok(counts)
+}
+
+/// Plays a file.
+fn play_file<R: Print + Files + AllocGlobal>(
+    rt: &R,
+    name: &str,
+    counts: Counts,
+) -> io::Result<Counts> {
+    let text = fs::read_to_string(rt, name)?;
+    play_script(rt, name, &text, counts)
+}
+
+/// Plays the standard input.
+fn play_input<R: Print + Input + AllocGlobal>(rt: &R, counts: Counts) -> io::Result<Counts> {
+    let text = io::read_to_string(rt.alloc(), rt.reader())?;
+    play_script(rt, "the input", &text, counts)
 }
 
 fn main(rt: HostRuntime) -> io::Result<ExitCode> {
