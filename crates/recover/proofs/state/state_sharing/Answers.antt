@@ -1,5 +1,7 @@
 use Rattle.std.proofs.lemmas.Result.{err_from_is_err_and}
+use Rattle.std.specs.Prelude.{is_some}
 use Rattle.std.proofs.Common.{List, length, ◌<◌, take, subst, arith}
+use Rattle.std.proofs.lemmas.List.Sums.{count_by-le-length}
 use Rattle.drive.specs.Journal.{Event, held}
 use Rattle.recover.specs.State.{CountsTree, IsTreeRefused}
 use Rattle.recover.proofs.Held.{length-held}
@@ -13,6 +15,20 @@ returns-clause-shown g c = λ h.
     let tree = subst (λ (K : List Event). CountsTree (take c.args.at (held K)) c.in_ok-state.state.vat) c.described.ensures.reads.reads.journal (c.in_ok-check_tree.ensures.tree h) in
     let long : c.args.at < length (held J) = omega (arith, length-held J, c.requires.within) in
     is_shown _ (held J) c.args.at _ c.requires.low long (c.in_ok-state.ensures.described (c.check_tree.ensures.reads.reads.honest h)) tree c.in_ok-check_tree.ensures.counts
+
+pub returns-clause-sound : goal.returns-clause-sound
+returns-clause-sound g c =
+    let limits = c.in_ok-state.ensures.limits in
+    let table = c.in_ok-state.ensures.table in
+    record {
+      low = limits.0;
+      high = limits.1;
+      fits = limits.2;
+      bytes = table.0;
+      table = table.1;
+      counted = c.in_ok-check_tree.ensures.counts;
+      nodes = omega (arith, table.1.table.fits.used, count_by-le-length is_some c.in_ok-state.state.vat.entries.items);
+    }
 
 pub returns-clause-table : goal.returns-clause-table
 returns-clause-table g c = λ h.
