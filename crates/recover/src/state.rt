@@ -126,7 +126,6 @@ fn described<D: Drive>(
 }
 
 /// Reads the volume header, and compares each block with the one that a format writes.
-#[tactic(auto, using(drive::proofs::Reading::reads_then))]
 pub(crate) fn read_front<D: Drive>(drive: &mut D) -> Result<Front, StoreFault>
     requires within { PARTITION_START ≤ next_of (D.journal drive.old) }
     ensures front { IfOk result (λ front. IsTrue (D.honest drive.new) → IsFront front.label front.moment front.capacity (take PARTITION_START (held (D.journal drive.old)))) }

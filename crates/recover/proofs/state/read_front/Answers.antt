@@ -1,5 +1,6 @@
 use Rattle.std.proofs.Common.{◌≡◌, ◌<◌, ◌≤◌, List, refl, sym, subst, length, arith}
 use Rattle.std.proofs.lemmas.Option.{none-some}
+use Rattle.std.proofs.lemmas.Result.{err_from_is_err_and}
 use Rattle.limits.specs.declared.TheConstants.{PARTITION_START}
 use Rattle.drive.specs.Journal.{Event, held, next_of}
 use Rattle.drive.proofs.Reading.{reads_then}
@@ -62,3 +63,25 @@ returns-in-Some-clause-refused g c = rw c.damaged-in-Some.ensures (λ h. (
       words.4 inside (held_at J c.loop-n.n _ here (rw c.loop-n.invariant.reads.journal at (c.in_ok-block.ensures.read h)))
       (λ is. none-some c.in-Some.field-0 (sym (c.in-Some.ensures.only is))),
 ))
+
+pub returns-in_err-partition-clause-reads : goal.returns-in_err-partition-clause-reads
+returns-in_err-partition-clause-reads g c =
+    let q = err_from_is_err_and c.from_residual-in_err-partition.result c.from_residual-in_err-partition.ensures.1 in
+    rw (q.1, q.2) (reads_then c.in_ok-primary.ensures.reads c.in_err-partition.ensures.reads)
+
+pub returns-in-Err-Field-clause-reads : goal.returns-in-Err-Field-clause-reads
+returns-in-Err-Field-clause-reads g c = rw c.damaged.ensures (reads_then c.in_ok-primary.ensures.reads c.in_ok-partition.ensures.reads)
+
+pub returns-in_err-block-clause-reads : goal.returns-in_err-block-clause-reads
+returns-in_err-block-clause-reads g c =
+    let q = err_from_is_err_and c.from_residual-in_err-block.result c.from_residual-in_err-block.ensures.1 in
+    rw (q.1, q.2) (reads_then c.loop-n.invariant.reads c.in_err-block.ensures.reads)
+
+pub returns-in-Some-clause-reads : goal.returns-in-Some-clause-reads
+returns-in-Some-clause-reads g c = rw c.damaged-in-Some.ensures (reads_then c.loop-n.invariant.reads c.in_ok-block.ensures.reads)
+
+pub first_difference-requires-clause-low : goal.first_difference-requires-clause-low
+first_difference-requires-clause-low g c = c.in-Ok.ensures.capacity.0
+
+pub first_difference-requires-clause-high : goal.first_difference-requires-clause-high
+first_difference-requires-clause-high g c = c.in-Ok.ensures.capacity.1

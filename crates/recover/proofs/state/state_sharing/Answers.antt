@@ -6,8 +6,11 @@ use Rattle.drive.specs.Journal.{Event, held}
 use Rattle.recover.specs.State.{CountsTree, IsTreeRefused}
 use Rattle.recover.proofs.Held.{length-held}
 use Rattle.recover.proofs.Refusals.{no_tree}
-use Rattle.recover.proofs.States.{is_shown}
+use Rattle.recover.proofs.States.{few_nodes, is_shown}
 use Rattle.recover.proofs.state.state_sharing.Goals as goal
+
+pub check_tree-requires-clause-few : goal.check_tree-requires-clause-few
+check_tree-requires-clause-few g c = (few_nodes _ c.in_ok-state.state.vat _ c.in_ok-state.ensures.table.1).1
 
 pub returns-clause-shown : goal.returns-clause-shown
 returns-clause-shown g c = λ h.
