@@ -1,5 +1,6 @@
 use Rattle.std.proofs.Common.{◌≡◌, ◌+◌, ◌-◌, ◌*◌, ◌<◌, ◌≤◌, ◌++◌, length, List, ℕ, take, sym, subst, arith, rules}
 use Rattle.std.specs.Prelude.{min}
+use Rattle.std.proofs.lemmas.Result.{err_from_is_err_and}
 use Rattle.limits.specs.declared.TheConstants.{BLOCK_BYTES}
 use Rattle.drive.specs.Journal.{held, next_of}
 use Rattle.drive.proofs.Reading.{reads_then, reads_none}
@@ -28,3 +29,13 @@ loop-i-init g c = record {
   read = λ h. subst (λ (bytes : List ℕ). Gathered (held (g.D.Drive.journal c.args.drive.now)) c.args.at 0 c.args.size bytes) (sym c.in_ok-bytes.ensures.items) (gathered_none _ _ _);
   reads = reads_none _ _;
 }
+
+pub returns-in_err-block-clause-reads : goal.returns-in_err-block-clause-reads
+returns-in_err-block-clause-reads g c =
+    let q = err_from_is_err_and c.from_residual-in_err-block.result c.from_residual-in_err-block.ensures.1 in
+    rw (q.1, q.2) (reads_then c.loop-i.invariant.reads c.in_err-block.ensures.reads)
+
+pub returns-in_err-extend_from_slice-clause-reads : goal.returns-in_err-extend_from_slice-clause-reads
+returns-in_err-extend_from_slice-clause-reads g c =
+    let q = err_from_is_err_and c.from_residual-in_err-extend_from_slice.result c.from_residual-in_err-extend_from_slice.ensures.1 in
+    rw (q.1, q.2) (reads_then c.loop-i.invariant.reads c.in_ok-block.ensures.reads)

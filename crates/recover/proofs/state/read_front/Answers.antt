@@ -85,3 +85,6 @@ first_difference-requires-clause-low g c = c.in-Ok.ensures.capacity.0
 
 pub first_difference-requires-clause-high : goal.first_difference-requires-clause-high
 first_difference-requires-clause-high g c = c.in-Ok.ensures.capacity.1
+
+pub returns-clause-limits : goal.returns-clause-limits
+returns-clause-limits g c = c.in-Ok.ensures.capacity
