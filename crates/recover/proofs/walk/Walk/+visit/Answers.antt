@@ -1,8 +1,8 @@
-use Rattle.std.proofs.Common.{◌≡◌, IsTrue, ℕ, ◌+◌, ◌≤◌, length, take, List, Option, Some, refl, sym, ap, subst, ◌∙◌, arith, length-take}
-use Rattle.std.specs.Prelude.{All, IfSome, slice_get, option_map}
+use Rattle.std.proofs.Common.{◌≡◌, IsTrue, ℕ, ◌+◌, ◌-◌, ◌^◌, ◌<◌, ◌≤◌, length, take, List, Option, Some, refl, sym, ap, subst, ◌∙◌, arith, length-take}
+use Rattle.std.specs.Prelude.{All, IfSome, min, slice_get, option_map}
 use Rattle.std.specs.Map.Iter.{deref_pair}
 use Rattle.std.proofs.lemmas.Result.{err_from_is_err_and}
-use Rattle.drive.specs.Journal.{Event, held}
+use Rattle.drive.specs.Journal.{Event, held, next_of}
 use Rattle.drive.proofs.Reading.{reads_then}
 use Rattle.dir.specs.declared.entry.Dir.{Dir}
 use Rattle.dir.specs.declared.entry.Entry.{Entry as DirEntry}
@@ -23,20 +23,34 @@ use Rattle.recover.proofs.Refused.{body_refused, child_refused, names_refused, r
 use Rattle.recover.proofs.Walks.{begun_all, begun_more, begun_none, directory_seen, file_seen, file_visits, visits_same}
 use Rattle.recover.proofs.walk.Walk.+visit.Goals as goal
 
+-- a count that did not change, and one that was counted on
+counted_none : (before now : ℕ) → now ≡ before → Tallied before 0 now
+counted_none before now same = (omega (arith, same), (λ lt. omega (arith, same)), omega (arith, same))
+
+counted_one : (before now after : ℕ) → before < 2 ^ 32 → now ≡ before → after ≡ min (now + 1) (2 ^ 32 - 1) → Tallied before 1 after
+counted_one before now after fits same is = (omega (arith, fits, same, is), (λ lt. omega (arith, same, is, lt)), omega (arith, same, is))
+
+counts_up : (now after : ℕ) → after ≡ min (now + 1) (2 ^ 32 - 1) → (later : ℕ) → later ≡ after → 1 ≤ later
+counts_up now after is later same = omega (arith, is, same)
+
+grows : (a b c d : ℕ) → a ≤ b → b ≤ c → d ≡ c → a ≤ d
+grows a b c d first second same = omega (arith, first, second, same)
+
+not_above : (a b : ℕ) → a < b → a ≤ b
+not_above a b below = omega (arith, below)
+
+held_long : (J : List Event) (at : ℕ) → at < next_of J → at ≤ length (take at (held J))
+held_long J at within = omega (arith, length-take at (held J), length-held J, within)
+
 pub returns-in-File-clause-visits : goal.returns-in-File-clause-visits
 returns-in-File-clause-visits g t c = λ h.
     let J : List Event = g.D.Drive.journal c.args.drive.now in
-    let long : c.args.self.now.at ≤ length (take c.args.self.now.at (held J)) = omega (arith, length-take c.args.self.now.at (held J), length-held J, c.requires.within.within) in
+    let long : c.args.self.now.at ≤ length (take c.args.self.now.at (held J)) = held_long J c.args.self.now.at c.requires.within.within in
     let entry = subst (λ (n : ℕ). HasFileEntry (take n (held J)) c.in_ok-entry_at.entry_at c.args.node.now c.in_ok-body.body) c.reach.ensures.rest.at (c.in_ok-body.ensures.body.entry h) in
     let below = subst (λ (n : ℕ). IfSome c.in_ok-body.body.extent (LiesBelow n)) c.reach.ensures.rest.at c.in_ok-body.ensures.body.extent in
     let seen = file_seen (take c.args.self.now.at (held J)) c.args.self.now.entries.now c.args.node.now c.in_ok-body.body c.in_ok-entry_at.entry_at c.in_ok-entry_at.ensures.leads entry c.args.self.now.at long c.in-File.is below in
-    let files : Tallied c.args.self.now.files 1 c.saturating_add-self.result = (
-      (let e : c.args.self.now.files ≤ c.saturating_add-self.result = omega (arith, c.saturating_add-self.ensures, c.read_entry.ensures.rest.files, c.reach.ensures.rest.files) in e),
-      (λ lt. (let e : c.saturating_add-self.result ≡ c.args.self.now.files + 1 = omega (arith, c.saturating_add-self.ensures, c.read_entry.ensures.rest.files, c.reach.ensures.rest.files, lt) in e)),
-      (let e : c.saturating_add-self.result ≤ c.args.self.now.files + 1 = omega (arith, c.saturating_add-self.ensures, c.read_entry.ensures.rest.files, c.reach.ensures.rest.files) in e),
-    ) in
-    let directories : Tallied c.args.self.now.directories 0 c.read_entry.new.self.directories =
-    (let same = c.read_entry.ensures.rest.directories ∙ c.reach.ensures.rest.directories in (omega (arith, same), (λ lt. omega (arith, same)), omega (arith, same))) in
+    let files = counted_one c.args.self.now.files _ _ (omega arith) (c.read_entry.ensures.rest.files ∙ c.reach.ensures.rest.files) c.saturating_add-self.ensures in
+    let directories = counted_none c.args.self.now.directories _ (c.read_entry.ensures.rest.directories ∙ c.reach.ensures.rest.directories) in
     file_visits (nodes_of J c.args.self.now) c.args.self.now _ c.args.node.now (reached_in c.reach.new.self) (uniques_in c.read_entry.new.self) seen c.in-File.is
     c.in_ok-entry_at.ensures.depth (subst (λ (n : ℕ). IsAssigned n c.args.node.now.address c.args.node.now.unique) c.reach.ensures.rest.next_unique c.in_ok-body.ensures.unique.drawn)
     c.in_ok-entry_at.ensures.reached (λ x. ap (λ r. marked r x) c.read_entry.ensures.rest.reached)
@@ -66,20 +80,15 @@ loop-index-init g t c =
     subst (λ (K : List Event). AreSeen (held K) es c.in_ok-names.names.files) c.read_entry.ensures.reads.reads.journal (c.in_ok-names.ensures.seen h) in
     record {
       begun = λ h.
-          let long : c.args.self.now.at ≤ length (take c.args.self.now.at (held J)) = omega (arith, length-take c.args.self.now.at (held J), length-held J, c.requires.within.within) in
+          let long : c.args.self.now.at ≤ length (take c.args.self.now.at (held J)) = held_long J c.args.self.now.at c.requires.within.within in
           let entry = subst (λ (n : ℕ). HasFileEntry (take n (held J)) c.in_ok-entry_at.entry_at c.args.node.now c.in_ok-body.body) c.reach.ensures.rest.at (c.in_ok-body.ensures.body.entry (c.read_names.ensures.reads.reads.honest h)) in
           let below = subst (λ (n : ℕ). IfSome c.in_ok-body.body.extent (LiesBelow n)) c.reach.ensures.rest.at c.in_ok-body.ensures.body.extent in
           let here = subst (λ (o : Option Extent). IfSome o (LiesBelow c.args.self.now.at)) c.in-Some.is below in
           let seen = directory_seen (held J) c.args.self.now.entries.now c.args.node.now c.in_ok-body.body c.in_ok-entry_at.entry_at c.args.self.now.at c.in_ok-entry_at.ensures.leads entry long c.in-Directory.is c.in-Some.extent c.in-Some.is here
           c.in_ok-names.names.dir (names h) in
-          let files : Tallied c.args.self.now.files 0 c.read_entry.new.self.files =
-          (let same = c.read_entry.ensures.rest.files ∙ c.reach.ensures.rest.files in (omega (arith, same), (λ lt. omega (arith, same)), omega (arith, same))) in
-          let directories : Tallied c.args.self.now.directories 1 c.saturating_add-self-2.result = (
-            (let e : c.args.self.now.directories ≤ c.saturating_add-self-2.result = omega (arith, c.saturating_add-self-2.ensures, c.read_entry.ensures.rest.directories, c.reach.ensures.rest.directories) in e),
-            (λ lt. (let e : c.saturating_add-self-2.result ≡ c.args.self.now.directories + 1 = omega (arith, c.saturating_add-self-2.ensures, c.read_entry.ensures.rest.directories, c.reach.ensures.rest.directories, lt) in e)),
-            (let e : c.saturating_add-self-2.result ≤ c.args.self.now.directories + 1 = omega (arith, c.saturating_add-self-2.ensures, c.read_entry.ensures.rest.directories, c.reach.ensures.rest.directories) in e),
-          ) in
-          goes_on_same J now c.args.self.now c.visit_checked-index.new.self c.in_ok-names.names.files 0 c.visit_checked-index.result c.args.node.now c.in_ok-names.names.dir.entries.entries at table next (omega (arith, c.requires.within.within)) (are h) c.visit_checked-index.ensures.visits
+          let files = counted_none c.args.self.now.files _ (c.read_entry.ensures.rest.files ∙ c.reach.ensures.rest.files) in
+          let directories = counted_one c.args.self.now.directories _ _ (omega arith) (c.read_entry.ensures.rest.directories ∙ c.reach.ensures.rest.directories) c.saturating_add-self-2.ensures in
+          goes_on_same J now c.args.self.now c.visit_checked-index.new.self c.in_ok-names.names.files 0 c.visit_checked-index.result c.args.node.now c.in_ok-names.names.dir.entries.entries at table next (not_above _ _ c.requires.within.within) (are h) c.visit_checked-index.ensures.visits
           (begun_none (nodes_of J c.args.self.now) c.args.self.now now c.args.node.now c.in_ok-names.names.dir.entries.entries (reached_in c.reach.new.self) (uniques_in c.read_entry.new.self) seen
           c.in_ok-entry_at.ensures.depth (subst (λ (n : ℕ). IsAssigned n c.args.node.now.address c.args.node.now.unique) c.reach.ensures.rest.next_unique c.in_ok-body.ensures.unique.drawn)
           c.in_ok-entry_at.ensures.reached (λ x. ap (λ r. marked r x) c.read_entry.ensures.rest.reached)
@@ -89,7 +98,7 @@ loop-index-init g t c =
       entries = ap (λ e. e.now) c.visit_checked-index.ensures.rest.entries ∙ table;
       next_unique = c.visit_checked-index.ensures.rest.next_unique ∙ next;
       more = omega (arith, c.visit_checked-index.ensures.rest.directories, c.saturating_add-self-2.ensures, c.read_entry.ensures.rest.directories, c.reach.ensures.rest.directories);
-      counted = omega (arith, c.visit_checked-index.ensures.rest.directories, c.saturating_add-self-2.ensures);
+      counted = counts_up _ _ c.saturating_add-self-2.ensures _ c.visit_checked-index.ensures.rest.directories;
       known = c.read_names.ensures.reads.known;
       are = λ h. (names h).are;
       is = λ h. (names h).is;
@@ -114,15 +123,15 @@ loop-index-preserved g t c =
     record {
       begun = λ h.
           let visits = visits_same _ _ c.loop-index.self c.args.self.now _ _ _ c.loop-index.invariant.reads.journal c.loop-index.invariant.at c.loop-index.invariant.entries (c.in_ok-visit.ensures.visits h) in
-          goes_on_same J c.visit.new.self c.args.self.now c.visit_checked-index-in-loop-index.new.self c.keep_seen.new.files (c.loop-index.index + 1) c.visit_checked-index-in-loop-index.result c.args.node.now es at entries next (omega (arith, c.requires.within.within)) (seen h) c.visit_checked-index-in-loop-index.ensures.visits
+          goes_on_same J c.visit.new.self c.args.self.now c.visit_checked-index-in-loop-index.new.self c.keep_seen.new.files (c.loop-index.index + 1) c.visit_checked-index-in-loop-index.result c.args.node.now es at entries next (not_above _ _ c.requires.within.within) (seen h) c.visit_checked-index-in-loop-index.ensures.visits
           (begun_more (nodes_of J c.args.self.now) c.args.self.now c.loop-index.self c.visit.new.self c.args.node.now c.child-child.result es c.loop-index.index
           c.unwrap.result.0.now c.unwrap.result.1.now there c.child-child.ensures.kind c.child-child.ensures.address c.child-child.ensures.unique c.child-child.ensures.above c.child-child.ensures.depth
           c.loop-index.invariant.next_unique (c.loop-index.invariant.begun (c.visit.ensures.reads.reads.honest h)) visits);
       at = c.visit_checked-index-in-loop-index.ensures.rest.at ∙ at;
       entries = ap (λ e. e.now) c.visit_checked-index-in-loop-index.ensures.rest.entries ∙ entries;
       next_unique = c.visit_checked-index-in-loop-index.ensures.rest.next_unique ∙ next;
-      more = omega (arith, c.visit_checked-index-in-loop-index.ensures.rest.directories, c.visit.ensures.goes_on.more, c.loop-index.invariant.more);
-      counted = omega (arith, c.visit_checked-index-in-loop-index.ensures.rest.directories, c.visit.ensures.goes_on.more, c.loop-index.invariant.counted);
+      more = grows _ _ _ _ c.loop-index.invariant.more c.visit.ensures.goes_on.more c.visit_checked-index-in-loop-index.ensures.rest.directories;
+      counted = grows _ _ _ _ c.loop-index.invariant.counted c.visit.ensures.goes_on.more c.visit_checked-index-in-loop-index.ensures.rest.directories;
       known = c.visit.ensures.reads.known;
       are = λ h. c.loop-index.invariant.are (c.visit.ensures.reads.reads.honest h);
       is = λ h. c.loop-index.invariant.is (c.visit.ensures.reads.reads.honest h);
