@@ -200,3 +200,16 @@ pub returns-in_err-visit-clause-reads : goal.returns-in_err-visit-clause-reads
 returns-in_err-visit-clause-reads g t c =
     let q = err_from_is_err_and c.from_residual-in_err-visit.result c.from_residual-in_err-visit.ensures.1 in
     rw (q.1, q.2) (record { reads = reads_then c.loop-index.invariant.reads c.in_err-visit.ensures.reads.reads; known = c.in_err-visit.ensures.reads.known })
+
+pub read_names-requires-clause-some : goal.read_names-requires-clause-some
+read_names-requires-clause-some g t c =
+    let lies = subst (λ (o : Option Extent). IfSome o (LiesBelow c.reach.new.self.at)) c.in-Some.is c.in_ok-body.ensures.body.extent in
+    lies.some
+
+pub read_names-requires-clause-first : goal.read_names-requires-clause-first
+read_names-requires-clause-first g t c =
+    let lies = subst (λ (o : Option Extent). IfSome o (LiesBelow c.reach.new.self.at)) c.in-Some.is c.in_ok-body.ensures.body.extent in
+    lies.first
+
+pub returns-in_default-clause-reads : goal.returns-in_default-clause-reads
+returns-in_default-clause-reads g t c = rw c.damaged.ensures (record { reads = c.in_ok-body.ensures.reads.reads; known = c.in_ok-body.ensures.reads.known })
