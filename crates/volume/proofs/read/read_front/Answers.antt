@@ -34,6 +34,13 @@ returns-in-Some-clause-fault c =
       differs = c.in-Some.ensures.some;
     }
 
+pub first_difference-requires : goal.first_difference-requires
+first_difference-requires c = record {
+  low = c.in-Ok.ensures.capacity.0;
+  high = c.in-Ok.ensures.capacity.1;
+  within = omega (arith, c.loop-n-test.true, c.requires);
+}
+
 pub loop-n-preserved : goal.loop-n-preserved
 loop-n-preserved c = below_more _ _ c.loop-n.invariant c.in_default.ensures.none
 
