@@ -23,7 +23,7 @@ use Rattle.recover.proofs.Refused.{body_refused, child_refused, names_refused, r
 use Rattle.recover.proofs.Walks.{begun_all, begun_more, begun_none, directory_seen, file_seen, file_visits, visits_same}
 use Rattle.recover.proofs.walk.Walk.+visit.Goals as goal
 
--- a count that did not change, and one that was counted on
+-- a count that stays, and one that goes up by one
 counted_none : (before now : ℕ) → now ≡ before → Tallied before 0 now
 counted_none before now same = (omega (arith, same), (λ lt. omega (arith, same)), omega (arith, same))
 
