@@ -1,4 +1,4 @@
-use Rattle.std.proofs.Common.{rules, codes, Err, refl, inl, inr}
+use Rattle.std.proofs.Common.{rules, arith, codes, Err, refl, inl, inr}
 use Rattle.recover.specs.declared.fault.StoreFault.TheVariants as stores
 use Rattle.programs.specs.declared.fault.Fault.TheVariants.{Store, Stream}
 use Rattle.programs.specs.Tasks.{task_of}
@@ -48,3 +48,9 @@ returns-clause-reports g c =
 
 pub returns-in-Err-clause-early : goal.returns-in-Err-clause-early
 returns-in-Err-clause-early g c = record { fault = Store stores.Memory; early = inr (inl refl); status_is = c.report.ensures.status; line = c.report.ensures.describes }
+
+pub returns-in-Ok-put_all-clause-kept : goal.returns-in-Ok-put_all-clause-kept
+returns-in-Ok-put_all-clause-kept g c done = c.command_on-status.ensures.asks (omega (arith, done))
+
+pub returns-clause-asks : goal.returns-clause-asks
+returns-clause-asks g c least = c.command_on-status.ensures.asks (omega arith)
