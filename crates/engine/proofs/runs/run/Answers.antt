@@ -1,7 +1,10 @@
-use Rattle.std.proofs.Common.{rules, arith, ◌≡◌, ◌++◌, take, None}
+use Rattle.std.proofs.Common.{rules, arith, ◌≡◌, ◌++◌, List, subst, take, None}
+use Rattle.std.proofs.lemmas.List.{take_all}
 use Rattle.std.specs.Option.{option_to_list}
 use Rattle.drive.proofs.Reading.{follows_none, follows_then}
-use Rattle.engine.specs.Situation.{Situation, situation_on}
+use Rattle.engine.specs.declared.runs.Delivery.{Delivery}
+use Rattle.engine.specs.Delivered.{AllDelivered}
+use Rattle.engine.specs.Situation.{Situation, seen_on, situation_on}
 use Rattle.engine.proofs.Delivering.{all_counted, next_delivered}
 use Rattle.engine.proofs.Withstanding.{ended_holds, ended_run}
 use Rattle.engine.proofs.runs.run.Goals as goal
@@ -41,6 +44,12 @@ loop-delivery-preserved g c =
             count = search rules;
           }
     ]
+
+pub returns-clause-ok : goal.returns-clause-ok
+returns-clause-ok g c =
+    let start : Situation = situation_on g.D.Drive None c.args.drive.now in
+    let last : Situation = seen_on g.D.Drive c.loop-delivery.engine c.loop-delivery.drive in
+    (c.loop-delivery.engine.store, subst (λ (ds : List Delivery). AllDelivered ds start c.loop-delivery.answers.items last) (take_all c.loop-delivery.delivery-index c.args.deliveries.now (omega arith)) c.loop-delivery.invariant.delivered)
 
 pub returns-clause-withstands : goal.returns-clause-withstands
 returns-clause-withstands g c volume S honest once stands =

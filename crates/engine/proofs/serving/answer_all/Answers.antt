@@ -1,8 +1,14 @@
 use Rattle.std.proofs.Common.{rules, refl}
-use Rattle.drive.proofs.Reading.{follows_any, follows_then}
+use Rattle.drive.proofs.Reading.{follows_any, follows_none, follows_then}
 use Rattle.request.proofs.FrameLaws.{taken_first}
-use Rattle.engine.proofs.Messages.{answering_kept, answering_more, answering_some, if_err}
+use Rattle.engine.proofs.Messages.{answering_kept, answering_more, answering_none, answering_some, if_err, taken_less}
 use Rattle.engine.proofs.serving.answer_all.Goals as goal
+
+pub loop-message-init : goal.loop-message-init
+loop-message-init g c = record { answering = answering_none _ _ _; ready = c.requires; lent = follows_none _ _ }
+
+pub loop-message-smaller : goal.loop-message-smaller
+loop-message-smaller g c = taken_less _ _ c.in-Some.message (taken_first c.loop-message.frames c.skip.new.self c.in-Some.message c.in-Some.ensures.some c.skip.ensures.taken)
 
 pub loop-message-preserved : goal.loop-message-preserved
 loop-message-preserved g c = record {
