@@ -11,7 +11,7 @@ use Rattle.ecma.proofs.tag.examine.Goals as goal
 
 -- the first six rows hold
 past_serial : (told : Option TagFault) (id loc : ℕ) (bytes : List ℕ) → 16 ≤ length bytes → u16_at 0 bytes ≡ id → u16_at 2 bytes ≡ 3 → slice_index bytes 4 ≡ tag_sum bytes
-  → slice_index bytes 5 ≡ 0 → u16_at 6 bytes ≡ 1 → told ≡ first_fault (drop 6 (tag_faults id loc bytes)) → told ≡ first_fault (tag_faults id loc bytes)
+    → slice_index bytes 5 ≡ 0 → u16_at 6 bytes ≡ 1 → told ≡ first_fault (drop 6 (tag_faults id loc bytes)) → told ≡ first_fault (tag_faults id loc bytes)
 past_serial told id loc bytes long identifier version checksum reserved serial rest =
     pass _ _ _ _ (le-leb _ _ long) (pass _ _ _ _ (eq-eqb _ _ identifier) (pass _ _ _ _ (eq-eqb _ _ version)
     (pass _ _ _ _ (eq-eqb _ _ checksum) (pass _ _ _ _ (eq-eqb _ _ reserved) (pass _ _ _ _ (eq-eqb _ _ serial) rest)))))

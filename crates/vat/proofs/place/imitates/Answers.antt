@@ -5,12 +5,14 @@ use Rattle.ecma.specs.Descriptor.{padded}
 use Rattle.vat.proofs.place.imitates.Goals as goal
 
 pub returns-then-is_entry : goal.returns-then-is_entry
-returns-then-is_entry c =
-    ((λ yes. record {
-      index = c.loop-i.i;
-      there = omega (arith, c.loop-i-test.true, c.div_ceil-i-end.ensures);
-      entry = subst (λ (text : List ℕ). IsVatIcb (padded text) (c.args.start + c.loop-i.i)) c.block_text.ensures.value (c.is_entry.ensures.0 c.if-is_entry.true);
-    }), (λ imitates. refl))
+returns-then-is_entry c = (
+  (λ yes. record {
+    index = c.loop-i.i;
+    there = omega (arith, c.loop-i-test.true, c.div_ceil-i-end.ensures);
+    entry = subst (λ (text : List ℕ). IsVatIcb (padded text) (c.args.start + c.loop-i.i)) c.block_text.ensures.value (c.is_entry.ensures.0 c.if-is_entry.true);
+  }),
+  (λ imitates. refl),
+)
 
 pub loop-i-preserved : goal.loop-i-preserved
 loop-i-preserved c =

@@ -23,7 +23,9 @@ none_spells (Some kept) version commits text none e = absurd cc
 pub returns-then-is_none : goal.returns-then-is_none
 returns-then-is_none c =
     let bytes = c.args.bytes.now in
-    let version : c.in-Some.version ≡ version_at bytes = known_version _ _ c.in-Some.version c.in-Some.ensures (ap version_of c.u16_at.ensures) in
-    ((λ yes. absurd cc), (λ has. absurd (none_spells c.read_record.result c.in-Some.version c.u32_at-commits.result c.record_text.result.now c.read_record.ensures.none (c.is_none.ensures ∙ ap not c.if-is_none.true)
-    (spelled_at (version_at bytes) c.in-Some.version (commits_at bytes) c.u32_at-commits.result (record_text bytes c.loop-i.i) c.record_text.result.now (sym version) (sym c.u32_at-commits.ensures) (sym c.record_text.ensures.value)
-    (has.each c.loop-i.i (omega (arith, c.loop-i-test.true, c.record_count-i-end.ensures)))))))
+    let version : c.in-Some.version ≡ version_at bytes = known_version _ _ c.in-Some.version c.in-Some.ensures (ap version_of c.u16_at.ensures) in (
+      (λ yes. absurd cc),
+      (λ has. absurd (none_spells c.read_record.result c.in-Some.version c.u32_at-commits.result c.record_text.result.now c.read_record.ensures.none (c.is_none.ensures ∙ ap not c.if-is_none.true)
+          (spelled_at (version_at bytes) c.in-Some.version (commits_at bytes) c.u32_at-commits.result (record_text bytes c.loop-i.i) c.record_text.result.now (sym version) (sym c.u32_at-commits.ensures) (sym c.record_text.ensures.value)
+          (has.each c.loop-i.i (omega (arith, c.loop-i-test.true, c.record_count-i-end.ensures)))))),
+    )
