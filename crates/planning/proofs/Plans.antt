@@ -1,5 +1,5 @@
 -- The blocks of a plan.
-use Rattle.std.proofs.Common.{◌≡◌, ℕ, zero, suc, ◌+◌, ◌<◌, List, [], ◌∷◌, ◌++◌, length, take, drop, replicate, get_or, refl, sym, ap, subst, ◌∙◌, arith, append_assoc, append-nil, length-append}
+use Rattle.std.proofs.Common.{◌≡◌, ℕ, zero, suc, ◌+◌, ◌<◌, ◌≤◌, List, [], ◌∷◌, ◌++◌, length, take, drop, replicate, get_or, refl, sym, ap, subst, ◌∙◌, arith, append_assoc, append-nil, length-append}
 use Rattle.std.specs.Prelude.{slice_get, Some}
 use Rattle.std.specs.Int.{div_ceil}
 use Rattle.std.proofs.lemmas.List.{length-replicate}
@@ -84,6 +84,18 @@ list_front (suc n) (x ∷ ps) = append_assoc (directory_list x) (directories_lis
 
 pub plan_ends : (next capacity : ℕ) (p : Plan) → IsPlan next capacity p → next + length (plan_blocks p) ≡ p.table.at + 1
 plan_ends next capacity p is = omega (arith, is.low, is.table.number, length-append (node_list p) (table_data p.table ++ p.table.entry ∷ []), length-append (table_data p.table) (p.table.entry ∷ []))
+
+-- on a larger drive it is the same plan
+pub planned_on : {next fewer more : ℕ} {p : Plan} → fewer ≤ more → IsPlan next fewer p → IsPlan next more p
+planned_on few is = record {
+  begins = is.begins;
+  low = is.low;
+  nodes = is.nodes;
+  laid = is.laid;
+  table = is.table;
+  fits = omega (arith, few, is.fits);
+  keeps = is.keeps;
+}
 
 -- ---- how many blocks directories may take
 

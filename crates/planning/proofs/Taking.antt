@@ -13,13 +13,14 @@ use Rattle.planning.specs.declared.change.NewFile.{NewFile}
 use Rattle.planning.specs.declared.layout.PlacedDirectory.{PlacedDirectory}
 use Rattle.planning.specs.declared.layout.PlacedFile.{PlacedFile}
 use Rattle.recover.specs.Below.{IsUsed}
+use Rattle.table_update.specs.declared.node.NewNode.{NewNode}
 use Rattle.table_update.specs.NextTable.{AreTaken, AreUsed, all_placed, with_new_node}
 use Rattle.planning.specs.Plan.{file_writings, file_written, directories_writings, directories_written}
 use Rattle.table_update.specs.TableChange.{IsFree, IsRemovable, placed, with_number}
 use Rattle.planning.specs.Writings.{change_writings, new_directories, new_file}
 use Rattle.table_update.proofs.EntryChanges.{entry_other}
 use Rattle.table_update.proofs.NodeChanges.{still_used}
-use Rattle.planning.specs.Last.{IsTakenBy}
+use Rattle.planning.specs.Last.{IsTakenWith}
 use Rattle.planning.proofs.Plans.{placed_append}
 
 used_within : (xs : List (Option ℕ)) (i : ℕ) → IsUsed i xs → i ≤ length xs
@@ -73,15 +74,21 @@ both_addresses xs ys ms ns p q =
     ∙ (λ i. p i ++ q i)
     ∙ sym (map-append (λ (n : Writing). n.address) ms ns)
 
-module _ (moment : ℕ) (change : Change) (base : Table) (takes : IsTakenBy moment change base) where
-  first : AreTaken change.made (bare (change_writings moment change)) change.removed base
+-- a table that takes a change takes it once the new node is in it
+pub taken_after : (made : Option NewNode) (moment : ℕ) (change : Change) (base : Table) → IsTakenWith made moment change base → IsTakenWith None moment change (with_new_node made base)
+taken_after made moment change base takes written same =
+    let taken = takes written same in
+    record { free = tt; used = taken.used; there = taken.there }
+
+module _ (made : Option NewNode) (moment : ℕ) (change : Change) (base : Table) (takes : IsTakenWith made moment change base) where
+  first : AreTaken made (bare (change_writings moment change)) change.removed base
   first = takes (bare (change_writings moment change)) (bare_addresses (change_writings moment change))
 
-  pub made_free : IfSome change.made (λ node. IsFree node.address base.entries)
+  pub made_free : IfSome made (λ node. IsFree node.address base.entries)
   made_free = first.free
 
-  pub file_used : IfSome change.file (λ f. IsUsed f.address (with_new_node change.made base).entries)
-  file_used = go change.file (new_directories change.directories.items) (with_new_node change.made base).entries first.used
+  pub file_used : IfSome change.file (λ f. IsUsed f.address (with_new_node made base).entries)
+  file_used = go change.file (new_directories change.directories.items) (with_new_node made base).entries first.used
     where
       go : (o : Option NewFile) (rest : List Writing) (xs : List (Option ℕ)) → AreUsed (bare (new_file moment o ++ rest)) xs → IfSome o (λ f. IsUsed f.address xs)
       go None rest xs h = tt
@@ -91,15 +98,15 @@ module _ (moment : ℕ) (change : Change) (base : Table) (takes : IsTakenBy mome
     file_same : map (λ (w : Written). w.address) (file_written file) ≡ map (λ (n : Writing). n.address) (new_file moment change.file)
     file_same = file_addresses moment file ∙ ap (λ (ns : List Writing). map (λ (n : Writing). n.address) ns) same
 
-    pub directories_used : All (λ (d : NewDirectory). IsUsed d.address (all_placed (file_written file) (with_new_node change.made base)).entries) change.directories.items
+    pub directories_used : All (λ (d : NewDirectory). IsUsed d.address (all_placed (file_written file) (with_new_node made base)).entries) change.directories.items
     directories_used =
         let new : List Writing = new_directories change.directories.items in
         let all = takes (file_written file ++ bare new) (both_addresses (file_written file) (bare new) (new_file moment change.file) new file_same (bare_addresses new)) in
-        all_used change.directories.items (all_placed (file_written file) (with_new_node change.made base)).entries (used_after (file_written file) (bare new) (with_new_node change.made base) all.used)
+        all_used change.directories.items (all_placed (file_written file) (with_new_node made base)).entries (used_after (file_written file) (bare new) (with_new_node made base) all.used)
 
     pub gone_there : (ps : List PlacedDirectory) → directories_writings ps ≡ new_directories change.directories.items
-        → IfSome change.removed (λ node. IsRemovable node.kind node.address (all_placed (directories_written ps) (all_placed (file_written file) (with_new_node change.made base))))
+        → IfSome change.removed (λ node. IsRemovable node.kind node.address (all_placed (directories_written ps) (all_placed (file_written file) (with_new_node made base))))
     gone_there ps all_same =
         let new : List Writing = new_directories change.directories.items in
         let all = takes (file_written file ++ directories_written ps) (both_addresses (file_written file) (directories_written ps) (new_file moment change.file) new file_same (directory_addresses ps ∙ ap (λ (ns : List Writing). map (λ (n : Writing). n.address) ns) all_same)) in
-        subst (λ (t : Table). IfSome change.removed (λ node. IsRemovable node.kind node.address t)) (placed_append (file_written file) (directories_written ps) (with_new_node change.made base)) all.there
+        subst (λ (t : Table). IfSome change.removed (λ node. IsRemovable node.kind node.address t)) (placed_append (file_written file) (directories_written ps) (with_new_node made base)) all.there

@@ -28,14 +28,18 @@ pub record IsApartFromDrive {T : Type 0} (result : Result T StoreFault) : Type 0
   pub full : is_full result ≡ false
   pub device : devices result ≡ 0
 
--- The table of the next commit, as it begins: with the request's reply and the node that is made.
-pub record BeginsNext (last : LastTable) (request : Request) (change : Change) (vat : Vat) : Type 0 where
-  pub table : view vat ≡ begun last.vat_icb_address request.client request.number (code_number change.code) change.made (view last.vat.now)
+-- a table of the next commit, none of whose nodes is placed
+pub record IsBegunAfter (last : LastTable) (vat : Vat) : Type 0 where
   pub fits : FitsTable (view vat)
   pub below : AreBelow last.vat_icb_address vat.entries.items
   pub previous : vat.previous ≡ Some (last.vat_icb_address - PARTITION_START)
   pub commits : vat.sessions.commits ≡ last.vat.now.sessions.commits + 1
   pub unique : vat.sessions.next_unique ≤ FIRST_UNIQUE + vat.sessions.commits
+
+-- The table of the next commit, as it begins: with the request's reply and the node that is made.
+pub record BeginsNext (last : LastTable) (request : Request) (change : Change) (vat : Vat) : Type 0 where
+  pub table : view vat ≡ begun last.vat_icb_address request.client request.number (code_number change.code) change.made (view last.vat.now)
+  pub begun_is : IsBegunAfter last vat
 
 -- Nodes are entered in the table at the numbers that are given out for their blocks, which are no more than were reckoned.
 pub record Enters (old new : Vat) (from to : Numbers) (nodes : List Writing) (blocks : List (List ℕ)) (entered : List Written) (reckoned : ℕ) : Type 0 where
@@ -63,6 +67,14 @@ pub record TakesAway (removed : Option Node) (old new : Vat) : Type 0 where
 pub record LeadsBefore (next : ℕ) (vat : Vat) : Type 0 where
   pub below : AreBelow (next + PARTITION_START) vat.entries.items
   pub previous : IfSome vat.previous (λ previous. previous < next)
+
+-- The plan is that of a change, in a table that begins so: its reply, what it writes, and that table with it.
+pub record IsPlanOf (change : Change) (moment : ℕ) (vat : Vat) (plan : Plan) : Type 0 where
+  pub code : plan.reply.code ≡ change.code
+  pub commit : plan.reply.commit ≡ vat.sessions.commits
+  pub moment_is : plan.moment ≡ moment
+  pub writings : plan_writings plan ≡ change_writings moment change
+  pub table : view plan.table.vat ≡ without_gone change.removed (all_placed (plan_written plan) (view vat))
 
 -- The plan is that of a change which a request makes after the last table: its reply, what it writes, and the next table.
 pub record IsPlanAfter (last : LastTable) (request : Request) (change : Change) (moment : ℕ) (plan : Plan) : Type 0 where

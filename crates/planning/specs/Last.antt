@@ -1,5 +1,5 @@
 -- The table of a volume after which a commit is planned.
-use Rattle.std.specs.Prelude.{◌≡◌, ℕ, ◌+◌, ◌*◌, ◌-◌, ◌<◌, ◌≤◌, List, map}
+use Rattle.std.specs.Prelude.{◌≡◌, ℕ, ◌+◌, ◌*◌, ◌-◌, ◌<◌, ◌≤◌, List, Option, map}
 use Rattle.std.specs.FinMap.{len}
 use Rattle.limits.specs.declared.TheConstants.{LEAST_CAPACITY, GREATEST_CAPACITY, FORMAT_BLOCKS, FIRST_UNIQUE, NODES}
 use Rattle.drive.specs.Journal.{Event, next_of}
@@ -14,6 +14,7 @@ use Rattle.vat.specs.declared.table.Vat.{Vat}
 use Rattle.recover.specs.Below.{AreBelow}
 use Rattle.table_update.specs.NextTable.{AreTaken, begun}
 use Rattle.table_update.specs.TableChange.{committed}
+use Rattle.table_update.specs.declared.node.NewNode.{NewNode}
 use Rattle.lookup.specs.Asked.{model_operation}
 use Rattle.lookup.specs.Shows.{HasNodesOf, graph_below}
 use Rattle.lookup.specs.declared.cache.DirectoryCache.{DirectoryCache}
@@ -31,13 +32,17 @@ pub record HasTableBelow (at : ℕ) (vat : Vat) : Type 0 where
   pub few_commits : 2 * vat.sessions.commits + (FORMAT_BLOCKS - 1) ≤ at
   pub few_unique : vat.sessions.next_unique ≤ FIRST_UNIQUE + vat.sessions.commits
 
--- it is on a drive with this journal and capacity
-pub record IsLastTableOn (journal : List Event) (capacity : ℕ) (last : LastTable) : Type 0 where
+-- it is before an address, on a drive with this capacity
+pub record IsLastTableBefore (next capacity : ℕ) (last : LastTable) : Type 0 where
   pub keeps : HasTableBelow last.vat_icb_address last.vat.now
-  pub on : last.vat_icb_address < next_of journal
+  pub on : last.vat_icb_address < next
   pub least : LEAST_CAPACITY ≤ last.capacity
   pub most : last.capacity ≤ GREATEST_CAPACITY
   pub fits : last.capacity ≤ capacity
+
+-- it is on a drive with this journal and capacity
+abbrev pub IsLastTableOn : List Event → ℕ → LastTable → Type 0
+IsLastTableOn journal = IsLastTableBefore (next_of journal)
 
 -- the nodes of the table's state make a tree, on a drive that is honest to the end
 abbrev pub HasTree : {D : Type 0} (drive : Ghosts D) → D → D → DirectoryCache → LastTable → Tree → Type 0
@@ -53,10 +58,14 @@ abbrev pub IsChangeIn : List Event → LastTable → Tree → Request → ℕ �
 IsChangeIn journal last tree request moment change =
     IsChangeOf (graph_below last.vat_icb_address last.vat.now.entries.items journal) (free_address last.vat.now.entries.items) tree (model_operation request.op) moment last.vat.now.sessions.next_unique change
 
--- whatever the numbers of the entries are, the table takes the change
+-- whatever the numbers of the entries are, the table takes this new node, and what the change writes and removes
+abbrev pub IsTakenWith : Option NewNode → ℕ → Change → Table → Type 0
+IsTakenWith made moment change base =
+    (written : List Written) → map (λ (w : Written). w.address) written ≡ map (λ (n : Writing). n.address) (change_writings moment change) → AreTaken made written change.removed base
+
+-- it takes the change
 abbrev pub IsTakenBy : ℕ → Change → Table → Type 0
-IsTakenBy moment change base =
-    (written : List Written) → map (λ (w : Written). w.address) written ≡ map (λ (n : Writing). n.address) (change_writings moment change) → AreTaken change.made written change.removed base
+IsTakenBy moment change base = IsTakenWith change.made moment change base
 
 -- the most blocks that a request's change may take
 abbrev pub need_of : LastTable → Request → Change → ℕ

@@ -1,7 +1,7 @@
 //! The plan of a whole commit, that is which blocks it writes and where, and the writes.
 
 ghost use Rattle.limits.specs.declared.TheConstants.{BLOCK_BYTES, FILE_BYTES, PARTITION_BLOCKS, PARTITION_START};
-ghost use Rattle.std.specs.Prelude.{min, ◌≡◌, ◌+◌, ◌-◌, ◌*◌, ◌<◌, ◌≤◌, ◌^◌, ◌++◌, [], ◌∷◌, Some, IfOk, IfErr, OnOk, OnErr, IfSome, All, Err, false, is_err, length, ◌⊎◌};
+ghost use Rattle.std.specs.Prelude.{min, ◌≡◌, ◌+◌, ◌-◌, ◌*◌, ◌<◌, ◌≤◌, ◌^◌, ◌++◌, [], ◌∷◌, None, Some, IfOk, IfErr, OnOk, OnErr, IfSome, All, Err, false, is_err, length, ◌⊎◌};
 ghost use Rattle.std.specs.Int.{div_ceil};
 ghost use Rattle.drive.specs.Journal.{next_of, written, AddsPrefix};
 ghost use Rattle.drive.specs.Reads.{ReadsOnly, WritesOnly};
@@ -14,9 +14,9 @@ ghost use Rattle.recover.specs.declared.fault.StoreFault.TheVariants.{Full, Memo
 ghost use Rattle.udf.specs.Udf.{udf};
 ghost use Rattle.vat.specs.Table.{FitsTable, view};
 ghost use Rattle.recover.specs.Faults.{IsShortage, devices};
-ghost use Rattle.planning.specs.Last.{IsLastTableOn, IsTakenBy, HasTableBelow, need_of, table_committed};
+ghost use Rattle.planning.specs.Last.{IsLastTableBefore, IsLastTableOn, IsTakenBy, IsTakenWith, HasTableBelow, need_of, table_committed};
 ghost use Rattle.recover.specs.Below.{IsUsed};
-ghost use Rattle.planning.specs.Entered.{ArePlacedFrom, BeginsNext, Enters, IsApartFromDrive, IsPlanAfter, IsSamePlan, LeadsBefore, TakesAway};
+ghost use Rattle.planning.specs.Entered.{ArePlacedFrom, BeginsNext, Enters, IsApartFromDrive, IsBegunAfter, IsPlanAfter, IsPlanOf, IsSamePlan, LeadsBefore, TakesAway};
 ghost use Rattle.planning.specs.Needs as needs;
 ghost use Rattle.planning.specs.Plan.{IsPlan, IsTablePlaced, file_list, node_list, file_writings, file_written, directory_list, directories_list, directories_writings, directories_written, plan_blocks, table_data};
 ghost use Rattle.table_update.specs.Full.{OnlyMemoryIsShort};
@@ -198,10 +198,31 @@ impl LastTable<'_> {
             Ok(next) => next,
             Err(_) => return Err(StoreFault::Device),
         };
-        let mut vat = self.next_table(alloc, request, &change)?;
+        let vat = self.next_table(alloc, request, &change)?;
         if u64::from(next).saturating_add(need(&change, &vat)) > u64::from(self.capacity) {
             return Err(StoreFault::Full);
         }
+        self.place(alloc, next, vat, change, moment)
+    }
+
+    /// Places what a change writes, from the address `next` on, and enters it in the table of its commit.
+    fn place<'r>(
+        &self,
+        alloc: Global,
+        next: u32,
+        mut vat: Vat,
+        change: Change<'r>,
+        moment: Timestamp,
+    ) -> Result<Plan<'r>, StoreFault>
+        requires agrees { IsLastTableBefore next self.now.capacity self.now }
+        requires begun { IsBegunAfter self.now vat }
+        requires proper { All (λ d. IsProper d.content.dir) change.directories.items }
+        requires room { next + needs.change_need change (view vat) ≤ self.now.capacity }
+        ensures plan { IfOk result (IsPlan next self.now.capacity) }
+        ensures makes { IfOk result (IsPlanOf change.entry moment vat) }
+        ensures refused { IsTakenWith None moment change.entry (view vat) → IfErr result (λ fault. fault ≡ Memory) }
+        ensures apart { IsApartFromDrive result }
+    {
         let mut numbers = Numbers::new(next - PARTITION_START, self.capacity - PARTITION_START);
         let reply = Reply {
             code: change.code,

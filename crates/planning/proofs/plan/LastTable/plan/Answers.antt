@@ -1,152 +1,69 @@
-use Rattle.std.proofs.Common.{◌≡◌, ◌+◌, ◌-◌, ◌<◌, IsTrue, ◌≤◌, ◌++◌, ◌∙◌, ℕ, List, [], Some, inl, inr, length, refl, sym, subst, ap, arith, length-append}
-use Rattle.std.specs.Prelude.{All, Option, IfSome}
-use Rattle.std.proofs.lemmas.Bool.{false≢true}
-use Rattle.std.proofs.lemmas.Result.{err_from_is_err_and}
-use Rattle.limits.specs.declared.TheConstants.{PARTITION_START}
+use Rattle.std.proofs.Common.{◌≡◌, ◌<◌, IsTrue, ◌∙◌, ℕ, inl, inr, sym, subst, ap, arith}
+use Rattle.std.specs.Prelude.{None, Ok, Err, OnOk, Result, ◌⊎◌}
+use Rattle.std.proofs.lemmas.Result.{IfErr-weaker, IfOk-weaker, err_from_is_err_and}
 use Rattle.drive.specs.Journal.{next_of}
 use Rattle.drive.specs.Reads.{ReadsOnly}
-use Rattle.durability.specs.Plan.{Writing, WritesNodes}
 use Rattle.request.specs.Numbers.{code_number}
-use Rattle.udf.specs.Udf.{udf}
-use Rattle.vat.specs.declared.table.Vat.{Vat}
-use Rattle.vat.specs.Table.{Table, FitsTable, view}
-use Rattle.recover.specs.Below.{AreBelow, IsUsed}
-use Rattle.planning.specs.Plan.{AreLaid, IsTablePlaced, file_list, file_writings, file_written, directories_list, directories_writings, directories_written}
+use Rattle.recover.specs.declared.fault.StoreFault.{StoreFault}
+use Rattle.recover.specs.declared.fault.StoreFault.TheVariants.{Full, Memory}
+use Rattle.recover.specs.Faults.{IsShortage}
+use Rattle.vat.specs.Table.{Table, view}
+use Rattle.planning.specs.Entered.{IsPlanAfter, IsPlanOf}
+use Rattle.planning.specs.Last.{IsTakenWith, table_committed}
 use Rattle.planning.specs.Needs.{change_need}
+use Rattle.planning.specs.Plan.{IsPlan, plan_written}
+use Rattle.planning.specs.declared.plan.Plan.{Plan}
 use Rattle.table_update.specs.NextTable.{all_placed, without_gone}
-use Rattle.table_update.specs.TableChange.{IsRemovable, committed}
-use Rattle.planning.specs.Writings.{new_file}
-use Rattle.planning.specs.declared.change.NewDirectory.{NewDirectory}
-use Rattle.recover.proofs.BelowLemmas.{below_later}
-use Rattle.planning.proofs.Plans.{length-padded, placed_append}
-use Rattle.planning.proofs.Taking.{directories_used, file_used, gone_there, made_free}
-use Rattle.planning.proofs.Writings.{writes-append}
+use Rattle.table_update.specs.TableChange.{committed}
+use Rattle.planning.proofs.Plans.{planned_on}
+use Rattle.planning.proofs.Taking.{made_free, taken_after}
 use Rattle.planning.proofs.plan.LastTable.plan.Goals as goal
 
-pub place_table-requires-clause-leads : goal.place_table-requires-clause-leads
-place_table-requires-clause-leads g c =
-    let start = c.new-numbers.result.next in
-    let begins : start + PARTITION_START ≡ next_of (g.D.Drive.journal c.args.drive.now) = omega (arith, c.in-Ok.ensures.next, c.new-numbers.ensures.next, c.requires.agrees.on, c.requires.agrees.keeps.low) in
-    let first = below_later c.args.self.now.vat_icb_address (start + PARTITION_START) c.in_ok-vat.vat.entries.items (omega (arith, begins, c.requires.agrees.on)) c.in_ok-vat.ensures.begins.below in
-    let end = c.enter_directories.new.numbers.next in
-    let previous : c.take_away.new.vat.previous ≡ Some (c.args.self.now.vat_icb_address - PARTITION_START) =
-    c.in_ok-take_away.ensures.gone.stays.previous ∙ c.in_ok-directories.ensures.enters.stays.previous ∙ c.in_ok-file.ensures.enters.stays.previous ∙ c.in_ok-vat.ensures.begins.previous in
-    let low : c.args.self.now.vat_icb_address - PARTITION_START < end =
-    omega (arith, c.in-Ok.ensures.next, c.new-numbers.ensures.next, c.in_ok-file.ensures.enters.next, c.in_ok-directories.ensures.enters.next, c.requires.agrees.on, c.requires.agrees.keeps.low) in
-    record {
-      below = c.in_ok-take_away.ensures.gone.below (end + PARTITION_START) (c.in_ok-directories.ensures.enters.below (c.in_ok-file.ensures.enters.below first));
-      previous = subst (λ (p : Option ℕ). IfSome p (λ n. n < end)) (sym previous) low;
-    }
+pub place-requires-clause-agrees : goal.place-requires-clause-agrees
+place-requires-clause-agrees g c = record {
+  keeps = c.requires.agrees.keeps;
+  on = subst (λ (n : ℕ). c.args.self.now.vat_icb_address < n) (sym c.in-Ok.ensures.next) c.requires.agrees.on;
+  least = c.requires.agrees.least;
+  most = c.requires.agrees.most;
+  fits = omega (arith);
+}
+
+pub returns-in_err-vat-clause-refused : goal.returns-in_err-vat-clause-refused
+returns-in_err-vat-clause-refused g c takes =
+    let p = err_from_is_err_and c.from_residual.result c.from_residual.ensures.1 in
+    rw p.1 (inl (inr (p.2 ∙ c.in_err-vat.ensures.free (made_free c.args.change.made c.args.moment c.args.change (committed c.args.self.now.vat_icb_address c.args.request.now.client c.args.request.now.number (code_number c.args.change.code) (view c.args.self.now.vat.now)) takes))))
 
 pub returns-clause-plan : goal.returns-clause-plan
-returns-clause-plan g c =
-    let J = g.D.Drive.journal c.args.drive.now in
-    let start = c.new-numbers.result.next in
-    let file_end = c.enter_file.new.numbers.next in
-    let node_end = c.enter_directories.new.numbers.next in
-    let file = c.in_ok-file.file in
-    let directories = c.in_ok-directories.directories.items in
-    let table = c.in_ok-table.table in
-    let at = table.at in
-    let vat = table.vat in
-    let nodes = file_list file ++ directories_list directories in
-    let begins : start ≡ next_of J - PARTITION_START = omega (arith, c.in-Ok.ensures.next, c.new-numbers.ensures.next) in
-    let low : PARTITION_START ≤ next_of J = omega (arith, c.requires.agrees.on, c.requires.agrees.keeps.low) in
-    let size : node_end ≡ next_of J - PARTITION_START + length nodes = omega (arith, begins, c.in_ok-file.ensures.enters.next, c.in_ok-directories.ensures.enters.next, length-append (file_list file) (directories_list directories)) in
-    let after : next_of J + 1 ≤ at = omega (arith, low, size, c.in_ok-table.ensures.placed.number, length-padded table.gap table.bytes.items, c.in_ok-table.ensures.some) in
-    let commits : vat.sessions.commits ≡ c.args.self.now.vat.now.sessions.commits + 1 =
-    ap (λ (v : Vat). v.sessions.commits) c.in_ok-table.ensures.vat ∙ c.in_ok-take_away.ensures.gone.stays.commits ∙ c.in_ok-directories.ensures.enters.stays.commits ∙ c.in_ok-file.ensures.enters.stays.commits ∙ c.in_ok-vat.ensures.begins.commits in
-    let unique : vat.sessions.next_unique ≡ c.in_ok-vat.vat.sessions.next_unique =
-    ap (λ (v : Vat). v.sessions.next_unique) c.in_ok-table.ensures.vat ∙ c.in_ok-take_away.ensures.gone.stays.unique ∙ c.in_ok-directories.ensures.enters.stays.unique ∙ c.in_ok-file.ensures.enters.stays.unique in
-    let first = below_later c.args.self.now.vat_icb_address (start + PARTITION_START) c.in_ok-vat.vat.entries.items (omega (arith, begins, c.requires.agrees.on)) c.in_ok-vat.ensures.begins.below in
-    let gone = c.in_ok-take_away.ensures.gone.below (node_end + PARTITION_START) (c.in_ok-directories.ensures.enters.below (c.in_ok-file.ensures.enters.below first)) in
-    let all : AreBelow at c.take_away.new.vat.entries.items = below_later (node_end + PARTITION_START) at c.take_away.new.vat.entries.items (omega (arith, c.in_ok-table.ensures.placed.number)) gone in
-    let second = subst (λ n. WritesNodes udf (directories_writings directories) n (directories_list directories) (directories_written directories)) c.in_ok-file.ensures.enters.next c.in_ok-directories.ensures.enters.written in
-    let both = writes-append (file_writings c.args.moment file) (directories_writings directories) start (file_list file) (directories_list directories) (file_written file) (directories_written directories) c.in_ok-file.ensures.enters.written second in
-    record {
-      begins = c.in_ok-new.ensures ∙ ap (λ (n : ℕ). record { at = n; blocks = [] }) c.in-Ok.ensures.next;
-      low = low;
-      nodes = subst (λ n. WritesNodes udf (file_writings c.args.moment file ++ directories_writings directories) n nodes (file_written file ++ directories_written directories)) begins both;
-      laid = subst (λ n. AreLaid n directories) (c.in_ok-file.ensures.enters.next ∙ ap (λ n. n + length (file_list file)) begins) c.in_ok-directories.ensures.placed.laid;
-      table = subst (λ n. IsTablePlaced n c.args.moment table) size c.in_ok-table.ensures.placed;
-      fits = omega (arith, c.in_ok-table.ensures.within, c.in_ok-directories.ensures.end, c.in_ok-file.ensures.end, c.new-numbers.ensures.end, c.requires.agrees.fits, c.requires.agrees.least);
-      keeps = record {
-        low = omega (arith, after, c.requires.agrees.on, c.requires.agrees.keeps.low);
-        fits = subst (λ (v : Vat). FitsTable (view v)) (sym c.in_ok-table.ensures.vat) c.in_ok-take_away.ensures.gone.fits;
-        entries = subst (λ (v : Vat). AreBelow at v.entries.items) (sym c.in_ok-table.ensures.vat) all;
-        few_commits = omega (arith, commits, after, c.requires.agrees.on, c.requires.agrees.keeps.few_commits);
-        few_unique = omega (arith, commits, unique, c.in_ok-vat.ensures.begins.unique, c.in_ok-vat.ensures.begins.commits);
-      };
-    }
+returns-clause-plan g c = IfOk-weaker c.place.result (IsPlan c.in-Ok.next c.args.self.now.capacity) (IsPlan (next_of (g.D.Drive.journal c.args.drive.now)) (g.D.Drive.capacity c.args.drive.now)) plan c.place.ensures.plan
+  where
+    plan : (p : Plan) → IsPlan c.in-Ok.next c.args.self.now.capacity p → IsPlan (next_of (g.D.Drive.journal c.args.drive.now)) (g.D.Drive.capacity c.args.drive.now) p
+    plan p h = planned_on c.requires.agrees.fits (subst (λ (n : ℕ). IsPlan n c.args.self.now.capacity p) c.in-Ok.ensures.next h)
 
 pub returns-clause-makes : goal.returns-clause-makes
-returns-clause-makes g c =
-    let m = c.args.moment in
-    let file = file_written c.in_ok-file.file in
-    let directories = directories_written c.in_ok-directories.directories.items in
-    let removed = c.args.change.removed in
-    let before = view c.in_ok-vat.vat in
-    record {
-      code = refl;
-      commit = c.in_ok-vat.ensures.begins.commits;
-      moment_is = refl;
-      writings = ap (λ (ws : List Writing). ws ++ directories_writings c.in_ok-directories.directories.items) c.in_ok-file.ensures.writings
-          ∙ ap (λ (ws : List Writing). new_file m c.args.change.file ++ ws) c.in_ok-directories.ensures.placed.writings;
-      table = ap view c.in_ok-table.ensures.vat
-          ∙ c.in_ok-take_away.ensures.gone.table
-          ∙ ap (without_gone removed) (c.in_ok-directories.ensures.enters.table ∙ ap (all_placed directories) c.in_ok-file.ensures.enters.table ∙ sym (placed_append file directories before))
-          ∙ ap (λ t. without_gone removed (all_placed (file ++ directories) t)) c.in_ok-vat.ensures.begins.table;
+returns-clause-makes g c = IfOk-weaker c.place.result (IsPlanOf c.args.change c.args.moment c.in_ok-vat.vat) (IsPlanAfter c.args.self.now c.args.request.now c.args.change c.args.moment) makes c.place.ensures.makes
+  where
+    makes : (p : Plan) → IsPlanOf c.args.change c.args.moment c.in_ok-vat.vat p → IsPlanAfter c.args.self.now c.args.request.now c.args.change c.args.moment p
+    makes p h = record {
+      code = h.code;
+      commit = h.commit ∙ c.in_ok-vat.ensures.begins.begun_is.commits;
+      moment_is = h.moment_is;
+      writings = h.writings;
+      table = h.table ∙ ap (λ (t : Table). without_gone c.args.change.removed (all_placed (plan_written p) t)) c.in_ok-vat.ensures.begins.table;
     }
 
 pub returns-clause-room : goal.returns-clause-room
 returns-clause-room g c =
     let same = ap (λ (t : Table). change_need c.args.change t) c.in_ok-vat.ensures.begins.table in
-    omega (arith, same, c.need.ensures.value, c.saturating_add.ensures, c.from.ensures, c.from-2.ensures, c.if-saturating_add-from.false, c.in-Ok.ensures.next, c.requires.agrees.most)
+    if_so c.place.result (omega (arith, same, c.need.ensures.value, c.saturating_add.ensures, c.from.ensures, c.from-2.ensures, c.if-saturating_add-from.false, c.in-Ok.ensures.next, c.requires.agrees.most))
+  where
+    if_so : {T E P : Type 0} (r : Result T E) → P → OnOk r P
+    if_so (Ok x) p = p
+    if_so (Err y) p = tt
 
-pub returns-in_err-vat-clause-refused : goal.returns-in_err-vat-clause-refused
-returns-in_err-vat-clause-refused g c takes =
-    let p = err_from_is_err_and c.from_residual.result c.from_residual.ensures.1 in
-    rw p.1 (inl (inr (p.2 ∙ c.in_err-vat.ensures.free (made_free c.args.moment c.args.change (committed c.args.self.now.vat_icb_address c.args.request.now.client c.args.request.now.number (code_number c.args.change.code) (view c.args.self.now.vat.now)) takes))))
-
-pub returns-in_err-file-clause-refused : goal.returns-in_err-file-clause-refused
-returns-in_err-file-clause-refused g c takes =
-    let used = file_used c.args.moment c.args.change (committed c.args.self.now.vat_icb_address c.args.request.now.client c.args.request.now.number (code_number c.args.change.code) (view c.args.self.now.vat.now)) takes in
-    let there = subst (λ (t : Table). IfSome c.args.change.file (λ f. IsUsed f.address t.entries)) (sym c.in_ok-vat.ensures.begins.table) used in
-    absurd (false≢true (sym (c.in_err-file.ensures.used there)))
-
-pub returns-in_err-directories-clause-refused : goal.returns-in_err-directories-clause-refused
-returns-in_err-directories-clause-refused g c takes =
-    let p = err_from_is_err_and c.from_residual-in_err-directories.result c.from_residual-in_err-directories.ensures.1 in
-    let used = directories_used c.args.moment c.args.change (committed c.args.self.now.vat_icb_address c.args.request.now.client c.args.request.now.number (code_number c.args.change.code) (view c.args.self.now.vat.now)) takes c.in_ok-file.file c.in_ok-file.ensures.writings in
-    let table = c.in_ok-file.ensures.enters.table ∙ ap (all_placed (file_written c.in_ok-file.file)) c.in_ok-vat.ensures.begins.table in
-    let there = subst (λ (t : Table). All (λ (d : NewDirectory). IsUsed d.address t.entries) c.args.change.directories.items) (sym table) used in
-    rw p.1 (inl (inr (p.2 ∙ c.in_err-directories.ensures.used there)))
-
-pub returns-in_err-take_away-clause-refused : goal.returns-in_err-take_away-clause-refused
-returns-in_err-take_away-clause-refused g c takes =
-    let gone = gone_there c.args.moment c.args.change (committed c.args.self.now.vat_icb_address c.args.request.now.client c.args.request.now.number (code_number c.args.change.code) (view c.args.self.now.vat.now)) takes c.in_ok-file.file c.in_ok-file.ensures.writings c.in_ok-directories.directories.items c.in_ok-directories.ensures.placed.writings in
-    let table = c.in_ok-directories.ensures.enters.table ∙ ap (all_placed (directories_written c.in_ok-directories.directories.items)) (c.in_ok-file.ensures.enters.table ∙ ap (all_placed (file_written c.in_ok-file.file)) c.in_ok-vat.ensures.begins.table) in
-    let there = subst (λ (t : Table). IfSome c.args.change.removed (λ node. IsRemovable node.kind node.address t)) (sym table) gone in
-    absurd (false≢true (sym (c.in_err-take_away.ensures.there there)))
-
-pub returns-in_err-new-clause-refused : goal.returns-in_err-new-clause-refused
-returns-in_err-new-clause-refused g c takes =
-    let p = err_from_is_err_and c.from_residual-in_err-new.result c.from_residual-in_err-new.ensures.1 in
-    rw p.1 (inl (inr p.2))
-
-pub returns-in_err-new-clause-reads : goal.returns-in_err-new-clause-reads
-returns-in_err-new-clause-reads g c =
-    let p = err_from_is_err_and c.from_residual-in_err-new.result c.from_residual-in_err-new.ensures.1 in
-    let reads : ReadsOnly g.D.Drive 0 c.args.drive.now c.next.new.self = record {
-      journal = c.next.ensures.journal;
-      writes = c.next.ensures.writes;
-      capacity = c.next.ensures.capacity;
-      failures = λ few. omega (arith, c.in-Ok.ensures.failures);
-      misreads = omega (arith, c.next.ensures.misreads);
-      honest = subst IsTrue c.next.ensures.honest;
-      stays = λ same. subst IsTrue (sym c.next.ensures.honest);
-    } in
-    rw (p.1, p.2) reads
+pub returns-clause-refused : goal.returns-clause-refused
+returns-clause-refused g c takes =
+    IfErr-weaker c.place.result (λ (fault : StoreFault). fault ≡ Memory) (λ (fault : StoreFault). IsShortage fault ⊎ (fault ≡ Full)) (λ fault memory. inl (inr memory))
+    (c.place.ensures.refused (subst (IsTakenWith None c.args.moment c.args.change) (sym c.in_ok-vat.ensures.begins.table) (taken_after c.args.change.made c.args.moment c.args.change (table_committed c.args.self.now c.args.request.now c.args.change) takes)))
 
 pub returns-clause-reads : goal.returns-clause-reads
 returns-clause-reads g c =
@@ -159,4 +76,4 @@ returns-clause-reads g c =
       honest = subst IsTrue c.next.ensures.honest;
       stays = λ same. subst IsTrue (sym c.next.ensures.honest);
     } in
-    reads
+    subst (λ (n : ℕ). ReadsOnly g.D.Drive n c.args.drive.now c.next.new.self) (sym c.place.ensures.apart.device) reads
