@@ -1,7 +1,7 @@
 //! A new volume.
 
 ghost use Rattle.limits.specs.declared.TheConstants.{BLOCK_BYTES, FORMAT_BLOCKS, GREATEST_CAPACITY, LEAST_CAPACITY, MOMENT_LIMIT};
-ghost use Rattle.std.specs.Prelude.{◌≡◌, ◌↔◌, ℕ, ◌<◌, ◌≤◌, ◌∷◌, [], Ok, Err, IsTrue, None, IsSome, IsNone, IfOk, IfErr, IfSome, OnOk, is_err, length};
+ghost use Rattle.std.specs.Prelude.{◌≡◌, ◌≢◌, ◌↔◌, ℕ, ◌<◌, ◌≤◌, ◌∷◌, [], Ok, Err, IsTrue, None, IsSome, IsNone, IfOk, IfErr, IfSome, OnOk, is_err, length};
 ghost use Rattle.drive.specs.Journal.{counted, held, next_of};
 ghost use Rattle.drive.specs.Reads.{ReadsAndWrites, ReadsOnly};
 ghost use Rattle.dir.specs.Directory.{identifiers};
@@ -72,12 +72,25 @@ pub fn format<D: Drive>(
     let Ok(parts) = parts_of(alloc, label, moment, capacity.min(GREATEST_CAPACITY)) else {
         return Err(StoreFault::Memory);
     };
-    let next = match begun(drive, &parts) {
+    complete(alloc, drive, &parts)
+}
+
+/// Writes what a drive lacks of the format with these parts. `NotBlank` if it has other blocks, or more.
+#[tactic(auto, using(crate::proofs::FormatJournals::nothing_written))]
+fn complete<D: Drive>(alloc: Global, drive: &mut D, parts: &Parts) -> Result<(), StoreFault>
+    requires room { parts.now.capacity ≤ D.capacity drive.old }
+    ensures ok { OnOk result (IsFormatted (D.capacity drive.old) (words_of parts.now) (D.journal drive.old) (D.journal drive.new) (D.honest drive.new)) }
+    ensures err { IfErr result (IsFormatRefused (D.capacity drive.old) (words_of parts.now) (D.journal drive.old) (D.journal drive.new) (D.honest drive.new)) }
+    ensures withstands { FormatSurvivesPowerLoss (D.capacity drive.old) (words_of parts.now) (D.journal drive.old) (D.writes drive.old) (D.writes drive.new) (D.honest drive.new) }
+    ensures neither { IfErr result (λ told. (told ≢ fault.Label) × (told ≢ fault.Small)) }
+    ensures follows { ReadsAndWrites D.Drive (devices result) drive.old drive.new }
+{
+    let next = match begun(drive, parts) {
         Ok(Some(count)) => count,
         Ok(None) => return Err(StoreFault::NotBlank),
         Err(_) => return Err(StoreFault::Device),
     };
-    let Ok(blocks) = rest(alloc, &parts, next) else {
+    let Ok(blocks) = rest(alloc, parts, next) else {
         return Err(StoreFault::Memory);
     };
     match write_last_alone(drive, next, &blocks) {

@@ -1,83 +1,14 @@
-use Rattle.std.proofs.Common.{◌≡◌, ◌≤◌, ◌++◌, min, IsTrue, List, ◌∙◌, subst, ap, inr, arith, rules}
+use Rattle.std.proofs.Common.{◌≡◌, min, ◌∙◌, subst, ap, rules}
+use Rattle.std.specs.Prelude.{IfErr}
 use Rattle.limits.specs.declared.TheConstants.{GREATEST_CAPACITY}
-use Rattle.drive.specs.Journal.{written, AddsPrefix}
-use Rattle.durability.specs.Formats.{Block}
-use Rattle.formatting.specs.NewVolume.{Words, words_of, IsFormatted, IsFormatCutShort, FormatSurvivesPowerLoss}
-use Rattle.formatting.proofs.FormatJournals.{cut_is, formatted_is, withstands_is, same_words}
+use Rattle.formatting.specs.NewVolume.{words_of, IsFormatRefused}
+use Rattle.formatting.proofs.FormatJournals.{same_words}
 use Rattle.formatting.proofs.formatting.format.Goals as goal
-
-pub returns-in-Ok-write_last_alone-clause-ok : goal.returns-in-Ok-write_last_alone-clause-ok
-returns-in-Ok-write_last_alone-clause-ok g c =
-    let parts = c.in-Ok-parts_of.parts in
-    let capacity = g.D.Drive.capacity c.args.drive.now in
-    let before = g.D.Drive.journal c.args.drive.now in
-    let between = g.D.Drive.journal c.begun.new.drive in
-    let afterwards = g.D.Drive.journal c.write_last_alone.new.drive in
-    let now = g.D.Drive.honest c.write_last_alone.new.drive in
-    let next = rw c.in-Ok-Some.field-0-is at c.in-Ok-Some.ensures.next in
-    let seen = rw c.in-Ok-Some.field-0-is at c.in-Ok-Some.ensures.seen in
-    let volume : c.min.result ≡ min capacity GREATEST_CAPACITY = c.min.ensures ∙ ap (λ n. min n GREATEST_CAPACITY) c.capacity-capacity.ensures in
-    let moment : c.unwrap-moment.result ≡ c.args.moment = search rules in
-    let words = same_words (words_of parts) _ _ _ _ _ _ c.in-Ok-parts_of.ensures volume c.in-Ok.ensures.label.0 moment in
-    let room : parts.capacity ≤ capacity = omega (arith, ap (λ (w : Words). w.volume) words) in
-    let written : afterwards ≡ between ++ written c.in-Ok-Some.count c.in-Ok-rest.blocks.items = c.in-Ok-write_last_alone.ensures.ok ∙ ap (λ (bs : List Block). between ++ written c.in-Ok-Some.count bs) c.deref.ensures.value in
-    subst (λ w. IsFormatted capacity w before afterwards now) words
-    (formatted_is capacity (words_of parts) parts.low parts.high room before between afterwards (g.D.Drive.honest c.begun.new.drive) now c.in-Ok-Some.count c.in-Ok-rest.blocks.items
-    c.in-Ok-Some.ensures.reads.journal next.0 next.1 seen c.in-Ok-rest.ensures (subst IsTrue c.in-Ok-write_last_alone.ensures.writes.honest) written)
 
 pub returns-clause-err : goal.returns-clause-err
 returns-clause-err g c =
-    let parts = c.in-Ok-parts_of.parts in
     let capacity = g.D.Drive.capacity c.args.drive.now in
-    let before = g.D.Drive.journal c.args.drive.now in
-    let between = g.D.Drive.journal c.begun.new.drive in
-    let afterwards = g.D.Drive.journal c.write_last_alone.new.drive in
-    let now = g.D.Drive.honest c.write_last_alone.new.drive in
-    let next = rw c.in-Ok-Some.field-0-is at c.in-Ok-Some.ensures.next in
-    let seen = rw c.in-Ok-Some.field-0-is at c.in-Ok-Some.ensures.seen in
     let volume : c.min.result ≡ min capacity GREATEST_CAPACITY = c.min.ensures ∙ ap (λ n. min n GREATEST_CAPACITY) c.capacity-capacity.ensures in
     let moment : c.unwrap-moment.result ≡ c.args.moment = search rules in
-    let words = same_words (words_of parts) _ _ _ _ _ _ c.in-Ok-parts_of.ensures volume c.in-Ok.ensures.label.0 moment in
-    let room : parts.capacity ≤ capacity = omega (arith, ap (λ (w : Words). w.volume) words) in
-    let adds : AddsPrefix between c.in-Ok-Some.count c.in-Ok-rest.blocks.items afterwards = subst (λ (bs : List Block). AddsPrefix between c.in-Ok-Some.count bs afterwards) c.deref.ensures.value c.in-Err-write_last_alone.ensures.err in
-    inr (subst (λ w. IsFormatCutShort capacity w before afterwards now) words
-    (cut_is capacity (words_of parts) parts.low parts.high room before between afterwards (g.D.Drive.honest c.begun.new.drive) now c.in-Ok-Some.count c.in-Ok-rest.blocks.items
-    c.in-Ok-Some.ensures.reads.journal next.0 next.1 seen c.in-Ok-rest.ensures (subst IsTrue c.in-Err-write_last_alone.ensures.writes.honest) adds))
-
-pub returns-in-Ok-write_last_alone-clause-withstands : goal.returns-in-Ok-write_last_alone-clause-withstands
-returns-in-Ok-write_last_alone-clause-withstands g c =
-    let parts = c.in-Ok-parts_of.parts in
-    let capacity = g.D.Drive.capacity c.args.drive.now in
-    let before = g.D.Drive.journal c.args.drive.now in
-    let between = g.D.Drive.journal c.begun.new.drive in
-    let now = g.D.Drive.honest c.write_last_alone.new.drive in
-    let next = rw c.in-Ok-Some.field-0-is at c.in-Ok-Some.ensures.next in
-    let seen = rw c.in-Ok-Some.field-0-is at c.in-Ok-Some.ensures.seen in
-    let volume : c.min.result ≡ min capacity GREATEST_CAPACITY = c.min.ensures ∙ ap (λ n. min n GREATEST_CAPACITY) c.capacity-capacity.ensures in
-    let moment : c.unwrap-moment.result ≡ c.args.moment = search rules in
-    let words = same_words (words_of parts) _ _ _ _ _ _ c.in-Ok-parts_of.ensures volume c.in-Ok.ensures.label.0 moment in
-    let room : parts.capacity ≤ capacity = omega (arith, ap (λ (w : Words). w.volume) words) in
-    subst (λ w. FormatSurvivesPowerLoss capacity w before (g.D.Drive.writes c.args.drive.now) (g.D.Drive.writes c.write_last_alone.new.drive) now) words
-    (withstands_is capacity (words_of parts) parts.low parts.high room before between (g.D.Drive.journal c.write_last_alone.new.drive) (g.D.Drive.honest c.begun.new.drive) now c.in-Ok-Some.count c.in-Ok-rest.blocks.items
-    c.in-Ok-Some.ensures.reads.journal next.0 next.1 seen c.in-Ok-rest.ensures (subst IsTrue c.in-Ok-write_last_alone.ensures.writes.honest) (g.D.Drive.writes c.args.drive.now) c.in-Ok-Some.ensures.reads.writes
-    (λ none. c.in-Ok-write_last_alone.ensures.none (c.deref.ensures.value ∙ none))
-    (λ front last ends. c.in-Ok-write_last_alone.ensures.alone front last (c.deref.ensures.value ∙ ends)))
-
-pub returns-clause-withstands : goal.returns-clause-withstands
-returns-clause-withstands g c =
-    let parts = c.in-Ok-parts_of.parts in
-    let capacity = g.D.Drive.capacity c.args.drive.now in
-    let before = g.D.Drive.journal c.args.drive.now in
-    let between = g.D.Drive.journal c.begun.new.drive in
-    let now = g.D.Drive.honest c.write_last_alone.new.drive in
-    let next = rw c.in-Ok-Some.field-0-is at c.in-Ok-Some.ensures.next in
-    let seen = rw c.in-Ok-Some.field-0-is at c.in-Ok-Some.ensures.seen in
-    let volume : c.min.result ≡ min capacity GREATEST_CAPACITY = c.min.ensures ∙ ap (λ n. min n GREATEST_CAPACITY) c.capacity-capacity.ensures in
-    let moment : c.unwrap-moment.result ≡ c.args.moment = search rules in
-    let words = same_words (words_of parts) _ _ _ _ _ _ c.in-Ok-parts_of.ensures volume c.in-Ok.ensures.label.0 moment in
-    let room : parts.capacity ≤ capacity = omega (arith, ap (λ (w : Words). w.volume) words) in
-    subst (λ w. FormatSurvivesPowerLoss capacity w before (g.D.Drive.writes c.args.drive.now) (g.D.Drive.writes c.write_last_alone.new.drive) now) words
-    (withstands_is capacity (words_of parts) parts.low parts.high room before between (g.D.Drive.journal c.write_last_alone.new.drive) (g.D.Drive.honest c.begun.new.drive) now c.in-Ok-Some.count c.in-Ok-rest.blocks.items
-    c.in-Ok-Some.ensures.reads.journal next.0 next.1 seen c.in-Ok-rest.ensures (subst IsTrue c.in-Err-write_last_alone.ensures.writes.honest) (g.D.Drive.writes c.args.drive.now) c.in-Ok-Some.ensures.reads.writes
-    (λ none. c.in-Err-write_last_alone.ensures.none (c.deref.ensures.value ∙ none))
-    (λ front last ends. c.in-Err-write_last_alone.ensures.alone front last (c.deref.ensures.value ∙ ends)))
+    let words = same_words (words_of c.in-Ok-parts_of.parts) _ _ _ _ _ _ c.in-Ok-parts_of.ensures volume c.in-Ok.ensures.label.0 moment in
+    subst (λ w. IfErr c.complete.result (IsFormatRefused capacity w (g.D.Drive.journal c.args.drive.now) (g.D.Drive.journal c.complete.new.drive) (g.D.Drive.honest c.complete.new.drive))) words c.complete.ensures.err
