@@ -21,7 +21,6 @@ mod trouble;
 
 use script::Script;
 use stage::Stage;
-use std::alloc::Global;
 use std::process::ExitCode;
 use std::rt::{Env, Files};
 use std::{env, fs, io};
@@ -33,14 +32,8 @@ struct Counts {
     failed: u64,
 }
 
-/// Plays the scenario that begins with a line, from nothing. Returns why it did not go as its lines expect, if it did not.
-fn failure_of(alloc: Global, script: &Script, index: usize) -> Option<String> {
-    let mut failure = String::new(alloc);
-    let went = Stage::new(alloc, script).play(index, &mut failure);
-    if went { None } else { Some(failure) }
-}
-
-/// Plays the scenario that begins with a line, and prints how it went. Returns whether it went as its lines expect.
+/// Plays the scenario that begins with a line, from nothing, and prints how it went. Returns whether it went as its
+/// lines expect.
 fn play_scenario<R: Print + AllocGlobal>(
     rt: &R,
     name: &str,
@@ -48,16 +41,13 @@ fn play_scenario<R: Print + AllocGlobal>(
     index: usize,
     scenario: &str,
 ) -> io::Result<bool> {
-    match failure_of(rt.alloc(), script, index) {
-        None => {
-            println!(rt; "ok {scenario}")?;
-            Ok(true)
-        }
-        Some(failure) => {
-            println!(rt; "FAILED {scenario}: {name} line {failure}")?;
-            Ok(false)
-        }
+    let mut failure = String::new(rt.alloc());
+    if Stage::new(rt.alloc(), script).play(index, &mut failure) {
+        println!(rt; "ok {scenario}")?;
+        return Ok(true);
     }
+    println!(rt; "FAILED {scenario}: {name} line {failure}")?;
+    Ok(false)
 }
 
 /// Plays the scenarios of a script.
@@ -90,28 +80,14 @@ fn play_all<R: Print + Files + Env + Input + AllocGlobal>(rt: &R) -> io::Result<
     };
     let words: Vec<String> = env::args(rt)?.collect(rt.alloc())?;
     for name in words.iter().skip(1) {
-        counts = play_file(rt, name, counts)?;
+        let text = fs::read_to_string(rt, name.as_str())?;
+        counts = play_script(rt, name, &text, counts)?;
     }
     if words.len() < 2 {
-        counts = play_input(rt, counts)?;
+        let text = io::read_to_string(rt.alloc(), rt.reader())?;
+        counts = play_script(rt, "the input", &text, counts)?;
     }
     Ok(counts)
-}
-
-/// Plays a file.
-fn play_file<R: Print + Files + AllocGlobal>(
-    rt: &R,
-    name: &str,
-    counts: Counts,
-) -> io::Result<Counts> {
-    let text = fs::read_to_string(rt, name)?;
-    play_script(rt, name, &text, counts)
-}
-
-/// Plays the standard input.
-fn play_input<R: Print + Input + AllocGlobal>(rt: &R, counts: Counts) -> io::Result<Counts> {
-    let text = io::read_to_string(rt.alloc(), rt.reader())?;
-    play_script(rt, "the input", &text, counts)
 }
 
 fn main(rt: HostRuntime) -> io::Result<ExitCode> {

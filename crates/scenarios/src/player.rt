@@ -75,12 +75,22 @@ impl Player {
             Step::Run => self.machine.run(&self.later, out),
             Step::Serve => self.serve(words, out),
             Step::Load => self.load(words, out),
-            Step::New(step) => self.renew(step, words, out),
+            Step::New(step) => {
+                self.machine = self.another(step, words)?;
+                done(out)
+            }
             Step::Medium(step) => self.play_medium(step, words, out),
             Step::Look(look) => self.look(look, words, out),
-            Step::Die => self.take_die(words, out),
+            Step::Die => {
+                let [seed, ..] = read_numbers(words)?;
+                self.beside = Some(Beside::new(self.alloc, seed as u64, &self.machine)?);
+                done(out)
+            }
             Step::Both => self.ask_both(words, out),
-            Step::Due => self.tell_due(words, out),
+            Step::Due => {
+                let beside = self.beside.as_ref().ok_or(NO_DIE)?;
+                beside.due(number_at(words, 0)?, number_at(words, 1)?, out)
+            }
             Step::AtMark => self.at_mark(number_at(words, 0)?, out),
             Step::Beside(step) => self.play_beside(step, out),
         }
@@ -132,12 +142,6 @@ impl Player {
         done(out)
     }
 
-    /// Goes on with another medium.
-    fn renew(&mut self, step: NewMedium, words: &[&str], out: &mut String) -> Result<(), Trouble> {
-        self.machine = self.another(step, words)?;
-        done(out)
-    }
-
     /// The medium that takes the place of the one that is there.
     fn another(&self, step: NewMedium, words: &[&str]) -> Result<Machine, Trouble> {
         let number = number_at(words, 0)?;
@@ -155,9 +159,12 @@ impl Player {
         out: &mut String,
     ) -> Result<(), Trouble> {
         match step {
-            MediumStep::Format => self.format(words)?,
+            MediumStep::Format => {
+                let label = word_at(words, 0)?.trim_matches('"');
+                self.machine.format(label, number_at(words, 1)?)?;
+            }
             MediumStep::Keep => self.keep(word_at(words, 0)?)?,
-            MediumStep::Burn => self.burn(words)?,
+            MediumStep::Burn => self.machine.burn(&read_block(self.alloc, words)?)?,
             MediumStep::Fault => self.machine.arm(read_fault(words)?),
             MediumStep::Restart => self.machine.restart(),
             MediumStep::Open => self.machine.open()?,
@@ -165,18 +172,6 @@ impl Player {
             MediumStep::Same => return self.compare(word_at(words, 0)?, out),
         }
         done(out)
-    }
-
-    /// Makes a new volume.
-    fn format(&mut self, words: &[&str]) -> Result<(), Trouble> {
-        let label = word_at(words, 0)?.trim_matches('"');
-        self.machine.format(label, number_at(words, 1)?)
-    }
-
-    /// Writes a block past the store.
-    fn burn(&mut self, words: &[&str]) -> Result<(), Trouble> {
-        let block = read_block(self.alloc, words)?;
-        self.machine.burn(&block)
     }
 
     /// Keeps the medium under a name.
@@ -304,19 +299,6 @@ impl Player {
         }
         write!(out, "{:04X}", crc(&bytes))?;
         Ok(())
-    }
-
-    /// Begins random requests, and the plain program beside the machine.
-    fn take_die(&mut self, words: &[&str], out: &mut String) -> Result<(), Trouble> {
-        let [seed, ..] = read_numbers(words)?;
-        self.beside = Some(Beside::new(self.alloc, seed as u64, &self.machine)?);
-        done(out)
-    }
-
-    /// Reports what is due for a number by the plain program.
-    fn tell_due(&self, words: &[&str], out: &mut String) -> Result<(), Trouble> {
-        let beside = self.beside.as_ref().ok_or(NO_DIE)?;
-        beside.due(number_at(words, 0)?, number_at(words, 1)?, out)
     }
 
     /// Checks that the state that is held is that of a mark.

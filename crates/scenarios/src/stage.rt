@@ -92,21 +92,15 @@ impl<'s> Stage<'s> {
     fn put_failure(&self, at: usize, trouble: Trouble, out: &mut String) -> Result<(), Trouble> {
         let line = self.script.lines().get(at).map_or(0, |line| line.number);
         write!(out, "{line}")?;
-        self.put_bound(out)?;
-        match trouble {
-            Trouble::Told => put_words(&[": wanted ", &self.wanted, ", got ", &self.got], out),
-            trouble => Ok(write!(out, ": {trouble}")?),
-        }
-    }
-
-    /// Appends what the names stand for.
-    fn put_bound(&self, out: &mut String) -> Result<(), Trouble> {
         for block in &self.open {
             for bound in &block.bound {
                 put_words(&[", ", &bound.name, " ", &bound.value], out)?;
             }
         }
-        Ok(())
+        match trouble {
+            Trouble::Told => put_words(&[": wanted ", &self.wanted, ", got ", &self.got], out),
+            trouble => Ok(write!(out, ": {trouble}")?),
+        }
     }
 
     /// Opens the block of the lines of a scenario.
@@ -266,22 +260,15 @@ impl<'s> Stage<'s> {
             let Some((before, opened)) = rest.split_once("{") else {
                 break;
             };
+            let (inner, after) = opened
+                .split_once("}")
+                .ok_or(Trouble::Line("no end of a brace"))?;
             expanded.push_str(before)?;
-            rest = self.put_braced(opened, &mut expanded)?;
+            self.put_value(inner, &mut expanded)?;
+            rest = after;
         }
         expanded.push_str(rest)?;
         Ok(expanded)
-    }
-
-    /// Appends the value of what is before the brace that ends a pair. Returns the text after that brace.
-    fn put_braced<'t>(&self, text: &'t str, into: &mut String) -> Result<&'t str, Trouble> {
-        match text.split_once("}") {
-            Some((inner, after)) => {
-                self.put_value(inner, into)?;
-                Ok(after)
-            }
-            None => Err(Trouble::Line("no end of a brace")),
-        }
     }
 
     /// Appends the value of what is in braces.
