@@ -5,10 +5,12 @@
 #        test/edits.sh --since COMMIT
 #        test/edits.sh --count
 #        test/edits.sh --outdated
+#        test/edits.sh --list [CRATE..]
 # Without words it tries the edits of every crate; with --since, those of the crates whose files differ from the commit. The last
-# line is then 'edits: N passed, M failed'. The other two options try none. --count prints how many edits each crate has in
+# line is then 'edits: N passed, M failed'. The other options try none. --count prints how many edits each crate has in
 # must-fail/ and here. --outdated names those of both whose text is not in its file exactly once, and its status is 1 if there is
-# one. It takes a POSIX shell, the tools of a base system, and to try edits the Rattle kit.
+# one. --list prints them all, each with the promise that it breaks, the clause that refuses it, and the test that refuses it too;
+# 'gate' is at those of must-fail/. It takes a POSIX shell, the tools of a base system, and to try edits the Rattle kit.
 #
 # The edits are in test/edits/CRATE, and those that change a definition in test/edits/laws/CRATE. They are tried on a copy of
 # the tree in which they are in crates/CRATE/must-fail. What rt check keeps for this tree serves the copy too.
@@ -68,6 +70,18 @@ outdated() {
         END { exit found }' || return 1
 }
 
+# list [CRATE..]: prints each edit with what its lines say of it. The prover and rt read none of these lines.
+list() {
+    for crate in ${*:-$(for folder in crates/*/; do basename "$folder"; done)}; do
+        for edit in "crates/$crate/must-fail"/*.edit $(edits "$crate"); do
+            [ -f "$edit" ] || continue
+            case $edit in crates/*) gate=' (gate)' ;; *) gate= ;; esac
+            echo "$crate: $(basename "$edit" .edit)$gate"
+            sed -n -E 's/^(promise|clause|test): /    &/p' "$edit"
+        done
+    done
+}
+
 # refuse WORD..: says what is wrong with the words, and ends.
 refuse() {
     echo "edits: $*"
@@ -90,6 +104,11 @@ case ${1:-} in
     --outdated)
         outdated
         exit
+        ;;
+    --list)
+        shift
+        list "$@"
+        exit 0
         ;;
     --since)
         [ $# -eq 2 ] || refuse 'usage: test/edits.sh --since COMMIT'
