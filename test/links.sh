@@ -12,10 +12,12 @@
 #   src/x.rt, specs/X.antt   a file of some crate, in the text
 #   `FILE`, `name`           a file and what it defines: the name is in the file
 #   `src/x.rt`, `X.edit`     below a heading that is a crate's name, a file of that crate and an edit that it must refuse
-#   `X.edit`                 below the heading 'Wrong bodies', an edit that the gate tries
 #   `a::b`, `CamelCase`, `snake_case`   in a document on the code, a name: some source defines the last part
 #   ```antt FILE             a quotation: each line is in the file, in this order; '..' is for lines left out
 #   a paragraph              has 700 characters at most, a line 1,000
+# In an edit that must fail
+#   clause: src/x.rt, name   the file of its crate (or of the crate that is named first) has the name
+#   test: WORDS              each file that it names is there
 set -u
 
 cd "$(dirname "$0")/.." || exit 1
@@ -66,7 +68,7 @@ fenced {
     }
     next
 }
-/^#+ / { crate = ($0 ~ /^#+ `[a-z_]+`$/) ? substr($2, 2, length($2) - 2) : ""; in_gate = ($0 == "## Wrong bodies") }
+/^#+ / { crate = ($0 ~ /^#+ `[a-z_]+`$/) ? substr($2, 2, length($2) - 2) : "" }
 # An indented line is a command or what it shows.
 /^    / { next }
 {
@@ -90,7 +92,7 @@ fenced {
             continue
         }
         span = of_crate(parts[i])
-        if (span ~ /^[a-z_.0-9]+\.edit$/) { told(in_gate ? "gate" : "edit", crate == "" ? "*" : crate, span); source = ""; continue }
+        if (span ~ /^[a-z_.0-9]+\.edit$/) { told("edit", crate == "" ? "*" : crate, span); source = ""; continue }
         words = split(span, word, " ")
         for (j = 1; j <= words; j++) {
             if (word[j] ~ /^[.A-Za-z_-]+\// && word[j] !~ /[*$]|NAME|(^|\/)out\//) told("path", word[j], "")
@@ -194,13 +196,6 @@ while IFS="$tab" read -r document line kind first second; do
             done
             if [ -n "$found" ]; then pass; else fail "$where: no edit $second in crate $first"; fi
             ;;
-        gate)
-            found=
-            for file in crates/$first/must-fail/"$second"; do
-                if [ -e "$file" ]; then found=$file; fi
-            done
-            if [ -n "$found" ]; then pass; else fail "$where: the gate does not try $second"; fi
-            ;;
         some)
             found=
             for file in crates/*/"$first"; do
@@ -237,6 +232,40 @@ while IFS="$tab" read -r document line kind first second; do
             ;;
     esac
 done < "$room/named"
+
+# What the edits say of themselves: the clauses that refuse them, and the tests.
+find crates/*/must-fail test/edits -name '*.edit' | sort | xargs awk '
+    FNR == 1 { count = split(FILENAME, names, "/"); crate = names[1] == "crates" ? names[2] : names[count - 1] }
+    /^clause: / {
+        count = split(substr($0, 9), words, /[,;] | and /)
+        owner = crate
+        path = ""
+        for (i = 1; i <= count; i++) {
+            word = words[i]
+            if (word ~ /^src\/[a-z_\/]+\.rt$/) { path = "crates/" owner "/" word; print FILENAME "\tclause\t" path "\t" }
+            else if (path != "" && word ~ /^[a-z_]+$/ && word != "there") print FILENAME "\tclause\t" path "\t" word
+            else if (path == "" && word ~ /^[a-z_]+$/) owner = word
+        }
+    }
+    /^test: / {
+        count = split(substr($0, 7), words, /[, ]+/)
+        for (i = 1; i <= count; i++)
+            if (words[i] ~ /^test\/[a-z_\/]+(\.sh|\.py)?$/) print FILENAME "\ttest\t" words[i] "\t"
+            else if (words[i] ~ /^[a-z_]+\.txt$/) print FILENAME "\ttest\t" words[i] "\t"
+    }' > "$room/edits"
+while IFS="$tab" read -r edit kind path word; do
+    case $path in
+        *.txt) found=$(ls crates/*/data/"$path" 2> "$room/errors") ;;
+        *) found=$(ls -d "$path" 2> "$room/errors") ;;
+    esac
+    if [ -z "$found" ]; then
+        fail "$edit: $kind: no file $path"
+    elif [ -n "$word" ] && ! grep -qw -- "$word" "$path"; then
+        fail "$edit: $kind: no $word in $path"
+    else
+        pass
+    fi
+done < "$room/edits"
 
 # That nothing was looked at is a failure too.
 if [ "$passed" -eq 0 ]; then
