@@ -72,7 +72,10 @@ outdated() {
 
 # list [CRATE..]: prints each edit with what its lines say of it. The prover and rt read none of these lines.
 list() {
-    for crate in ${*:-$(for folder in crates/*/; do basename "$folder"; done)}; do
+    if [ $# -eq 0 ]; then
+        for folder in crates/*/; do set -- "$@" "$(basename "$folder")"; done
+    fi
+    for crate; do
         for edit in "crates/$crate/must-fail"/*.edit $(edits "$crate"); do
             [ -f "$edit" ] || continue
             case $edit in crates/*) gate=' (gate)' ;; *) gate= ;; esac
