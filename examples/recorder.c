@@ -100,7 +100,7 @@ static int record(struct disc *disc, const char *label, char **files) {
     const struct udfburn_drive drive = {disc, disc_capacity, disc_next, disc_read, disc_write};
     udfburn *volume = NULL;
     int32_t status = udfburn_open_drive(&drive, &volume);
-    /* A format writes nothing on a medium that holds something else. */
+    /* A format writes nothing on a medium that holds something else, and finishes one that was interrupted. */
     if (status == UDFBURN_VOLUME && udfburn_format_drive(&drive, label, MOMENT) == UDFBURN_OK) {
         status = udfburn_open_drive(&drive, &volume);
     }

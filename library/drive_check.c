@@ -81,8 +81,7 @@ static const char *check_all(struct trial *trial) {
     return broken ? broken : check_next(trial);
 }
 
-int32_t udfburn_drive_check(const struct udfburn_drive *drive, const char **broken) {
-    if (broken) *broken = NULL;
+static int32_t check(const struct udfburn_drive *drive, const char **broken) {
     if (!drive || !drive->capacity || !drive->next || !drive->read || !drive->write) return UDFBURN_ARGUMENT;
     struct trial trial = {drive, 0, 0, malloc((size_t)LONGEST * UDFBURN_BLOCK + GUARD)};
     if (!trial.blocks) return UDFBURN_MEMORY;
@@ -90,4 +89,11 @@ int32_t udfburn_drive_check(const struct udfburn_drive *drive, const char **brok
     free(trial.blocks);
     if (broken) *broken = found;
     return found ? UDFBURN_DEVICE : UDFBURN_OK;
+}
+
+int32_t udfburn_drive_check(const struct udfburn_drive *drive, const char **broken) {
+    struct udfburn_call call;
+    if (broken) *broken = NULL;
+    udfburn_enter_without(&call, NULL);
+    return udfburn_leave(&call, check(drive, broken));
 }

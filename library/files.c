@@ -1,4 +1,4 @@
-/* The files that volumes are in: how they are opened by their paths, and which of them this process works on; and the library's lock.
+/* The files that volumes are in: how they are opened by their paths, and which of them this process works on.
  * SPDX-License-Identifier: MIT OR Apache-2.0 */
 #define _POSIX_C_SOURCE 200809L
 
@@ -6,23 +6,10 @@
 
 #include <errno.h>
 #include <fcntl.h>
-#include <pthread.h>
 #include <stdlib.h>
 #include <string.h>
 #include <sys/stat.h>
 #include <unistd.h>
-
-/* ---- The lock ---- */
-
-static pthread_mutex_t lock = PTHREAD_MUTEX_INITIALIZER;
-
-void udfburn_lock(void) { pthread_mutex_lock(&lock); }
-
-void udfburn_unlock(void) { pthread_mutex_unlock(&lock); }
-
-/* A fork waits for the lock. Otherwise a child that closes a handle could wait for a thread that exists only in its parent. This is
- * registered before a program can register a lock of its own, so that a fork takes both locks in the order of a call. */
-__attribute__((constructor)) static void watch_forks(void) { pthread_atfork(udfburn_lock, udfburn_unlock, udfburn_unlock); }
 
 /* ---- By their paths ---- */
 
@@ -31,6 +18,11 @@ static int open_again(int folder, const char *name, int flags, mode_t mode) {
     do fd = openat(folder, name, flags | O_CLOEXEC, mode);
     while (fd < 0 && errno == EINTR);
     return fd;
+}
+
+static int32_t no_folder(void) {
+    udfburn_note_as(UDFBURN_DEVICE, "open", errno);
+    return UDFBURN_DEVICE;
 }
 
 int32_t udfburn_find_place(const char *path, struct udfburn_place *place) {
@@ -47,25 +39,37 @@ int32_t udfburn_find_place(const char *path, struct udfburn_place *place) {
         place->folder = open_again(AT_FDCWD, folder, O_RDONLY | O_DIRECTORY, 0);
         free(folder);
     }
-    return place->folder < 0 ? UDFBURN_DEVICE : UDFBURN_OK;
+    return place->folder < 0 ? no_folder() : UDFBURN_OK;
 }
 
 int32_t udfburn_sync_folder(const struct udfburn_place *place) {
     int status;
     do status = fsync(place->folder);
     while (status && errno == EINTR);
+    if (status) udfburn_note("fsync", errno);
     return status ? UDFBURN_DEVICE : UDFBURN_OK;
+}
+
+/* Notes why there is no descriptor. A path without a last part names no file; a lease of another process delays an open. */
+static int none(const struct udfburn_place *place, const char *call, int error) {
+    if (error == ENOENT && place->name[0] != '\0') udfburn_note_as(UDFBURN_NO_IMAGE, call, error);
+    else if (error == EWOULDBLOCK) udfburn_note_as(UDFBURN_BUSY, call, error);
+    else udfburn_note(call, error);
+    return -1;
 }
 
 /* It is looked at first, since to open a pipe may wait, and a device may act. */
 int udfburn_open_regular(const struct udfburn_place *place) {
     struct stat found;
-    if (fstatat(place->folder, place->name, &found, AT_SYMLINK_NOFOLLOW) || !S_ISREG(found.st_mode)) return -1;
-    return open_again(place->folder, place->name, O_RDWR | O_NOFOLLOW | O_NONBLOCK | O_NOCTTY, 0);
+    if (fstatat(place->folder, place->name, &found, AT_SYMLINK_NOFOLLOW)) return none(place, "stat", errno);
+    if (!S_ISREG(found.st_mode)) return none(place, "stat", S_ISLNK(found.st_mode) ? ELOOP : S_ISDIR(found.st_mode) ? EISDIR : EINVAL);
+    int fd = open_again(place->folder, place->name, O_RDWR | O_NOFOLLOW | O_NONBLOCK | O_NOCTTY, 0);
+    return fd < 0 ? none(place, "open", errno) : fd;
 }
 
 int udfburn_open_or_make(const struct udfburn_place *place) {
     int fd = open_again(place->folder, place->name, O_RDWR | O_CREAT | O_EXCL, 0666);
+    if (fd < 0 && errno != EEXIST) udfburn_note("open", errno);
     return fd < 0 && errno == EEXIST ? udfburn_open_regular(place) : fd;
 }
 
@@ -76,6 +80,7 @@ static struct udfburn_file *files;
 int32_t udfburn_move_up(int32_t fd) {
     if (fd > STDERR_FILENO) return fd;
     int32_t moved = fcntl(fd, F_DUPFD_CLOEXEC, STDERR_FILENO + 1);
+    if (moved < 0) udfburn_note("fcntl", errno);
     close(fd);
     return moved;
 }
@@ -83,9 +88,15 @@ int32_t udfburn_move_up(int32_t fd) {
 /* Whether the core can have this descriptor: of a regular file, to read it and to write it anywhere. No program that is
  * started from here gets it, since it would keep the lock. */
 static int is_usable(int32_t fd, struct stat *found) {
-    int flags = fcntl(fd, F_GETFL);
-    return flags >= 0 && (flags & O_ACCMODE) == O_RDWR && !(flags & O_APPEND) && !fstat(fd, found)
-        && S_ISREG(found->st_mode) && !fcntl(fd, F_SETFD, FD_CLOEXEC);
+    int flags = fcntl(fd, F_GETFL), error = EINVAL;
+    if (flags >= 0 && (flags & O_ACCMODE) == O_RDWR && !(flags & O_APPEND) && !fstat(fd, found) && S_ISREG(found->st_mode)) {
+        if (!fcntl(fd, F_SETFD, FD_CLOEXEC)) return 1;
+        error = errno;
+    } else if (flags < 0) {
+        error = errno;
+    }
+    udfburn_note_as(UDFBURN_DEVICE, "fcntl", error);
+    return 0;
 }
 
 static int is_same(const struct udfburn_file *file, const struct stat *found) {
@@ -110,6 +121,7 @@ int32_t udfburn_enter_file(struct udfburn_file *file, int32_t fd, uint32_t capac
         files = file;
     }
     udfburn_unlock();
+    if (!is_new) udfburn_note_as(UDFBURN_BUSY, "open", EBUSY);
     return is_new ? UDFBURN_OK : UDFBURN_DEVICE;
 }
 
@@ -123,9 +135,21 @@ void udfburn_leave_file(struct udfburn_file *file) {
     file->fd = -1;
 }
 
+int udfburn_is_file(const struct udfburn_file *file) {
+    struct stat found;
+    return file->fd >= 0 && !fstat(file->fd, &found) && is_same(file, &found);
+}
+
 int udfburn_has_file(const struct udfburn_file *file) {
     struct stat found;
     if (file->fd < 0) return 1;
-    if (fstat(file->fd, &found) || !is_same(file, &found)) return 0;
-    return !file->must_have_name || found.st_nlink > 0;
+    if (fstat(file->fd, &found) || !is_same(file, &found)) {
+        udfburn_note_as(UDFBURN_DEVICE, "fstat", EBADF);
+        return 0;
+    }
+    if (file->must_have_name && found.st_nlink == 0) {
+        udfburn_note_as(UDFBURN_DEVICE, "fstat", ENOENT);
+        return 0;
+    }
+    return 1;
 }

@@ -6,6 +6,61 @@
 
 #include <sys/types.h>
 
+/* ---- Calls ----
+ *
+ * Each call of udfburn.h begins and ends with these. A handle is in one call at a time, in the process that opened it. */
+
+/* Why a call failed: what udfburn_reason() gives. */
+struct udfburn_why {
+    int32_t status;
+    int32_t error;              /* errno, or what a function of a drive returned */
+    const char *call;           /* that failed, or NULL */
+    char path[256];             /* of the host; its end if it is longer */
+};
+
+/* A call that this thread is in. The one that it was made from, by a function of a drive, is `outer`. */
+struct udfburn_call {
+    udfburn *handle;            /* NULL: it has none */
+    const char *path;           /* of the host, or NULL */
+    const char *failed;         /* the first call of the system that failed, or NULL */
+    int32_t error;              /* its errno */
+    int32_t status;             /* what UDFBURN_DEVICE is for that reason */
+    int32_t locked;             /* the descriptor whose lock is given up before it is closed, or -1 */
+    struct udfburn_call *outer;
+};
+
+/* Begins a call. UDFBURN_ARGUMENT without a handle, and UDFBURN_MISUSE where another call is on it, or its process is the parent of
+ * this one: the call must not be ended then. */
+int32_t udfburn_enter(struct udfburn_call *call, udfburn *handle);
+
+/* The same for a call that has no handle: it succeeds. */
+void udfburn_enter_without(struct udfburn_call *call, const char *path);
+
+/* Ends a call, and keeps why it failed. Returns what its caller is told: UDFBURN_DEVICE is made more exact. */
+int32_t udfburn_leave(struct udfburn_call *call, int32_t status);
+
+/* Notes that a call of the system failed, or a function of a drive, for the call that this thread is in. The first one counts. */
+void udfburn_note(const char *failed, int32_t error);
+
+/* The same, where UDFBURN_DEVICE is to be this status. */
+void udfburn_note_as(int32_t status, const char *failed, int32_t error);
+
+/* The descriptor that is locked: what udfburn_call.locked says. */
+void udfburn_note_lock(int fd);
+int udfburn_gives_up(int fd);
+
+/* A handle belongs to the process that opens it. */
+void udfburn_own(udfburn *handle);
+int udfburn_is_own(const udfburn *handle);
+
+/* The path of the file that a handle has, for what is told of it. */
+void udfburn_keep_path(udfburn *handle, const char *path);
+
+/* Structures that may grow: whether the size that a caller sets is one, and what was told as much of it as the caller knows. What this
+ * library does not know is 0. */
+int udfburn_has_room(size_t size, size_t least);
+void udfburn_tell(void *into, size_t size, const void *told, size_t length);
+
 /* A file that this process works on. */
 struct udfburn_file {
     int32_t fd;                 /* -1: none */
@@ -17,6 +72,11 @@ struct udfburn_file {
 
 /* A volume that is open. */
 struct udfburn {
+    int is_busy;                /* in a call; by atomic exchange */
+    unsigned forks;             /* how often this process was forked when it was opened */
+    pid_t process;
+    int32_t in_memory;
+    struct udfburn_why why;     /* why the last call failed that did; its path is that of the file */
     void *core;
     struct udfburn_file file;
     int32_t ended;              /* what udfburn_answer() returns from now on, or UDFBURN_OK */
@@ -35,6 +95,12 @@ int32_t udfburn_open_number(udfburn *handle, int32_t number, udfburn **out);
 
 /* Whether the stream stands between two frames, and no answer waits. */
 int udfburn_between_frames(const udfburn *handle);
+
+/* The calls of these names, from within another one. */
+int32_t udfburn_answer_in(udfburn *handle, const void *bytes, size_t count);
+size_t udfburn_answered_in(const udfburn *handle);
+size_t udfburn_take_in(udfburn *handle, void *into, size_t room);
+void udfburn_close_in(udfburn *handle);
 
 /* UDFBURN_DEVICE, from then on, where the file lost its name, or the descriptor is not of this file any more. */
 int32_t udfburn_check_file(udfburn *handle);
@@ -67,7 +133,7 @@ int udfburn_open_or_make(const struct udfburn_place *place);
 int32_t udfburn_move_up(int32_t fd);
 
 /* Takes a file up that has at most so many whole blocks. UDFBURN_VOLUME: it has more. UDFBURN_DEVICE: no image can be had by
- * this descriptor, or this process works on the file already. A lock does not show that, since duplicates of a descriptor
+ * this descriptor, or this process works on the file already, which is noted. A lock does not show that, since duplicates of a descriptor
  * have one together. The structure stays where it is until udfburn_leave_file(). */
 int32_t udfburn_enter_file(struct udfburn_file *file, int32_t fd, uint32_t capacity);
 
@@ -77,6 +143,27 @@ void udfburn_leave_file(struct udfburn_file *file);
 /* Whether its descriptor is of this file, with a name if it must have one. Who closes a descriptor of the library's by
  * mistake may get its number for another file. */
 int udfburn_has_file(const struct udfburn_file *file);
+
+/* The same, whatever its names are. */
+int udfburn_is_file(const struct udfburn_file *file);
+
+/* ---- Drives ---- */
+
+/* A drive that is open. */
+struct udfburn_port {
+    struct udfburn_drive drive;
+    uint32_t capacity;
+    int32_t number;             /* by which the core calls it */
+    struct udfburn_port *next;
+};
+
+/* Enters a drive under a number that is free, and asks for its capacity. UDFBURN_DEVICE: it is there already, which is noted, or
+ * fails. */
+int32_t udfburn_make_port(const struct udfburn_drive *drive, struct udfburn_port **made);
+void udfburn_release_port(void *port);
+
+/* The address after the last block of a drive: not 0 if it fails, or is beyond the capacity. */
+int udfburn_next_of(const struct udfburn_port *port, uint32_t *address);
 
 /* ---- The core. A handle is what udfburn_core_new wrote, and the slices are never NULL. ---- */
 

@@ -135,13 +135,13 @@ static void put_message(uint8_t *at, const struct message *message, size_t paylo
 
 static void drop_answers(udfburn *handle) {
     uint8_t dropped[256];
-    while (udfburn_take(handle, dropped, sizeof dropped) > 0) {
+    while (udfburn_take_in(handle, dropped, sizeof dropped) > 0) {
     }
 }
 
 /* Takes the one answer that waits. On failure the request may be committed all the same. */
 static int32_t take_answer(udfburn *handle, struct answer *answer) {
-    size_t waiting = udfburn_answered(handle);
+    size_t waiting = udfburn_answered_in(handle);
     uint8_t *bytes = answer->room;
     if (waiting > sizeof answer->room) {
         bytes = answer->allocated = malloc(waiting);
@@ -150,7 +150,7 @@ static int32_t take_answer(udfburn *handle, struct answer *answer) {
             return UDFBURN_MEMORY;
         }
     }
-    size_t taken = udfburn_take(handle, bytes, waiting);
+    size_t taken = udfburn_take_in(handle, bytes, waiting);
     if (taken < LENGTH_BYTES + CODE_BYTES || number_at(bytes, LENGTH_BYTES) != taken - LENGTH_BYTES) {
         return UDFBURN_DEVICE;
     }
@@ -184,7 +184,7 @@ static int32_t exchange(udfburn *handle, const struct message *message, struct a
         return UDFBURN_MEMORY;
     }
     put_message(frame, message, payload);
-    status = udfburn_answer(handle, frame, LENGTH_BYTES + payload);
+    status = udfburn_answer_in(handle, frame, LENGTH_BYTES + payload);
     free(frame);
     if (status != UDFBURN_OK) {
         drop_answers(handle);
@@ -231,11 +231,9 @@ static int32_t ask(udfburn *handle, enum kind kind, const char *path, enum code 
     return answer->code == expected ? UDFBURN_OK : refusal(answer);
 }
 
-int32_t udfburn_stat(udfburn *handle, const char *path, struct udfburn_node *node) {
+/* What a path names. */
+static int32_t look_at(udfburn *handle, const char *path, struct udfburn_node *node) {
     struct answer answer;
-    if (!handle || !path || !node) {
-        return UDFBURN_ARGUMENT;
-    }
     int32_t status = ask(handle, STAT, path, NODE, &answer);
     if (status == UDFBURN_OK && answer.length != NODE_BYTES) {
         status = UDFBURN_DEVICE;
@@ -249,6 +247,15 @@ int32_t udfburn_stat(udfburn *handle, const char *path, struct udfburn_node *nod
     return status;
 }
 
+int32_t udfburn_stat(udfburn *handle, const char *path, struct udfburn_node *node) {
+    struct udfburn_call call;
+    int32_t status = udfburn_enter(&call, handle);
+    if (status != UDFBURN_OK) {
+        return status;
+    }
+    return udfburn_leave(&call, path && node ? look_at(handle, path, node) : UDFBURN_ARGUMENT);
+}
+
 /* The bytes of the file in an answer to Get. */
 static int32_t data_of(const struct answer *answer, const uint8_t **data, size_t *length) {
     if (answer->length < 4 || number_at(answer->fields, 4) != answer->length - 4) {
@@ -259,10 +266,10 @@ static int32_t data_of(const struct answer *answer, const uint8_t **data, size_t
     return UDFBURN_OK;
 }
 
-int32_t udfburn_get(udfburn *handle, const char *path, void *into, size_t room, size_t *length) {
+static int32_t copy_file(udfburn *handle, const char *path, void *into, size_t room, size_t *length) {
     struct answer answer;
     const uint8_t *data;
-    if (!handle || !path || (!into && room > 0) || !length) {
+    if (!path || (!into && room > 0) || !length) {
         return UDFBURN_ARGUMENT;
     }
     *length = 0;
@@ -278,6 +285,12 @@ int32_t udfburn_get(udfburn *handle, const char *path, void *into, size_t room, 
     }
     end_answer(&answer);
     return status;
+}
+
+int32_t udfburn_get(udfburn *handle, const char *path, void *into, size_t room, size_t *length) {
+    struct udfburn_call call;
+    int32_t status = udfburn_enter(&call, handle);
+    return status == UDFBURN_OK ? udfburn_leave(&call, copy_file(handle, path, into, room, length)) : status;
 }
 
 /* The bytes of all names in an answer to List, with a NUL after each. 0 if the names do not end with the answer. */
@@ -331,23 +344,29 @@ static int32_t names_of(const struct answer *answer, struct udfburn_name **names
     return UDFBURN_OK;
 }
 
-int32_t udfburn_list(udfburn *handle, const char *path, struct udfburn_name **names, size_t *count) {
+static int32_t list(udfburn *handle, const char *path, struct udfburn_name **names, size_t *count) {
     struct answer answer;
-    if (names) {
-        *names = NULL;
-    }
-    if (count) {
-        *count = 0;
-    }
-    if (!handle || !path || !names || !count) {
-        return UDFBURN_ARGUMENT;
-    }
     int32_t status = ask(handle, LIST, path, NAMES, &answer);
     if (status == UDFBURN_OK) {
         status = names_of(&answer, names, count);
     }
     end_answer(&answer);
     return status;
+}
+
+int32_t udfburn_list(udfburn *handle, const char *path, struct udfburn_name **names, size_t *count) {
+    struct udfburn_call call;
+    if (names) {
+        *names = NULL;
+    }
+    if (count) {
+        *count = 0;
+    }
+    int32_t status = udfburn_enter(&call, handle);
+    if (status != UDFBURN_OK) {
+        return status;
+    }
+    return udfburn_leave(&call, path && names && count ? list(handle, path, names, count) : UDFBURN_ARGUMENT);
 }
 
 void udfburn_free(void *memory) {
@@ -377,14 +396,14 @@ static int32_t confirm(udfburn *handle, const struct message *message) {
     struct udfburn_node node;
     const char *there = message->to ? message->to : message->path;
     const char *gone = message->kind == RENAME || message->kind == REMOVE ? message->path : NULL;
-    int32_t status = gone ? udfburn_stat(handle, gone, &node) : UDFBURN_NOT_FOUND;
+    int32_t status = gone ? look_at(handle, gone, &node) : UDFBURN_NOT_FOUND;
     if (status != UDFBURN_NOT_FOUND) {
         return status == UDFBURN_OK ? UDFBURN_USED : status;
     }
     if (message->kind == REMOVE) {
         return UDFBURN_OK;
     }
-    status = udfburn_stat(handle, there, &node);
+    status = look_at(handle, there, &node);
     if (status != UDFBURN_OK) {
         return status == UDFBURN_NOT_FOUND ? UDFBURN_USED : status;
     }
@@ -417,8 +436,8 @@ static int32_t outcome(udfburn *handle, const struct message *message, const str
     return request->repeated ? confirm(handle, message) : UDFBURN_OK;
 }
 
-int32_t udfburn_last_number(udfburn *handle, uint64_t client, uint64_t *number) {
-    if (!handle || client == 0 || !number) {
+static int32_t last_number(udfburn *handle, uint64_t client, uint64_t *number) {
+    if (client == 0 || !number) {
         return UDFBURN_ARGUMENT;
     }
     int32_t status = ready(handle);
@@ -426,6 +445,12 @@ int32_t udfburn_last_number(udfburn *handle, uint64_t client, uint64_t *number) 
         status = udfburn_check_file(handle);
     }
     return status == UDFBURN_OK ? udfburn_core_last_number(handle->core, client, number) : status;
+}
+
+int32_t udfburn_last_number(udfburn *handle, uint64_t client, uint64_t *number) {
+    struct udfburn_call call;
+    int32_t status = udfburn_enter(&call, handle);
+    return status == UDFBURN_OK ? udfburn_leave(&call, last_number(handle, client, number)) : status;
 }
 
 /* Clears what an earlier call left in a request. */
@@ -437,7 +462,7 @@ static void clear(struct udfburn_request *request) {
 }
 
 /* Runs a request whose pointers were checked. */
-static int32_t run(udfburn *handle, struct udfburn_request *request, struct message *message) {
+static int32_t run_in(udfburn *handle, struct udfburn_request *request, struct message *message) {
     uint64_t latest;
     struct answer answer;
     if (request->moment >= UDFBURN_MOMENT_LIMIT) {
@@ -445,7 +470,7 @@ static int32_t run(udfburn *handle, struct udfburn_request *request, struct mess
     }
     int32_t status = ready(handle);
     if (status == UDFBURN_OK) {
-        status = udfburn_last_number(handle, request->client, &latest);
+        status = last_number(handle, request->client, &latest);
     }
     if (status != UDFBURN_OK) {
         return status;
@@ -462,14 +487,21 @@ static int32_t run(udfburn *handle, struct udfburn_request *request, struct mess
     return status;
 }
 
+/* Runs a request, unless a pointer that it needs is missing. */
+static int32_t run(udfburn *handle, struct udfburn_request *request, struct message *message, bool is_whole) {
+    struct udfburn_call call;
+    clear(request);
+    int32_t status = udfburn_enter(&call, handle);
+    if (status != UDFBURN_OK) {
+        return status;
+    }
+    return udfburn_leave(&call, is_whole && request ? run_in(handle, request, message) : UDFBURN_ARGUMENT);
+}
+
 static int32_t run_on(udfburn *handle, struct udfburn_request *request, enum kind kind, const char *path,
                       const void *data, size_t length) {
     struct message message = {kind, NULL, path, NULL, data, length};
-    clear(request);
-    if (!handle || !request || !path || (!data && length > 0)) {
-        return UDFBURN_ARGUMENT;
-    }
-    return run(handle, request, &message);
+    return run(handle, request, &message, path && (data || length == 0));
 }
 
 int32_t udfburn_create(udfburn *handle, struct udfburn_request *request, const char *path, const void *data,
@@ -492,11 +524,7 @@ int32_t udfburn_remove(udfburn *handle, struct udfburn_request *request, const c
 
 int32_t udfburn_rename(udfburn *handle, struct udfburn_request *request, const char *from, const char *to) {
     struct message message = {RENAME, NULL, from, to, NULL, 0};
-    clear(request);
-    if (!handle || !request || !from || !to) {
-        return UDFBURN_ARGUMENT;
-    }
-    return run(handle, request, &message);
+    return run(handle, request, &message, from && to);
 }
 
 /* ---- names of statuses */
@@ -513,6 +541,11 @@ const char *udfburn_error_name(int32_t status) {
     STATUS(UDFBURN_VOLUME);
     STATUS(UDFBURN_ARGUMENT);
     STATUS(UDFBURN_NONE);
+    STATUS(UDFBURN_MISUSE);
+    STATUS(UDFBURN_BUSY);
+    STATUS(UDFBURN_NO_IMAGE);
+    STATUS(UDFBURN_NO_SPACE);
+    STATUS(UDFBURN_READ_ONLY);
     STATUS(UDFBURN_NO_PARENT);
     STATUS(UDFBURN_NOT_FOUND);
     STATUS(UDFBURN_EXISTS);

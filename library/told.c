@@ -3,9 +3,9 @@
 
 #include <string.h>
 
-int32_t udfburn_status(udfburn *handle, struct udfburn_status *status) {
+static int32_t tell_status(udfburn *handle, struct udfburn_status *status) {
     struct udfburn_core_status found;
-    if (!handle || !status) return UDFBURN_ARGUMENT;
+    if (!status) return UDFBURN_ARGUMENT;
     if (udfburn_check_file(handle) != UDFBURN_OK) return UDFBURN_DEVICE;
     int32_t outcome = udfburn_core_status(handle->core, &found);
     if (outcome != UDFBURN_OK) return outcome;
@@ -22,9 +22,15 @@ int32_t udfburn_status(udfburn *handle, struct udfburn_status *status) {
     return UDFBURN_OK;
 }
 
-int32_t udfburn_log(udfburn *handle, struct udfburn_commit *commit) {
+int32_t udfburn_status(udfburn *handle, struct udfburn_status *status) {
+    struct udfburn_call call;
+    int32_t outcome = udfburn_enter(&call, handle);
+    return outcome == UDFBURN_OK ? udfburn_leave(&call, tell_status(handle, status)) : outcome;
+}
+
+static int32_t tell_commit(udfburn *handle, struct udfburn_commit *commit) {
     struct udfburn_core_commit found;
-    if (!handle || !commit) return UDFBURN_ARGUMENT;
+    if (!commit) return UDFBURN_ARGUMENT;
     if (udfburn_check_file(handle) != UDFBURN_OK) return UDFBURN_DEVICE;
     int32_t outcome = udfburn_core_log(handle->core, commit->address, &found);
     if (outcome != UDFBURN_OK) return outcome;
@@ -34,4 +40,10 @@ int32_t udfburn_log(udfburn *handle, struct udfburn_commit *commit) {
     commit->files = found.files;
     commit->directories = found.directories;
     return UDFBURN_OK;
+}
+
+int32_t udfburn_log(udfburn *handle, struct udfburn_commit *commit) {
+    struct udfburn_call call;
+    int32_t outcome = udfburn_enter(&call, handle);
+    return outcome == UDFBURN_OK ? udfburn_leave(&call, tell_commit(handle, commit)) : outcome;
 }

@@ -28,7 +28,7 @@ static int32_t check_words(const char *label, uint64_t moment, uint32_t capacity
     return moment < UDFBURN_MOMENT_LIMIT ? UDFBURN_OK : UDFBURN_VOLUME;
 }
 
-int32_t udfburn_format_fd(int32_t fd, const char *label, uint64_t moment, uint32_t capacity) {
+static int32_t format_fd(int32_t fd, const char *label, uint64_t moment, uint32_t capacity) {
     struct udfburn_file file;
     int32_t status = fd < 0 ? UDFBURN_ARGUMENT : check_words(label, moment, capacity);
     if (status != UDFBURN_OK) return refused(fd, status);
@@ -40,7 +40,13 @@ int32_t udfburn_format_fd(int32_t fd, const char *label, uint64_t moment, uint32
     return status;
 }
 
-int32_t udfburn_format(const char *path, const char *label, uint64_t moment, uint32_t capacity) {
+int32_t udfburn_format_fd(int32_t fd, const char *label, uint64_t moment, uint32_t capacity) {
+    struct udfburn_call call;
+    udfburn_enter_without(&call, NULL);
+    return udfburn_leave(&call, format_fd(fd, label, moment, capacity));
+}
+
+static int32_t format(const char *path, const char *label, uint64_t moment, uint32_t capacity) {
     struct udfburn_place place;
     int32_t status = path ? check_words(label, moment, capacity) : UDFBURN_ARGUMENT;
     if (status == UDFBURN_OK) status = udfburn_find_place(path, &place);
@@ -48,7 +54,13 @@ int32_t udfburn_format(const char *path, const char *label, uint64_t moment, uin
     int fd = udfburn_open_or_make(&place);
     status = fd < 0 ? UDFBURN_DEVICE : udfburn_sync_folder(&place);
     close(place.folder);
-    return status == UDFBURN_OK ? udfburn_format_fd(fd, label, moment, capacity) : refused(fd, status);
+    return status == UDFBURN_OK ? format_fd(fd, label, moment, capacity) : refused(fd, status);
+}
+
+int32_t udfburn_format(const char *path, const char *label, uint64_t moment, uint32_t capacity) {
+    struct udfburn_call call;
+    udfburn_enter_without(&call, path);
+    return udfburn_leave(&call, format(path, label, moment, capacity));
 }
 
 /* ---- Handles ---- */
@@ -56,6 +68,7 @@ int32_t udfburn_format(const char *path, const char *label, uint64_t moment, uin
 udfburn *udfburn_new_handle(void) {
     udfburn *handle = calloc(1, sizeof *handle);
     if (!handle) return NULL;
+    udfburn_own(handle);
     handle->file.fd = -1;
     if (udfburn_core_new(&handle->core) == UDFBURN_OK) return handle;
     free(handle);
@@ -64,7 +77,7 @@ udfburn *udfburn_new_handle(void) {
 
 static int32_t give(udfburn *handle, int32_t status, udfburn **out) {
     if (status == UDFBURN_OK) *out = handle;
-    else udfburn_close(handle);
+    else udfburn_close_in(handle);
     return status;
 }
 
@@ -72,48 +85,66 @@ int32_t udfburn_open_number(udfburn *handle, int32_t number, udfburn **out) {
     return give(handle, udfburn_core_open_fd(handle->core, number), out);
 }
 
-int32_t udfburn_open_fd(int32_t fd, udfburn **out) {
-    if (out) *out = NULL;
-    if (fd < 0 || !out) return refused(fd, UDFBURN_ARGUMENT);
+static int32_t open_fd(int32_t fd, udfburn **out) {
     fd = udfburn_move_up(fd);
     udfburn *handle = udfburn_new_handle();
     int32_t status = handle ? udfburn_enter_file(&handle->file, fd, UDFBURN_GREATEST_CAPACITY) : UDFBURN_MEMORY;
     if (status == UDFBURN_OK) return udfburn_open_number(handle, fd, out);
-    udfburn_close(handle);
+    udfburn_close_in(handle);
     return refused(fd, status);
 }
 
-int32_t udfburn_open(const char *path, udfburn **out) {
-    struct udfburn_place place;
+int32_t udfburn_open_fd(int32_t fd, udfburn **out) {
+    struct udfburn_call call;
     if (out) *out = NULL;
-    if (!path || !out) return UDFBURN_ARGUMENT;
+    udfburn_enter_without(&call, NULL);
+    return udfburn_leave(&call, fd < 0 || !out ? refused(fd, UDFBURN_ARGUMENT) : open_fd(fd, out));
+}
+
+static int32_t open_path(const char *path, udfburn **out) {
+    struct udfburn_place place;
     int32_t status = udfburn_find_place(path, &place);
     if (status != UDFBURN_OK) return status;
     int fd = udfburn_open_regular(&place);
     udfburn *handle = NULL;
-    status = fd < 0 ? UDFBURN_DEVICE : udfburn_open_fd(fd, &handle);
+    status = fd < 0 ? UDFBURN_DEVICE : open_fd(fd, &handle);
     if (status == UDFBURN_OK) {
         handle->file.must_have_name = 1;
+        udfburn_keep_path(handle, path);
         status = udfburn_check_file(handle) == UDFBURN_OK ? udfburn_sync_folder(&place) : UDFBURN_DEVICE;
     }
     close(place.folder);
     if (status == UDFBURN_OK) *out = handle;
-    else udfburn_close(handle);
+    else udfburn_close_in(handle);
     return status;
 }
 
-int32_t udfburn_open_memory(const char *label, uint64_t moment, uint32_t capacity, udfburn **out) {
+int32_t udfburn_open(const char *path, udfburn **out) {
+    struct udfburn_call call;
     if (out) *out = NULL;
+    udfburn_enter_without(&call, path);
+    return udfburn_leave(&call, path && out ? open_path(path, out) : UDFBURN_ARGUMENT);
+}
+
+static int32_t open_memory(const char *label, uint64_t moment, uint32_t capacity, udfburn **out) {
     int32_t status = out ? check_words(label, moment, capacity) : UDFBURN_ARGUMENT;
     if (status != UDFBURN_OK) return status;
     udfburn *handle = udfburn_new_handle();
     if (!handle) return UDFBURN_MEMORY;
+    handle->in_memory = 1;
     status = udfburn_core_open_memory(handle->core, (const uint8_t *)label, strlen(label), moment, capacity);
     /* A drive in memory fails where there is no more of it. */
     return give(handle, status == UDFBURN_DEVICE ? UDFBURN_MEMORY : status, out);
 }
 
-void udfburn_close(udfburn *handle) {
+int32_t udfburn_open_memory(const char *label, uint64_t moment, uint32_t capacity, udfburn **out) {
+    struct udfburn_call call;
+    if (out) *out = NULL;
+    udfburn_enter_without(&call, NULL);
+    return udfburn_leave(&call, open_memory(label, moment, capacity, out));
+}
+
+void udfburn_close_in(udfburn *handle) {
     if (!handle) return;
     udfburn_leave_file(&handle->file);
     /* The core's handle is a block of malloc. */
@@ -121,6 +152,38 @@ void udfburn_close(udfburn *handle) {
     free(handle->core);
     if (handle->release) handle->release(handle->port);
     free(handle);
+}
+
+/* In a child: a call was on the handle when its parent was forked. Nobody ends that call here, so what it was changing stays as it is. */
+static void abandon(udfburn *handle) {
+    int fd = handle->file.fd;
+    udfburn_leave_file(&handle->file);
+    if (fd >= 0) close(fd);
+    if (handle->release) handle->release(handle->port);
+}
+
+static void close_of_parent(udfburn *handle) {
+    struct udfburn_call call;
+    if (__atomic_exchange_n(&handle->is_busy, 1, __ATOMIC_ACQUIRE)) {
+        abandon(handle);
+        return;
+    }
+    /* The lock is the parent's, so it is not given up. */
+    udfburn_enter_without(&call, NULL);
+    udfburn_close_in(handle);
+    udfburn_leave(&call, UDFBURN_OK);
+}
+
+void udfburn_close(udfburn *handle) {
+    struct udfburn_call call;
+    if (handle && !udfburn_is_own(handle)) close_of_parent(handle);
+    else if (handle && udfburn_enter(&call, handle) == UDFBURN_OK) {
+        /* The number may be that of another file by mistake, whose lock is not ours. */
+        if (!udfburn_is_file(&handle->file)) call.locked = -1;
+        call.handle = NULL;
+        udfburn_close_in(handle);
+        udfburn_leave(&call, UDFBURN_OK);
+    }
 }
 
 int32_t udfburn_check_file(udfburn *handle) {
@@ -150,11 +213,10 @@ static void follow(udfburn *handle, const uint8_t *bytes, size_t count) {
 }
 
 int udfburn_between_frames(const udfburn *handle) {
-    return handle->length_bytes == 0 && udfburn_answered(handle) == 0;
+    return handle->length_bytes == 0 && udfburn_answered_in(handle) == 0;
 }
 
-int32_t udfburn_answer(udfburn *handle, const void *bytes, size_t count) {
-    if (!handle || (!bytes && count > 0) || count > PTRDIFF_MAX) return UDFBURN_ARGUMENT;
+int32_t udfburn_answer_in(udfburn *handle, const void *bytes, size_t count) {
     if (handle->ended != UDFBURN_OK || udfburn_check_file(handle) != UDFBURN_OK) return handle->ended;
     if (count == 0) return UDFBURN_OK;
     handle->ended = udfburn_core_answer(handle->core, bytes, count);
@@ -163,23 +225,50 @@ int32_t udfburn_answer(udfburn *handle, const void *bytes, size_t count) {
     return udfburn_check_file(handle) == UDFBURN_OK ? handle->ended : UDFBURN_DEVICE;
 }
 
+int32_t udfburn_answer(udfburn *handle, const void *bytes, size_t count) {
+    struct udfburn_call call;
+    int32_t status = udfburn_enter(&call, handle);
+    if (status != UDFBURN_OK) return status;
+    int is_wrong = (!bytes && count > 0) || count > PTRDIFF_MAX;
+    return udfburn_leave(&call, is_wrong ? UDFBURN_ARGUMENT : udfburn_answer_in(handle, bytes, count));
+}
+
+size_t udfburn_answered_in(const udfburn *handle) { return handle->lost ? 0 : udfburn_core_answered(handle->core); }
+
 size_t udfburn_answered(const udfburn *handle) {
-    return handle && !handle->lost ? udfburn_core_answered(handle->core) : 0;
+    struct udfburn_call call;
+    /* The handle is not changed but for what says that a call is on it. */
+    if (udfburn_enter(&call, (udfburn *)handle) != UDFBURN_OK) return 0;
+    size_t count = udfburn_answered_in(handle);
+    udfburn_leave(&call, UDFBURN_OK);
+    return count;
+}
+
+size_t udfburn_take_in(udfburn *handle, void *into, size_t room) {
+    size_t count = udfburn_answered_in(handle);
+    if (!into || room == 0 || count == 0) return 0;
+    return udfburn_core_take(handle->core, into, room < count ? room : count);
 }
 
 size_t udfburn_take(udfburn *handle, void *into, size_t room) {
-    size_t count = udfburn_answered(handle);
-    if (!into || room == 0 || count == 0) return 0;
-    return udfburn_core_take(handle->core, into, room < count ? room : count);
+    struct udfburn_call call;
+    if (udfburn_enter(&call, handle) != UDFBURN_OK) return 0;
+    size_t count = udfburn_take_in(handle, into, room);
+    udfburn_leave(&call, UDFBURN_OK);
+    return count;
 }
 
 /* ---- A volume in memory ---- */
 
 int32_t udfburn_next_block(udfburn *handle, uint32_t *address, void *block) {
-    if (!handle || !address || !block) return UDFBURN_ARGUMENT;
-    return udfburn_core_next_block(handle->core, address, block);
+    struct udfburn_call call;
+    int32_t status = udfburn_enter(&call, handle);
+    if (status != UDFBURN_OK) return status;
+    return udfburn_leave(&call, address && block ? udfburn_core_next_block(handle->core, address, block) : UDFBURN_ARGUMENT);
 }
 
 int32_t udfburn_took(udfburn *handle) {
-    return handle ? udfburn_core_took(handle->core) : UDFBURN_ARGUMENT;
+    struct udfburn_call call;
+    int32_t status = udfburn_enter(&call, handle);
+    return status == UDFBURN_OK ? udfburn_leave(&call, udfburn_core_took(handle->core)) : status;
 }

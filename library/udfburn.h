@@ -16,14 +16,15 @@
  *     }
  *
  * THREADS. A handle (`udfburn *`) serves one call at a time. Different threads may use it one after the other, if they
- * order their calls, for example with a lock. Different handles are independent. The library starts no thread, keeps no
- * signal handler and prints nothing. Do not call it from a signal handler, and do not cancel a thread that is in a call. In
- * a child after fork(), the only call on a handle of the parent is udfburn_close(). It takes nothing from the parent. Until
- * then the child shares the lock of the file, even when the parent has closed its handle or ended. A program that the child
- * starts does not.
+ * order their calls, for example with a lock. A call while another one is on the handle, also from a function of its drive,
+ * returns UDFBURN_MISUSE and does nothing. So does every call on a handle of the parent in a child after fork(), but for
+ * udfburn_close(): it frees the child's copy, and takes nothing from the parent. If the parent ends without a close, its
+ * children keep the lock of the file until they close their copies or end. A program that a child starts does not.
+ *   Different handles are independent. The library starts no thread, keeps no signal handler and prints nothing. Do not call
+ * it from a signal handler, and do not cancel a thread that is in a call.
  *
  * MEMORY. It uses malloc, realloc and free. When an allocation fails, the call returns UDFBURN_MEMORY. Results that you
- * must free are freed with udfburn_free().
+ * must free are freed with udfburn_free(). Structures that begin with `size` may grow: set it to the sizeof of yours.
  *
  * STACK. A call needs 64 KiB of stack. Give a thread that calls the library at least 128 KiB, and what your drive's
  * functions need.
@@ -65,15 +66,20 @@ extern "C" {
 enum {
     UDFBURN_OK = 0,
 
-    /* The call could not do its work. After UDFBURN_MEMORY and UDFBURN_DEVICE a request may be committed or not: send it
-     * again with the same number, and it runs once. */
+    /* The call could not do its work. After UDFBURN_MEMORY, UDFBURN_DEVICE, UDFBURN_NO_SPACE and UDFBURN_READ_ONLY a request
+     * may be committed or not: send it again with the same number, and it runs once. */
     UDFBURN_MEMORY = 1,         /* not enough memory */
-    UDFBURN_DEVICE = 2,         /* the file or the drive cannot be opened, is in use by another writer, or failed */
+    UDFBURN_DEVICE = 2,         /* the file or the drive cannot be opened, or failed: udfburn_reason() says why */
     UDFBURN_TOO_LONG = 3,       /* a frame is longer than a frame may be: nothing after it is read */
     UDFBURN_TEXT = 4,           /* a label or a path is not valid */
     UDFBURN_VOLUME = 5,         /* no volume, a damaged one, or one that cannot be made with this moment or capacity */
     UDFBURN_ARGUMENT = 6,       /* NULL, or another argument that the call does not accept */
     UDFBURN_NONE = 7,           /* there is none: no block waits, or no commit comes before */
+    UDFBURN_MISUSE = 8,         /* another call is on the handle, or it is a handle of the parent: nothing was done */
+    UDFBURN_BUSY = 9,           /* another handle or another process has the file or the drive */
+    UDFBURN_NO_IMAGE = 10,      /* there is no file of this name in its folder */
+    UDFBURN_NO_SPACE = 11,      /* the disk, its quota or RLIMIT_FSIZE has no room for the file; else as UDFBURN_DEVICE */
+    UDFBURN_READ_ONLY = 12,     /* the file may not be written, or its file system; else as UDFBURN_DEVICE */
 
     /* The request is committed, but the tree stays as it was. A repeat gets the same status. Queries return
      * UDFBURN_NOT_FOUND, UDFBURN_IS_DIRECTORY and UDFBURN_NOT_DIRECTORY too, and commit nothing. */
@@ -105,10 +111,24 @@ const char *udfburn_error_name(int32_t status);
 /* The version of the library, such as "1.2.0". Never NULL, never freed. */
 const char *udfburn_version(void);
 
-/* ---- Volumes ------------------------------------------------------------------------------------------------------- */
-
 /* A volume that is open. */
 typedef struct udfburn udfburn;
+
+/* Why a call failed. */
+struct udfburn_reason {
+    size_t size;                /* set it to sizeof(struct udfburn_reason) */
+    int32_t status;             /* what the call returned */
+    int32_t error;              /* errno of what failed below it, or the number that a function of your drive returned; or 0 */
+    char call[32];              /* that failed, such as "fsync" or "drive.write"; "" if nothing below it failed */
+    char path[256];             /* of the file that was opened or made by its path: its last 255 bytes; else "" */
+};
+
+/* Why the last call on a handle failed that did. With NULL: the last one in this thread that failed without a handle, such as
+ * an open, or with UDFBURN_MISUSE. A later success changes nothing here. UDFBURN_NONE: none failed. UDFBURN_ARGUMENT,
+ * UDFBURN_MISUSE. */
+int32_t udfburn_reason(udfburn *handle, struct udfburn_reason *reason);
+
+/* ---- Volumes ------------------------------------------------------------------------------------------------------- */
 
 /* Make a volume in the file at `path`, which is created if it is missing. An empty file will do, and so will one in which a
  * format with the same label, moment and capacity was interrupted: that format is finished. A volume that these three
@@ -118,8 +138,9 @@ typedef struct udfburn udfburn;
  * so that you can finish a format that was interrupted. A loss of power may leave one that cannot be finished: the status
  * is UDFBURN_VOLUME. Until that UDFBURN_OK nothing of yours is in the file, so you may delete it and format again.
  *   The path's last part may not be a symbolic link, and its folder must be readable.
- * UDFBURN_TEXT: the label is not valid. UDFBURN_VOLUME: also a moment or a capacity that is out of range. UDFBURN_DEVICE,
- * UDFBURN_MEMORY, UDFBURN_ARGUMENT. A file that was created for the call may be left empty on failure. */
+ * UDFBURN_TEXT: the label is not valid. UDFBURN_VOLUME: also a moment or a capacity that is out of range. UDFBURN_BUSY,
+ * UDFBURN_NO_SPACE, UDFBURN_READ_ONLY, UDFBURN_DEVICE, UDFBURN_MEMORY, UDFBURN_ARGUMENT. A file that was created for the
+ * call may be left empty on failure. */
 int32_t udfburn_format(const char *path, const char *label, uint64_t moment, uint32_t capacity);
 
 /* The same on an open descriptor, which must be of a regular file, open for reading and writing, without O_APPEND. The
@@ -128,16 +149,19 @@ int32_t udfburn_format(const char *path, const char *label, uint64_t moment, uin
 int32_t udfburn_format_fd(int32_t fd, const char *label, uint64_t moment, uint32_t capacity);
 
 /* Open the volume in the file at `path`, and set `*out`. The file is locked (flock) until udfburn_close(): a second open
- * of it returns UDFBURN_DEVICE, in this process or in another. The file is synced before anything is read, and its name
+ * of it returns UDFBURN_BUSY, in this process or in another. The file is synced before anything is read, and its name
  * too. If it loses its last name while it is open, calls on the handle return UDFBURN_DEVICE.
  *   The path's last part may not be a symbolic link, and its folder must be readable. The file must be writable.
- * UDFBURN_VOLUME: the file holds no volume, or a damaged one. UDFBURN_DEVICE, UDFBURN_MEMORY, UDFBURN_ARGUMENT. `*out` is
- * NULL on failure. */
+ * UDFBURN_NO_IMAGE: its folder is there, and no file of this name in it. A folder that is missing is UDFBURN_DEVICE, as where a
+ * disk is not mounted: so keep the file in a folder of the disk, and format after UDFBURN_NO_IMAGE alone. UDFBURN_VOLUME: the
+ * file holds no volume, or a damaged one, or a format was interrupted. UDFBURN_BUSY, UDFBURN_READ_ONLY, UDFBURN_DEVICE,
+ * UDFBURN_MEMORY, UDFBURN_ARGUMENT. `*out` is NULL on failure. */
 int32_t udfburn_open(const char *path, udfburn **out);
 
 /* The same on an open descriptor, as in udfburn_format_fd(). That the file keeps its name is for you to see to.
- *   A duplicate of the descriptor (by dup, fork or a socket) has the same lock. In this process a second open by one
- * returns UDFBURN_DEVICE all the same. Let no other process open the file by one while this handle is open. */
+ *   A duplicate of the descriptor (by dup, fork or a socket) has the same lock, which udfburn_close() gives up. In this process
+ * a second open by one returns UDFBURN_BUSY all the same. Let no other process open the file by one while this handle is
+ * open. */
 int32_t udfburn_open_fd(int32_t fd, udfburn **out);
 
 /* A new volume in memory. You write its blocks to the medium yourself: see udfburn_next_block(). All its blocks stay in
@@ -145,8 +169,8 @@ int32_t udfburn_open_fd(int32_t fd, udfburn **out);
  *   Statuses as udfburn_format(). */
 int32_t udfburn_open_memory(const char *label, uint64_t moment, uint32_t capacity, udfburn **out);
 
-/* Close a volume and free the handle. Nothing is written: all that was acknowledged is on the medium already. NULL is
- * allowed. */
+/* Close a volume, give its lock up and free the handle. Nothing is written: all that was acknowledged is on the medium
+ * already. NULL is allowed. While another call is on the handle, nothing is done: close it again afterwards. */
 void udfburn_close(udfburn *handle);
 
 /* ---- Requests ------------------------------------------------------------------------------------------------------
@@ -273,10 +297,10 @@ int32_t udfburn_log(udfburn *handle, struct udfburn_commit *commit);
  * the handle and open the volume again, and repeat each request that has no answer, with its number.
  *   UDFBURN_DEVICE: the file lost its name. No answer waits, and every later call returns the same. Other failures of the
  * file or the drive are answers.
- *   UDFBURN_ARGUMENT: NULL. The stream goes on. */
+ *   UDFBURN_ARGUMENT: NULL. The stream goes on. UDFBURN_MISUSE: nothing was taken. */
 int32_t udfburn_answer(udfburn *handle, const void *bytes, size_t count);
 
-/* How many bytes of answers wait. */
+/* How many bytes of answers wait; 0 for a misuse too. */
 size_t udfburn_answered(const udfburn *handle);
 
 /* Move the first bytes of the answers to `into`, at most `room`, and return how many. */
@@ -289,7 +313,10 @@ size_t udfburn_take(udfburn *handle, void *into, size_t room);
  * commit valid: write it after the others are durable. The request is acknowledged when the last one is durable too, and
  * not before. You may write each block when you get it, and sync it before the next one. Or collect those of a request,
  * write all but the last one, sync, write the last one, and sync again. If a block cannot be written, close the handle: the
- * medium holds the commits that are complete there. */
+ * medium holds the commits that are complete there.
+ *   After UDFBURN_MEMORY the request is not acknowledged, though blocks of it may wait. Write all that wait, in order, or none
+ * of them, and close the handle: either way the medium holds a sound volume. Open it as a drive of your own, and send the
+ * request again with its number: it runs once. */
 
 /* Copy the next block to `block`, which has room for UDFBURN_BLOCK bytes, and its address. It returns the same block until
  * udfburn_took(). UDFBURN_NONE: no block waits, or the volume is not in memory. */
@@ -305,8 +332,8 @@ int32_t udfburn_took(udfburn *handle);
  * libudfburn.a too: link one of the two archives, not both.
  *
  * The library calls your functions from within the call on the handle, in the same thread, one at a time. Each returns 0
- * for success and any other number for failure. They must return: no longjmp, no C++ exception, no end of the thread. They
- * must not use the handle or the drive that they serve; other handles they may use.
+ * for success and any other number for failure. They must return: no longjmp, no C++ exception, no end of the thread. A call
+ * on the handle that they serve is UDFBURN_MISUSE; other handles they may use.
  *
  * A drive is a row of blocks of UDFBURN_BLOCK bytes, addressed from 0. This is what it owes:
  *
@@ -340,7 +367,7 @@ struct udfburn_drive {
 int32_t udfburn_format_drive(const struct udfburn_drive *drive, const char *label, uint64_t moment);
 
 /* Open the volume on a drive. The structure is copied; what `context` points to must stay until udfburn_close(). A drive
- * with the same context and functions can be open once: the second open returns UDFBURN_DEVICE. Statuses as
+ * with the same context and functions can be open once: the second open returns UDFBURN_BUSY. Statuses as
  * udfburn_open(). */
 int32_t udfburn_open_drive(const struct udfburn_drive *drive, udfburn **out);
 

@@ -54,7 +54,7 @@ compile() {
             ${CFLAGS:-} -fvisibility=default -fno-lto -DUDFBURN_VERSION="\"$version\"" -c "library/$name.c" -o "$room/$name.o"
     done
 }
-compile udfburn files requests told drive drive_check
+compile udfburn guard files requests told port drive drive_check
 
 # What the header declares, apart from what is only in the library with drives.
 names() {
@@ -72,7 +72,7 @@ merge() {
     objcopy --keep-global-symbols="$shown" --strip-debug --remove-section=.comment --remove-section=.llvm_addrsig "$room/merged.o" "$merged"
 }
 
-# The core as one object, and once more with its calls on a file under other names, which library/drive.c has.
+# The core as one object, with its calls on a file under other names, which library/port.c has.
 mkdir "$room/parts"
 case $core in
     *.a) (cd "$room/parts" && ar x "$core") ;;
@@ -85,9 +85,9 @@ for call in pread pwrite lseek fsync ftruncate flock posix_fadvise close; do
 done
 objcopy "$@" "$room/core.all.o" "$room/core.port.o"
 
-merge "$room/libudfburn.o" "$room/names.plain" "$room/udfburn.o" "$room/files.o" "$room/requests.o" "$room/told.o" "$room/core.all.o"
-merge "$room/libudfburn_drive.o" "$room/names" "$room/udfburn.o" "$room/files.o" "$room/requests.o" "$room/told.o" "$room/drive.o" \
-    "$room/drive_check.o" "$room/core.port.o"
+set -- "$room/udfburn.o" "$room/guard.o" "$room/files.o" "$room/requests.o" "$room/told.o" "$room/port.o" "$room/core.port.o"
+merge "$room/libudfburn.o" "$room/names.plain" "$@"
+merge "$room/libudfburn_drive.o" "$room/names" "$@" "$room/drive.o" "$room/drive_check.o"
 rm -f "$out"/libudfburn.a "$out"/libudfburn_drive.a "$out"/libudfburn.so*
 ar rcsD "$out/libudfburn.a" "$room/libudfburn.o"
 ar rcsD "$out/libudfburn_drive.a" "$room/libudfburn_drive.o"

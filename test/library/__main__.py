@@ -19,7 +19,7 @@ from faults.__main__ import Counting
 from library.building import HERE, SANITIZERS, build_library, make_room
 
 # These take longest, so that they begin first.
-LONG = ("test_power", "test_kills", "test_killed", "test_failures", "test_watched", "test_calls")
+LONG = ("test_power", "test_kills", "test_killed", "test_failures", "test_watched", "test_calls", "test_guards", "test_memory")
 
 
 class Outcome(NamedTuple):

@@ -12,6 +12,7 @@ from typing import NamedTuple, Optional, Sequence
 HERE = Path(__file__).resolve().parent
 REPOSITORY = HERE.parent.parent
 SANITIZERS = "-g -fsanitize=address,undefined -fno-sanitize-recover=all"
+THREADS = "-g -fsanitize=thread"
 # No call of a test takes nearly as long.
 PATIENCE = 600.0
 
@@ -70,12 +71,14 @@ class Case(unittest.TestCase):
         self.folder = Path(tempfile.mkdtemp(prefix="case.", dir=built().room))
         self.addCleanup(shutil.rmtree, self.folder, True)
 
-    def compiled(self, source: str, compiler: Compiler = GCC, archive: str = "libudfburn.a", watched: bool = False) -> str:
+    def compiled(self, source: str, compiler: Compiler = GCC, archive: str = "libudfburn.a", watched: bool = False,
+                 library: Optional[Path] = None, flags: str = "") -> str:
         """The program of this source file of this folder, linked with an archive, or with the shared library."""
-        library = built().watched if watched else built().plain
+        library = library or (built().watched if watched else built().plain)
+        flags = flags or (SANITIZERS if watched else "")
         made = str(self.folder / (Path(source).stem + "." + compiler.command))
         linked = ["-L", str(library), "-ludfburn"] if archive.endswith(".so") else [str(library / archive)]
-        words = [compiler.command, *compiler.words, "-O1", *WARNINGS, *(SANITIZERS.split() if watched else []), "-I", str(library), "-I",
+        words = [compiler.command, *compiler.words, "-O1", *WARNINGS, *flags.split(), "-I", str(library), "-I",
                  str(HERE), str(HERE / source), "-x", "none", *linked, "-pthread", "-o", made]
         done = subprocess.run(words, capture_output=True, text=True)
         self.assertEqual((done.returncode, done.stderr), (0, ""), " ".join(words))

@@ -32,7 +32,7 @@ static void odd_paths(void) {
         EXPECT(handle == NULL);
     }
     EXPECT(access("nowhere", F_OK) == -1);
-    STATUS(UDFBURN_DEVICE, udfburn_open("missing.img", &handle));
+    STATUS(UDFBURN_NO_IMAGE, udfburn_open("missing.img", &handle));
     EXPECT(access("missing.img", F_OK) == -1);
 }
 
@@ -200,10 +200,10 @@ static void duplicates(void) {
     make("calls.img");
     int fd = image_at("calls.img"), other = dup(fd);
     STATUS(UDFBURN_OK, udfburn_open_fd(fd, &handle));
-    STATUS(UDFBURN_DEVICE, udfburn_open_fd(other, &second));
+    STATUS(UDFBURN_BUSY, udfburn_open_fd(other, &second));
     EXPECT(!second && is_closed(other) && !is_closed(fd));
     other = dup(fd);
-    STATUS(UDFBURN_DEVICE, udfburn_format_fd(other, "DISC", MOMENT, 600));
+    STATUS(UDFBURN_BUSY, udfburn_format_fd(other, "DISC", MOMENT, 600));
     EXPECT(is_closed(other));
     STATUS(UDFBURN_OK, udfburn_answer(handle, create_a, sizeof create_a));
     expect_answers(handle, created, sizeof created);
@@ -304,15 +304,15 @@ static void volumes_that_are_none(void) {
 
 static void one_writer(void) {
     udfburn *handle = opened("calls.img"), *second = handle;
-    STATUS(UDFBURN_DEVICE, udfburn_open("calls.img", &second));
+    STATUS(UDFBURN_BUSY, udfburn_open("calls.img", &second));
     EXPECT(!second);
-    STATUS(UDFBURN_DEVICE, udfburn_open_fd(image_at("calls.img"), &second));
-    STATUS(UDFBURN_DEVICE, udfburn_format("calls.img", "DISC", MOMENT, 600));
+    STATUS(UDFBURN_BUSY, udfburn_open_fd(image_at("calls.img"), &second));
+    STATUS(UDFBURN_BUSY, udfburn_format("calls.img", "DISC", MOMENT, 600));
     int other = image_at("calls.img");
     EXPECT(flock(other, LOCK_EX | LOCK_NB) == -1);
     udfburn_close(handle);
     EXPECT(flock(other, LOCK_EX | LOCK_NB) == 0);
-    STATUS(UDFBURN_DEVICE, udfburn_open("calls.img", &second));
+    STATUS(UDFBURN_BUSY, udfburn_open("calls.img", &second));
     close(other);
     udfburn_close(opened("calls.img"));
     udfburn_close(NULL);
@@ -340,9 +340,9 @@ static void end_child(pid_t child) {
     EXPECT(!kill(child, SIGKILL) && waitpid(child, &status, 0) == child && WIFSIGNALED(status));
 }
 
-/* A child shares the lock until it closes its copy, which takes nothing from the parent. */
+/* A child that closes its copy takes nothing from the parent, and one that does not keeps nothing from others after the parent. */
 static void after_fork(void) {
-    udfburn *handle, *second;
+    udfburn *handle;
     make("calls.img");
     handle = opened("calls.img");
     pid_t child = child_with(handle, 1);
@@ -356,7 +356,7 @@ static void after_fork(void) {
     end_child(child);
     child = child_with(handle, 0);
     udfburn_close(handle);
-    STATUS(UDFBURN_DEVICE, udfburn_open("calls.img", &second));
+    udfburn_close(opened("calls.img"));
     end_child(child);
     udfburn_close(opened("calls.img"));
 }

@@ -141,9 +141,9 @@ static void a_drive_is_held(void) {
     struct udfburn_drive drive = drive_of(&discs[0]);
     udfburn *handle = opened_on(&discs[0]), *second = handle;
     uint32_t asked = discs[0].asked;
-    STATUS(UDFBURN_DEVICE, udfburn_open_drive(&drive, &second));
+    STATUS(UDFBURN_BUSY, udfburn_open_drive(&drive, &second));
     EXPECT(!second);
-    STATUS(UDFBURN_DEVICE, udfburn_format_drive(&drive, "DISC", MOMENT));
+    STATUS(UDFBURN_BUSY, udfburn_format_drive(&drive, "DISC", MOMENT));
     /* Another thread may be in a call on the handle, and one function of a drive is called at a time. */
     EXPECT(discs[0].asked == asked);
     udfburn_close(handle);

@@ -27,7 +27,7 @@ int main(int argc, char **argv) {
         /* Half a frame and an answer that nobody takes go with the handle. */
         STATUS(UDFBURN_OK, udfburn_answer(handle, get_a, sizeof get_a));
         STATUS(UDFBURN_OK, udfburn_answer(handle, get_a, 3));
-        STATUS(UDFBURN_DEVICE, udfburn_open("opens.img", &(udfburn *){NULL}));
+        STATUS(UDFBURN_BUSY, udfburn_open("opens.img", &(udfburn *){NULL}));
         udfburn_close(handle);
         if (i == 10) before = in_use();
     }

@@ -27,7 +27,9 @@ static ssize_t receive(int fd, void *into, size_t room) { return recv(fd, into, 
 static ssize_t send_some(int fd, const void *bytes, size_t count) { return send(fd, bytes, count, MSG_NOSIGNAL); }
 
 static int refuse(int32_t status) {
-    fprintf(stderr, "udfburn: %s\n", status == UDFBURN_DEVICE ? "64 Device" : udfburn_error_name(status));
+    /* The library has more names for what is one of the programs'. */
+    int is_device = status == UDFBURN_DEVICE || (status >= UDFBURN_BUSY && status <= UDFBURN_READ_ONLY);
+    fprintf(stderr, "udfburn: %s\n", is_device ? "64 Device" : udfburn_error_name(status));
     return 1;
 }
 

@@ -2,6 +2,7 @@
 from __future__ import annotations
 
 import ctypes
+import errno
 import os
 import struct
 from ctypes import POINTER, byref, c_char_p, c_int32, c_size_t, c_uint32, c_uint64, c_void_p
@@ -11,7 +12,7 @@ from library.building import Case, built
 from library.test_exports import declared
 from protocol import GET, Request, encode, query
 
-OK, DEVICE, NONE, EXISTS, NOT_FOUND = 0, 2, 7, 35, 34
+OK, NONE, BUSY, EXISTS, NOT_FOUND = 0, 7, 9, 35, 34
 BLOCK = 2048
 MOMENT = 1_700_000_000_000_000
 
@@ -35,6 +36,10 @@ class Status(ctypes.Structure):
 
 class Commit(ctypes.Structure):
     _fields_ = [("moment", c_uint64), *((name, c_uint32) for name in ("number", "address", "files", "directories"))]
+
+
+class Reason(ctypes.Structure):
+    _fields_ = [("size", c_size_t), ("status", c_int32), ("error", c_int32), ("call", ctypes.c_char * 32), ("path", ctypes.c_char * 256)]
 
 
 CAPACITY = ctypes.CFUNCTYPE(c_int32, c_void_p, POINTER(c_uint32))
@@ -96,8 +101,11 @@ class FromPython(Case):
         self.assertEqual(self.call("format", path, b"PY", c_uint64(MOMENT), c_uint32(600)), OK)
         handle = self.opened(path)
         second = c_void_p(1)
-        self.assertEqual(self.call("open", path, byref(second)), DEVICE)
+        self.assertEqual(self.call("open", path, byref(second)), BUSY)
         self.assertIsNone(second.value)
+        reason = Reason(ctypes.sizeof(Reason))
+        self.assertEqual(self.call("reason", None, byref(reason)), OK)
+        self.assertEqual((reason.status, reason.error, reason.call, reason.path), (BUSY, errno.EBUSY, b"open", path))
         frames = encode(Request("create", 7, 1, "/a", b"hello")) + query(GET, "/a")
         self.assertEqual(self.call("answer", handle, frames, c_size_t(len(frames))), OK)
         wanted = bytes.fromhex("06000000000001000000" "0b000000400005000000") + b"hello"
@@ -191,7 +199,7 @@ class FromPython(Case):
 
     def test_structures(self) -> None:
         """The sizes of the structures are those of a C compiler."""
-        kinds = {"request": AskedRequest, "node": Node, "name": Name, "status": Status, "commit": Commit, "drive": Drive}
+        kinds = {"request": AskedRequest, "node": Node, "name": Name, "status": Status, "commit": Commit, "reason": Reason, "drive": Drive}
         lines = ["#include \"udfburn.h\"", "#include <stdio.h>", "int main(void) {"]
         lines += ["    printf(\"%%zu\\n\", sizeof(struct udfburn_%s));" % name for name in kinds]
         source = self.folder / "sizes.c"

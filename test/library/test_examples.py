@@ -221,7 +221,7 @@ class Record(WithImage):
             assert process.stdin and process.stdout
             self.assertEqual(process.stdout.readline(), b"0\n")
             done = self.record(self.stream, 0)
-            self.assertEqual((done.returncode, done.stdout, done.stderr), (1, b"", b"record: UDFBURN_DEVICE\n"))
+            self.assertEqual((done.returncode, done.stdout, done.stderr), (1, b"", b"record: UDFBURN_BUSY\n"))
             process.communicate(b"")
 
     def start_anew(self) -> None:

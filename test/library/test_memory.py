@@ -56,6 +56,23 @@ class Memory(Case):
                 image = self.folder / "each.img"
                 self.assertTrue(self.whole.startswith(image.read_bytes() if image.exists() else b""))
 
+    def test_blocks_of_a_volume_in_memory(self) -> None:
+        """Whether those that wait are written or not: the volume is sound, and the request that was refused runs once."""
+        program = self.compiled("blocks.c")
+        counted = self.folder / "count"
+        for mode in ("all", "none"):
+            self.blocks(program, mode, ALLOC_COUNT=str(counted))
+            count = int(counted.read_text())
+            self.assertGreater(count, 50)
+            said = [self.blocks(program, mode, ALLOC_FAIL=str(number)) for number in range(1, count + 1)]
+            self.assertEqual(set(said), {"done\n", "memory\n"})
+            self.assertGreater(said.count("done\n"), said.count("memory\n"))
+
+    def blocks(self, program: str, mode: str, **rule: str) -> str:
+        with self.subTest(mode=mode, **rule):
+            return self.ran(program, "blocks.img", mode, environment=self.environment(LD_PRELOAD=self.shim, **rule))
+        return "failed\n"
+
     def test_a_stream_that_ended(self) -> None:
         program = self.compiled("ended.c")
         (self.folder / "room").mkdir()

@@ -121,7 +121,7 @@ class Held(WithLibrary):
 
     def test_another_has_it(self) -> None:
         self.serve()
-        with self.by_library(patience=0.0) as client, self.assertRaisesRegex(e.ConnectionFailed, "UDFBURN_DEVICE: .* another program has it"):
+        with self.by_library(patience=0.0) as client, self.assertRaisesRegex(e.ConnectionFailed, "UDFBURN_BUSY: another program has the image"):
             client.create("/a", b"a")
 
     def test_another_client_has_it(self) -> None:

@@ -25,7 +25,10 @@ STUB = """
 #include <stdlib.h>
 static int32_t said(const char *name) { return getenv(name) ? atoi(getenv(name)) : 0; }
 const char *udfburn_version(void) { return "9.8.7"; }
-const char *udfburn_error_name(int32_t s) { return s == 1 ? "UDFBURN_MEMORY" : s == 2 ? "UDFBURN_DEVICE" : "UDFBURN_VOLUME"; }
+const char *udfburn_error_name(int32_t s) {
+    static const char *const names[] = {"UDFBURN_MISUSE", "UDFBURN_BUSY", "UDFBURN_NO_IMAGE", "UDFBURN_NO_SPACE", "UDFBURN_READ_ONLY"};
+    return s == 1 ? "UDFBURN_MEMORY" : s == 2 ? "UDFBURN_DEVICE" : s >= 8 && s <= 12 ? names[s - 8] : "UDFBURN_VOLUME";
+}
 int32_t udfburn_format(const char *path, const char *label, uint64_t moment, uint32_t capacity) { return said("STUB_FORMAT"); }
 int32_t udfburn_open(const char *path, void **out) { *out = (void *)path; return said("STUB_OPEN"); }
 int32_t udfburn_answer(void *handle, const void *bytes, size_t count) { return said("STUB_ANSWER"); }
@@ -128,11 +131,16 @@ class Statuses(WithStub):
 
     def test_of_an_open(self) -> None:
         self.fails(e.Damaged, "holds no volume or a damaged one", open="5")
-        self.fails(e.ConnectionFailed, "UDFBURN_DEVICE: the image is missing", open="2")
+        self.fails(e.ConnectionFailed, "UDFBURN_DEVICE: .* its folder is missing", open="2")
+        self.fails(e.ConnectionFailed, "UDFBURN_BUSY: another program has the image", open="9")
+        self.fails(e.ConnectionFailed, "UDFBURN_NO_IMAGE: there is no such image", open="10")
+        self.fails(e.ConnectionFailed, "UDFBURN_READ_ONLY: the image may not be written", open="12")
         self.fails(e.ConnectionFailed, "UDFBURN_MEMORY", open="1")
 
     def test_of_a_format(self) -> None:
-        for status, words in (("5", "holds something already, and stays as it is"), ("2", "cannot be made or written: .*UDFBURN_DEVICE"), ("1", "UDFBURN_MEMORY")):
+        for status, words in (("5", "holds something already, and stays as it is"), ("1", "UDFBURN_MEMORY"),
+                              *((status, f"cannot be made or written: .*{name}") for status, name in (
+                                  ("2", "UDFBURN_DEVICE"), ("9", "UDFBURN_BUSY"), ("11", "UDFBURN_NO_SPACE"), ("12", "UDFBURN_READ_ONLY")))):
             errors = StringIO()
             with mock.patch.dict(os.environ, STUB_FORMAT=status), redirect_stderr(errors):
                 self.assertEqual(main(["format", "--library", "--quiet", self.image]), 1)
@@ -148,6 +156,8 @@ class Statuses(WithStub):
 
     def test_of_an_answer(self) -> None:
         self.fails(e.ConnectionFailed, "UDFBURN_DEVICE", answer="2")
+        self.fails(e.ConnectionFailed, "UDFBURN_MISUSE: another thread", answer="8")
+        self.fails(e.ConnectionFailed, "UDFBURN_NO_SPACE: the disk of the image is full", answer="11")
         self.fails(e.ConnectionFailed, "UDFBURN_MEMORY", answer="1")
 
     def test_no_answer(self) -> None:

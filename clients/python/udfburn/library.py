@@ -135,8 +135,13 @@ def told(refused: Refused) -> Exception:
     if refused.name == "UDFBURN_VOLUME":
         return Damaged(DAMAGE)
     why = {
-        "UDFBURN_DEVICE": "the image is missing or not a regular file, another program has it, or its disk failed",
+        "UDFBURN_BUSY": "another program has the image",
+        "UDFBURN_DEVICE": "the image is not a regular file, its folder is missing, or its disk failed",
         "UDFBURN_MEMORY": "there is not enough memory",
+        "UDFBURN_MISUSE": "another thread is in a call on the volume, or a parent process opened it",
+        "UDFBURN_NO_IMAGE": "there is no such image",
+        "UDFBURN_NO_SPACE": "the disk of the image is full",
+        "UDFBURN_READ_ONLY": "the image may not be written",
     }
     return Lost(f"{refused.name}: {why.get(refused.name, 'the library refused')}")
 

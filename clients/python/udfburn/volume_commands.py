@@ -143,7 +143,7 @@ def why_not_formatted(image: str, line: str) -> str:
             f"{shown(image)}: holds something already, and stays as it is. Use another name; or, if it was left by a format that was cut"
             " short, remove it, or repeat that format with its own --label, --capacity and --moment"
         )
-    if "64 Device" in line or line == "UDFBURN_DEVICE":
+    if "64 Device" in line or line in ("UDFBURN_BUSY", "UDFBURN_DEVICE", "UDFBURN_NO_SPACE", "UDFBURN_READ_ONLY"):
         return f"{shown(image)}: cannot be made or written: its folder is missing, its disk is full or fails, or another program has it ({line})"
     return f"{shown(image)}: {line}"
 

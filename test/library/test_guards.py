@@ -1,0 +1,77 @@
+"""Handles that are used wrongly, and what is told of calls that fail."""
+from __future__ import annotations
+
+import os
+import subprocess
+
+from faults.machine import lacks
+from library.building import CLANG, GCC, GPP, THREADS, build_library, built
+from library.running import DRIVES, VALGRIND, Running
+
+# Of threads on one handle, and of children.
+RUNS = "20"
+RUNS_WATCHED = "3"
+
+
+class Guards(Running):
+    def holds(self, source: str, *words: str) -> None:
+        room = self.words(source)[0]
+        said = self.ran(words[0], room, *words[1:])
+        self.assertRegex(said, r"^%s: [1-9]\d+ expected, 0 failed\n$" % source[:-2])
+
+    def test_plain(self) -> None:
+        for compiler in (GCC, GPP):
+            with self.subTest(str(compiler)):
+                self.holds("guards.c", self.compiled("guards.c", compiler, archive=DRIVES), RUNS)
+
+    def test_watched(self) -> None:
+        self.holds("guards.c", self.compiled("guards.c", archive=DRIVES, watched=True), RUNS_WATCHED)
+
+    def test_under_thread_sanitizer(self) -> None:
+        """No access of two threads at once, of those in C. The core has no threads."""
+        where = self.folder / "threads"
+        build_library(os.environ["LIBRARY_CORE"], where, THREADS)
+        self.holds("guards.c", self.compiled("guards.c", archive=DRIVES, library=where, flags=THREADS), RUNS_WATCHED, "threads")
+
+
+class Reasons(Running):
+    def small(self) -> str:
+        """A file system with room for some images alone, or nothing where this machine gives none."""
+        where = self.folder / "small"
+        where.mkdir()
+        made = subprocess.run(["mount", "-t", "tmpfs", "-o", "size=2m", "none", str(where)], capture_output=True, text=True)
+        if made.returncode:
+            lacks("mount: " + made.stderr.strip())
+        self.addCleanup(subprocess.check_call, ["umount", str(where)])
+        return str(where)
+
+    def tells(self, *words: str) -> None:
+        self.folder.chmod(0o755)
+        room = self.words("reasons.c")[0]
+        said = self.ran(*words, room, self.small())
+        self.assertRegex(said, r"^reasons: [1-9]\d+ expected, 0 failed\n$")
+
+    def test_by_gcc(self) -> None:
+        self.tells(self.compiled("reasons.c", archive=DRIVES))
+
+    def test_by_clang(self) -> None:
+        self.tells(self.compiled("reasons.c", CLANG, "libudfburn.so"))
+
+    def test_watched(self) -> None:
+        self.tells(self.compiled("reasons.c", archive=DRIVES, watched=True))
+
+    def test_under_valgrind(self) -> None:
+        self.tells(*VALGRIND, "--trace-children=no", self.compiled("reasons.c", archive=DRIVES))
+
+
+class Names(Running):
+    def test_of_each_status(self) -> None:
+        """Each status of the header has its name."""
+        source = self.folder / "names.c"
+        header = (built().plain / "udfburn.h").read_text()
+        names = [line.split()[0] for line in header.splitlines() if line.startswith("    UDFBURN_") and " = " in line]
+        self.assertGreater(len(names), 25)
+        lines = ["#include \"udfburn.h\"", "#include <stdio.h>", "int main(void) {"]
+        lines += ["    puts(udfburn_error_name(%s));" % name for name in names]
+        source.write_text("\n".join([*lines, "    return 0;", "}"]))
+        self.assertEqual(self.ran(self.compiled(str(source))).split(), names)
