@@ -3,13 +3,15 @@
 # C library.
 #
 # usage: ./install.sh PREFIX
+#        ./install.sh --library PREFIX
 #        ./install.sh --uninstall PREFIX
 #
 # PREFIX is an absolute path of plain letters, such as /usr/local, and so are LIBDIR and PYTHON_DIR. DESTDIR is put before each path that
 # is written, and is in none of the files. UDFBURN and UDFBURND name the programs, else those that `rt` built in crates/ are taken.
 # PYTHON_DIR is the folder of the Python package, else PREFIX/lib/udfburn. LIBRARY names the folder in which packaging/library/build.sh
-# built the C library, which goes to LIBDIR, else PREFIX/lib; without it no library is installed. What was installed is listed in
-# PREFIX/share/doc/udfburn/installed, which is what --uninstall removes, and prints. Images are never touched.
+# built the C library, which goes to LIBDIR, else PREFIX/lib; without it no library is installed. With --library it is installed alone, and
+# what else is there stays. What was installed is listed in PREFIX/share/doc/udfburn/installed, which is what --uninstall removes, and
+# prints. Images are never touched.
 set -eu
 # Folders that it makes are everybody's to read, as the files are.
 umask 022
@@ -18,7 +20,7 @@ from=$PWD
 cd "$(dirname "$0")"
 
 usage() {
-    echo 'usage: install.sh [--uninstall] PREFIX' >&2
+    echo 'usage: install.sh [--library | --uninstall] PREFIX' >&2
     exit 2
 }
 
@@ -40,10 +42,11 @@ plain() {
 }
 
 uninstall=
-if [ "${1:-}" = --uninstall ]; then
-    uninstall=1
-    shift
-fi
+alone=
+case ${1:-} in
+    --uninstall) uninstall=1 && shift ;;
+    --library) alone=1 && shift ;;
+esac
 [ $# -eq 1 ] || usage
 plain "$1" || usage
 prefix=${1%/}
@@ -76,10 +79,11 @@ fi
 
 udfburn=$(absolute "${UDFBURN:-$PWD/crates/udfburn/out/udfburn}")
 udfburnd=$(absolute "${UDFBURND:-$PWD/crates/udfburnd/out/udfburnd}")
-for program in "$udfburn" "$udfburnd"; do
-    [ -f "$program" ] && [ -x "$program" ] || { echo "install.sh: $program is missing: build it with rt, or name it with UDFBURN and UDFBURND" >&2; exit 1; }
-done
 library=$(absolute "${LIBRARY:-}")
+[ -z "$alone" ] || [ -n "$library" ] || { echo 'install.sh: LIBRARY names the folder of the library' >&2; exit 2; }
+for program in "$udfburn" "$udfburnd"; do
+    [ -n "$alone" ] || { [ -f "$program" ] && [ -x "$program" ]; } || { echo "install.sh: $program is missing: build it with rt, or name it with UDFBURN and UDFBURND" >&2; exit 1; }
+done
 for file in libudfburn.so.0 libudfburn.a libudfburn_drive.a udfburn.h udfburn.pc; do
     [ -z "$library" ] || [ -f "$library/$file" ] ||
         { echo "install.sh: $library/$file is not there: build it by packaging/library/build.sh" >&2; exit 1; }
@@ -96,7 +100,7 @@ put() {
     echo "$3" >> "$list.new"
 }
 
-# put_library: the C library, its header and what pkg-config reads.
+# put_library: the C library, its header, what pkg-config reads, and its page, which each of its functions leads to.
 put_library() {
     put 644 "$library/libudfburn.so.0" "$libdir/libudfburn.so.0"
     rm -f "$root$libdir/libudfburn.so"
@@ -109,6 +113,12 @@ put_library() {
     for example in examples/*.c; do
         [ ! -f "$example" ] || put 644 "$example" "$documents/$example"
     done
+    put 644 man/udfburn.3 "$prefix/share/man/man3/udfburn.3"
+    sed -n 's/^\.Fn \(udfburn_[a-z_]*\) .*/\1/p' man/udfburn.3 | sort -u > "$list.calls"
+    while IFS= read -r call; do
+        echo '.so man3/udfburn.3' | put 644 - "$prefix/share/man/man3/$call.3"
+    done < "$list.calls"
+    rm -f "$list.calls"
 }
 
 # put_starter NAME PACKAGE: a program that runs a package of ours. The current folder is kept out of Python's path, since a file there may
@@ -127,40 +137,45 @@ sys.exit(main())' "\$@"
 END
 }
 
-put 755 "$udfburn" "$prefix/bin/udfburn"
-put 755 "$udfburnd" "$prefix/bin/udfburnd"
-for page in man/*.[1-9]; do
-    name=$(basename "$page")
-    # The pages of the client, of the archive and of the library go with these.
-    case $name in
-        udfburn-client.1 | udfburn-archive.1) [ -d clients/python/udfburn ] || continue ;;
-        udfburn.3) [ -n "$library" ] || continue ;;
-    esac
-    put 644 "$page" "$prefix/share/man/man${page##*.}/$name"
-done
-sed "s|@bindir@|$prefix/bin|g" packaging/systemd/udfburnd@.service | put 644 - "$prefix/lib/systemd/system/udfburnd@.service"
-put 644 packaging/systemd/udfburn.conf "$prefix/lib/sysusers.d/udfburn.conf"
-# Each document keeps its folder, so that links between documents lead to them.
-for page in README.md CHANGELOG.md CONTRIBUTING.md SECURITY.md LICENSE-MIT LICENSE-APACHE docs/*.md docs/*.svg clients/python/README.md; do
-    [ ! -f "$page" ] || put 644 "$page" "$documents/$page"
-done
+# put_programs: all but the library.
+put_programs() {
+    put 755 "$udfburn" "$prefix/bin/udfburn"
+    put 755 "$udfburnd" "$prefix/bin/udfburnd"
+    for page in man/*.[1-9]; do
+        name=$(basename "$page")
+        # The pages of the client, of the archive and of the library go with these.
+        case $name in
+            udfburn-client.1 | udfburn-archive.1) [ -d clients/python/udfburn ] || continue ;;
+            udfburn.3) continue ;;
+        esac
+        put 644 "$page" "$prefix/share/man/man${page##*.}/$name"
+    done
+    sed "s|@bindir@|$prefix/bin|g" packaging/systemd/udfburnd@.service | put 644 - "$prefix/lib/systemd/system/udfburnd@.service"
+    put 644 packaging/systemd/udfburn.conf "$prefix/lib/sysusers.d/udfburn.conf"
+    # Each document keeps its folder, so that links between documents lead to them.
+    for page in README.md CHANGELOG.md CONTRIBUTING.md SECURITY.md LICENSE-MIT LICENSE-APACHE docs/*.md docs/*.svg clients/python/README.md; do
+        [ ! -f "$page" ] || put 644 "$page" "$documents/$page"
+    done
 
+    if [ -d clients/python/udfburn ]; then
+        (cd clients/python && find udfburn -type f -name '*.py' -o -type f -name py.typed -o -type f -name '*.html' | LC_ALL=C sort) > "$list.python"
+        while IFS= read -r file; do
+            put 644 "clients/python/$file" "$python_dir/$file"
+        done < "$list.python"
+        rm -f "$list.python"
+        put_starter udfburn-client udfburn
+        put_starter udfburn-archive udfburn.archive
+    fi
+}
+
+[ -n "$alone" ] || put_programs
 [ -z "$library" ] || put_library
 
-if [ -d clients/python/udfburn ]; then
-    (cd clients/python && find udfburn -type f -name '*.py' -o -type f -name py.typed -o -type f -name '*.html' | LC_ALL=C sort) > "$list.python"
-    while IFS= read -r file; do
-        put 644 "clients/python/$file" "$python_dir/$file"
-    done < "$list.python"
-    rm -f "$list.python"
-    put_starter udfburn-client udfburn
-    put_starter udfburn-archive udfburn.archive
-fi
-
-# What an earlier version had and this one has not, goes.
+# What an earlier version had and this one has not, goes. Beside the library alone all else stays.
 if [ -f "$list" ]; then
     while IFS= read -r path; do
-        grep -Fqx -e "$path" "$list.new" || rm -f "$root$path"
+        grep -Fqx -e "$path" "$list.new" && continue
+        if [ -n "$alone" ]; then echo "$path" >> "$list.new"; else rm -f "$root$path"; fi
     done < "$list"
 fi
 mv "$list.new" "$list"

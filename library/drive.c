@@ -34,10 +34,11 @@ int32_t udfburn_format_drive(const struct udfburn_drive *drive, const char *labe
     return udfburn_leave(&call, is_whole(drive) && label ? format(drive, label, moment) : UDFBURN_ARGUMENT);
 }
 
-static int32_t open_drive(const struct udfburn_drive *drive, udfburn **out) {
+static int32_t open_drive(const struct udfburn_drive *drive, uint32_t flags, udfburn **out) {
     struct udfburn_port *port;
     int32_t status = udfburn_make_port(drive, &port);
     if (status != UDFBURN_OK) return status;
+    port->verifies = (flags & UDFBURN_VERIFY) != 0;
     udfburn *handle = udfburn_new_handle();
     status = handle ? check_length(port) : UDFBURN_MEMORY;
     if (status == UDFBURN_OK) status = udfburn_open_number(handle, port->number, out);
@@ -51,9 +52,14 @@ static int32_t open_drive(const struct udfburn_drive *drive, udfburn **out) {
     return status;
 }
 
-int32_t udfburn_open_drive(const struct udfburn_drive *drive, udfburn **out) {
+int32_t udfburn_open_drive_with(const struct udfburn_drive *drive, uint32_t flags, udfburn **out) {
     struct udfburn_call call;
     if (out) *out = NULL;
     udfburn_enter_without(&call, NULL);
-    return udfburn_leave(&call, is_whole(drive) && out ? open_drive(drive, out) : UDFBURN_ARGUMENT);
+    int is_valid = is_whole(drive) && out && !(flags & ~(uint32_t)UDFBURN_VERIFY);
+    return udfburn_leave(&call, is_valid ? open_drive(drive, flags, out) : UDFBURN_ARGUMENT);
+}
+
+int32_t udfburn_open_drive(const struct udfburn_drive *drive, udfburn **out) {
+    return udfburn_open_drive_with(drive, 0, out);
 }

@@ -59,13 +59,17 @@ static int none(const struct udfburn_place *place, const char *call, int error) 
 }
 
 /* It is looked at first, since to open a pipe may wait, and a device may act. */
-int udfburn_open_regular(const struct udfburn_place *place) {
+static int open_for(const struct udfburn_place *place, int access) {
     struct stat found;
     if (fstatat(place->folder, place->name, &found, AT_SYMLINK_NOFOLLOW)) return none(place, "stat", errno);
     if (!S_ISREG(found.st_mode)) return none(place, "stat", S_ISLNK(found.st_mode) ? ELOOP : S_ISDIR(found.st_mode) ? EISDIR : EINVAL);
-    int fd = open_again(place->folder, place->name, O_RDWR | O_NOFOLLOW | O_NONBLOCK | O_NOCTTY, 0);
+    int fd = open_again(place->folder, place->name, access | O_NOFOLLOW | O_NONBLOCK | O_NOCTTY, 0);
     return fd < 0 ? none(place, "open", errno) : fd;
 }
+
+int udfburn_open_regular(const struct udfburn_place *place) { return open_for(place, O_RDWR); }
+
+int udfburn_open_to_read(const struct udfburn_place *place) { return open_for(place, O_RDONLY); }
 
 int udfburn_open_or_make(const struct udfburn_place *place) {
     int fd = open_again(place->folder, place->name, O_RDWR | O_CREAT | O_EXCL, 0666);
@@ -77,10 +81,15 @@ int udfburn_open_or_make(const struct udfburn_place *place) {
 
 static struct udfburn_file *files;
 
+int udfburn_duplicate(int fd) {
+    int other = fcntl(fd, F_DUPFD_CLOEXEC, STDERR_FILENO + 1);
+    if (other < 0) udfburn_note("fcntl", errno);
+    return other;
+}
+
 int32_t udfburn_move_up(int32_t fd) {
     if (fd > STDERR_FILENO) return fd;
-    int32_t moved = fcntl(fd, F_DUPFD_CLOEXEC, STDERR_FILENO + 1);
-    if (moved < 0) udfburn_note("fcntl", errno);
+    int32_t moved = udfburn_duplicate(fd);
     close(fd);
     return moved;
 }

@@ -76,6 +76,10 @@ struct udfburn {
     unsigned forks;             /* how often this process was forked when it was opened */
     pid_t process;
     int32_t in_memory;
+    int32_t is_read_only;
+    int32_t number;             /* of the file or the drive, or -1 */
+    int32_t is_identified;
+    uint64_t identity;          /* the moment of the format, once it is known */
     struct udfburn_why why;     /* why the last call failed that did; its path is that of the file */
     void *core;
     struct udfburn_file file;
@@ -101,6 +105,11 @@ int32_t udfburn_answer_in(udfburn *handle, const void *bytes, size_t count);
 size_t udfburn_answered_in(const udfburn *handle);
 size_t udfburn_take_in(udfburn *handle, void *into, size_t room);
 void udfburn_close_in(udfburn *handle);
+int32_t udfburn_look_at(udfburn *handle, const char *path, struct udfburn_node *node);
+int32_t udfburn_list_in(udfburn *handle, const char *path, struct udfburn_name **names, size_t *count);
+
+/* Has the identity of a handle known. */
+int32_t udfburn_identify(udfburn *handle);
 
 /* UDFBURN_DEVICE, from then on, where the file lost its name, or the descriptor is not of this file any more. */
 int32_t udfburn_check_file(udfburn *handle);
@@ -125,12 +134,18 @@ int32_t udfburn_sync_folder(const struct udfburn_place *place);
 /* A descriptor of the regular file, or -1. */
 int udfburn_open_regular(const struct udfburn_place *place);
 
+/* The same, to read it alone. */
+int udfburn_open_to_read(const struct udfburn_place *place);
+
 /* The same, of a file that is made if the name is free. */
 int udfburn_open_or_make(const struct udfburn_place *place);
 
 /* Moves a file that has the number of a standard descriptor to a higher number, since what a program prints would be written to it.
  * The old number is closed. Returns the file's number, or -1 if it could not be moved. */
 int32_t udfburn_move_up(int32_t fd);
+
+/* One more descriptor of an open file, which has no number of a standard one; or -1. */
+int udfburn_duplicate(int fd);
 
 /* Takes a file up that has at most so many whole blocks. UDFBURN_VOLUME: it has more. UDFBURN_DEVICE: no image can be had by
  * this descriptor, or this process works on the file already, which is noted. A lock does not show that, since duplicates of a descriptor
@@ -154,6 +169,7 @@ struct udfburn_port {
     struct udfburn_drive drive;
     uint32_t capacity;
     int32_t number;             /* by which the core calls it */
+    int32_t verifies;           /* what is written is read back */
     struct udfburn_port *next;
 };
 
@@ -161,6 +177,9 @@ struct udfburn_port {
  * fails. */
 int32_t udfburn_make_port(const struct udfburn_drive *drive, struct udfburn_port **made);
 void udfburn_release_port(void *port);
+
+/* Reads blocks of a file or a drive by its number. Not 0 if it fails. */
+int32_t udfburn_read_exact(int32_t number, uint32_t address, uint32_t count, void *blocks);
 
 /* The address after the last block of a drive: not 0 if it fails, or is beyond the capacity. */
 int udfburn_next_of(const struct udfburn_port *port, uint32_t *address);

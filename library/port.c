@@ -8,6 +8,7 @@
 #include <errno.h>
 #include <fcntl.h>
 #include <stdlib.h>
+#include <string.h>
 #include <sys/file.h>
 #include <unistd.h>
 
@@ -127,6 +128,28 @@ ssize_t udfburn_port_pread(int number, void *into, size_t count, off_t offset) {
     return outcome != 0 ? failed("drive.read", outcome) : (ssize_t)count;
 }
 
+int32_t udfburn_read_exact(int32_t number, uint32_t address, uint32_t count, void *blocks) {
+    size_t done = 0, length = (size_t)count * UDFBURN_BLOCK;
+    off_t offset = (off_t)address * UDFBURN_BLOCK;
+    while (done < length) {
+        ssize_t part = udfburn_port_pread(number, (char *)blocks + done, length - done, offset + (off_t)done);
+        if (part > 0) done += (size_t)part;
+        else if (part == 0 || errno != EINTR) return EIO;
+    }
+    return 0;
+}
+
+/* Whether a drive gives what was just written there. */
+static int is_there(const struct udfburn_port *port, uint32_t address, uint32_t count, const uint8_t *written) {
+    uint8_t found[UDFBURN_BLOCK];
+    for (uint32_t i = 0; i < count; i++) {
+        int32_t outcome = port->drive.read(port->drive.context, address + i, 1, found);
+        if (outcome != 0) return failed("drive.read", outcome);
+        if (memcmp(found, written + (size_t)i * UDFBURN_BLOCK, sizeof found)) return failed("drive.verify", EIO);
+    }
+    return 0;
+}
+
 ssize_t udfburn_port_pwrite(int number, const void *from, size_t count, off_t offset);
 ssize_t udfburn_port_pwrite(int number, const void *from, size_t count, off_t offset) {
     const struct udfburn_port *port = port_of(number);
@@ -137,7 +160,8 @@ ssize_t udfburn_port_pwrite(int number, const void *from, size_t count, off_t of
     /* No address is written twice, whatever became of the drive meanwhile. */
     if (address != next || blocks > port->capacity - next) return failed("drive.next", ERANGE);
     outcome = port->drive.write(port->drive.context, address, blocks, from);
-    return outcome != 0 ? failed("drive.write", outcome) : (ssize_t)count;
+    if (outcome != 0) return failed("drive.write", outcome);
+    return port->verifies && is_there(port, address, blocks, from) ? -1 : (ssize_t)count;
 }
 
 /* What was written is durable already. */

@@ -231,8 +231,7 @@ static int32_t ask(udfburn *handle, enum kind kind, const char *path, enum code 
     return answer->code == expected ? UDFBURN_OK : refusal(answer);
 }
 
-/* What a path names. */
-static int32_t look_at(udfburn *handle, const char *path, struct udfburn_node *node) {
+int32_t udfburn_look_at(udfburn *handle, const char *path, struct udfburn_node *node) {
     struct answer answer;
     int32_t status = ask(handle, STAT, path, NODE, &answer);
     if (status == UDFBURN_OK && answer.length != NODE_BYTES) {
@@ -253,7 +252,7 @@ int32_t udfburn_stat(udfburn *handle, const char *path, struct udfburn_node *nod
     if (status != UDFBURN_OK) {
         return status;
     }
-    return udfburn_leave(&call, path && node ? look_at(handle, path, node) : UDFBURN_ARGUMENT);
+    return udfburn_leave(&call, path && node ? udfburn_look_at(handle, path, node) : UDFBURN_ARGUMENT);
 }
 
 /* The bytes of the file in an answer to Get. */
@@ -344,7 +343,7 @@ static int32_t names_of(const struct answer *answer, struct udfburn_name **names
     return UDFBURN_OK;
 }
 
-static int32_t list(udfburn *handle, const char *path, struct udfburn_name **names, size_t *count) {
+int32_t udfburn_list_in(udfburn *handle, const char *path, struct udfburn_name **names, size_t *count) {
     struct answer answer;
     int32_t status = ask(handle, LIST, path, NAMES, &answer);
     if (status == UDFBURN_OK) {
@@ -366,7 +365,7 @@ int32_t udfburn_list(udfburn *handle, const char *path, struct udfburn_name **na
     if (status != UDFBURN_OK) {
         return status;
     }
-    return udfburn_leave(&call, path && names && count ? list(handle, path, names, count) : UDFBURN_ARGUMENT);
+    return udfburn_leave(&call, path && names && count ? udfburn_list_in(handle, path, names, count) : UDFBURN_ARGUMENT);
 }
 
 void udfburn_free(void *memory) {
@@ -396,14 +395,14 @@ static int32_t confirm(udfburn *handle, const struct message *message) {
     struct udfburn_node node;
     const char *there = message->to ? message->to : message->path;
     const char *gone = message->kind == RENAME || message->kind == REMOVE ? message->path : NULL;
-    int32_t status = gone ? look_at(handle, gone, &node) : UDFBURN_NOT_FOUND;
+    int32_t status = gone ? udfburn_look_at(handle, gone, &node) : UDFBURN_NOT_FOUND;
     if (status != UDFBURN_NOT_FOUND) {
         return status == UDFBURN_OK ? UDFBURN_USED : status;
     }
     if (message->kind == REMOVE) {
         return UDFBURN_OK;
     }
-    status = look_at(handle, there, &node);
+    status = udfburn_look_at(handle, there, &node);
     if (status != UDFBURN_OK) {
         return status == UDFBURN_NOT_FOUND ? UDFBURN_USED : status;
     }
@@ -467,6 +466,9 @@ static int32_t run_in(udfburn *handle, struct udfburn_request *request, struct m
     struct answer answer;
     if (request->moment >= UDFBURN_MOMENT_LIMIT) {
         return UDFBURN_ARGUMENT;
+    }
+    if (handle->is_read_only) {
+        return UDFBURN_READ_ONLY;
     }
     int32_t status = ready(handle);
     if (status == UDFBURN_OK) {
@@ -546,6 +548,7 @@ const char *udfburn_error_name(int32_t status) {
     STATUS(UDFBURN_NO_IMAGE);
     STATUS(UDFBURN_NO_SPACE);
     STATUS(UDFBURN_READ_ONLY);
+    STATUS(UDFBURN_OLDER);
     STATUS(UDFBURN_NO_PARENT);
     STATUS(UDFBURN_NOT_FOUND);
     STATUS(UDFBURN_EXISTS);

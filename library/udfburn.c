@@ -69,7 +69,7 @@ udfburn *udfburn_new_handle(void) {
     udfburn *handle = calloc(1, sizeof *handle);
     if (!handle) return NULL;
     udfburn_own(handle);
-    handle->file.fd = -1;
+    handle->file.fd = handle->number = -1;
     if (udfburn_core_new(&handle->core) == UDFBURN_OK) return handle;
     free(handle);
     return NULL;
@@ -82,6 +82,7 @@ static int32_t give(udfburn *handle, int32_t status, udfburn **out) {
 }
 
 int32_t udfburn_open_number(udfburn *handle, int32_t number, udfburn **out) {
+    handle->number = number;
     return give(handle, udfburn_core_open_fd(handle->core, number), out);
 }
 
@@ -131,7 +132,8 @@ static int32_t open_memory(const char *label, uint64_t moment, uint32_t capacity
     if (status != UDFBURN_OK) return status;
     udfburn *handle = udfburn_new_handle();
     if (!handle) return UDFBURN_MEMORY;
-    handle->in_memory = 1;
+    handle->in_memory = handle->is_identified = 1;
+    handle->identity = moment;
     status = udfburn_core_open_memory(handle->core, (const uint8_t *)label, strlen(label), moment, capacity);
     /* A drive in memory fails where there is no more of it. */
     return give(handle, status == UDFBURN_DEVICE ? UDFBURN_MEMORY : status, out);

@@ -54,16 +54,30 @@
 extern "C" {
 #endif
 
+/* The version of this header: 10,000 times the first number, 100 times the second, and the third. */
+#define UDFBURN_VERSION_NUMBER 300
+
 /* The limits of a volume. */
 #define UDFBURN_BLOCK 2048                            /* bytes of a block */
 #define UDFBURN_LEAST_CAPACITY 512                    /* blocks of a volume */
 #define UDFBURN_GREATEST_CAPACITY 450000              /* blocks of a volume */
 #define UDFBURN_FILE_LIMIT 1048576                    /* bytes of a file */
+#define UDFBURN_NODES 4096                            /* files and directories of a volume, the root included */
+#define UDFBURN_NAMES 512                             /* names of a directory */
+#define UDFBURN_DEPTH 16                              /* names of a path */
+#define UDFBURN_NAME_LIMIT 508                        /* bytes of a name, as UTF-8 */
+#define UDFBURN_PATH_LIMIT 8144                       /* bytes of a path on the volume, as UTF-8 */
+#define UDFBURN_LABEL_LIMIT 60                        /* bytes of a label, as UTF-8 */
+#define UDFBURN_REPLIES 4                             /* replies that are kept for each client */
+#define UDFBURN_CLIENTS 64                            /* clients that a volume takes, for ever */
+#define UDFBURN_CLIENTS_LINUX 38                      /* clients with which Linux mounts it: with more it never does again */
 #define UDFBURN_MOMENT_LIMIT 4102444800000000u        /* the first moment that a volume cannot record */
 
 /* ---- Statuses ------------------------------------------------------------------------------------------------------ */
 
-enum {
+/* All are int32_t, which the calls return: the first one is no status, and makes generators of bindings see a signed type. */
+enum udfburn_code {
+    UDFBURN_SIGNED = -1,
     UDFBURN_OK = 0,
 
     /* The call could not do its work. After UDFBURN_MEMORY, UDFBURN_DEVICE, UDFBURN_NO_SPACE and UDFBURN_READ_ONLY a request
@@ -79,7 +93,9 @@ enum {
     UDFBURN_BUSY = 9,           /* another handle or another process has the file or the drive */
     UDFBURN_NO_IMAGE = 10,      /* there is no file of this name in its folder */
     UDFBURN_NO_SPACE = 11,      /* the disk, its quota or RLIMIT_FSIZE has no room for the file; else as UDFBURN_DEVICE */
-    UDFBURN_READ_ONLY = 12,     /* the file may not be written, or its file system; else as UDFBURN_DEVICE */
+    UDFBURN_READ_ONLY = 12,     /* the file may not be written, or its file system; else as UDFBURN_DEVICE. Or the handle
+                                 * only reads: nothing was done */
+    UDFBURN_OLDER = 13,         /* the volume has fewer commits than udfburn_expect() was told */
 
     /* The request is committed, but the tree stays as it was. A repeat gets the same status. Queries return
      * UDFBURN_NOT_FOUND, UDFBURN_IS_DIRECTORY and UDFBURN_NOT_DIRECTORY too, and commit nothing. */
@@ -164,6 +180,18 @@ int32_t udfburn_open(const char *path, udfburn **out);
  * open. */
 int32_t udfburn_open_fd(int32_t fd, udfburn **out);
 
+/* Open the volume in the file at `path` as it was after a commit, to read it: its number, or UDFBURN_NEWEST. Nothing is written
+ * and nothing is locked, so another process may write to it meanwhile: the handle shows what it was at the call. Requests on
+ * it return UDFBURN_READ_ONLY. The newest commit that is there may not be acknowledged yet.
+ *   UDFBURN_NONE: it has no such commit. Other statuses as udfburn_open(), but for UDFBURN_BUSY. */
+#define UDFBURN_NEWEST 0xFFFFFFFFu
+int32_t udfburn_open_read(const char *path, uint32_t commit, udfburn **out);
+
+/* Say that commits up to this number were acknowledged: the one that your last request returned. UDFBURN_OLDER: the volume has
+ * fewer, as an older copy, or one that was cut short or damaged at its end. Every request, and every query by a path, returns
+ * it on this handle from then on. Keep the file, and look for the right one. UDFBURN_DEVICE, UDFBURN_MEMORY, UDFBURN_VOLUME. */
+int32_t udfburn_expect(udfburn *handle, uint32_t commit);
+
 /* A new volume in memory. You write its blocks to the medium yourself: see udfburn_next_block(). All its blocks stay in
  * memory until udfburn_close(). To go on later with a volume that is on a medium, open it as a drive of your own.
  *   Statuses as udfburn_format(). */
@@ -246,6 +274,19 @@ struct udfburn_name {
  * udfburn_free(). On failure `*names` is NULL and `*count` is 0. */
 int32_t udfburn_list(udfburn *handle, const char *path, struct udfburn_name **names, size_t *count);
 
+/* One name of a directory, and what it names. */
+struct udfburn_entry {
+    const char *name;           /* UTF-8, ends with a zero byte */
+    uint64_t size;              /* bytes of a file, or names of a directory */
+    uint64_t moment;            /* of its last change */
+    int32_t kind;               /* UDFBURN_FILE or UDFBURN_DIRECTORY */
+    int32_t reserved;           /* 0 */
+};
+
+/* As udfburn_list(), with what udfburn_stat() gives of each name. The structure may grow: `stride` is the sizeof of yours, and
+ * so far each lies from the one before. Free `*entries` with one udfburn_free(). */
+int32_t udfburn_entries(udfburn *handle, const char *path, size_t stride, struct udfburn_entry **entries, size_t *count);
+
 /* Free a result. NULL is allowed. */
 void udfburn_free(void *memory);
 
@@ -261,6 +302,27 @@ struct udfburn_status {
     char label[64];             /* UTF-8, ends with a zero byte */
 };
 int32_t udfburn_status(udfburn *handle, struct udfburn_status *status);
+
+/* The same with what later versions add. Set `size` to the sizeof of yours. */
+struct udfburn_volume {
+    size_t size;
+    uint64_t identity;          /* the moment of the format, by which volumes differ; UINT64_MAX where it cannot be read any more */
+    uint64_t moment;            /* of the newest commit, or of the format */
+    uint32_t capacity;          /* in blocks */
+    uint32_t next;              /* the block that is written next, at most the capacity */
+    uint32_t unused;            /* blocks between the newest commit and `next`: of a commit that was interrupted or damaged */
+    uint32_t commits;
+    uint32_t files;
+    uint32_t directories;       /* the root included */
+    uint32_t clients;
+    char label[64];             /* UTF-8, ends with a zero byte */
+};
+int32_t udfburn_describe(udfburn *handle, struct udfburn_volume *volume);
+
+/* Whether a file of `size` bytes can be created at `path` now, or replaced where it is there. UDFBURN_OK: there is room, also
+ * for a new client. UDFBURN_FULL: there may be none. Other statuses are those that the request would return, such as
+ * UDFBURN_NO_PARENT and UDFBURN_DIRECTORY_FULL. UDFBURN_ARGUMENT: more than UDFBURN_FILE_LIMIT bytes. Nothing is written. */
+int32_t udfburn_room(udfburn *handle, const char *path, uint64_t size);
 
 /* A commit of a volume. */
 struct udfburn_commit {
@@ -370,6 +432,12 @@ int32_t udfburn_format_drive(const struct udfburn_drive *drive, const char *labe
  * with the same context and functions can be open once: the second open returns UDFBURN_BUSY. Statuses as
  * udfburn_open(). */
 int32_t udfburn_open_drive(const struct udfburn_drive *drive, udfburn **out);
+
+/* The same with flags. UDFBURN_VERIFY: what was written is read back and compared before the next write, and before the
+ * request is acknowledged. If it differs, the write failed: the request returns UDFBURN_DEVICE, as described above. It costs
+ * a read of every block. Use it where `read` gives what the medium has. UDFBURN_ARGUMENT: also an unknown flag. */
+#define UDFBURN_VERIFY 1u
+int32_t udfburn_open_drive_with(const struct udfburn_drive *drive, uint32_t flags, udfburn **out);
 
 /* Try a blank drive of at least UDFBURN_LEAST_CAPACITY blocks: write some blocks, and compare what `next` and `read` give.
  * The drive is not blank afterwards. It cannot try durability, or what a failed write leaves.

@@ -262,6 +262,7 @@ library_files() {
     for file in libudfburn.so.0 libudfburn.a libudfburn_drive.a pkgconfig/udfburn.pc; do echo "644 $2/$file"; done
     echo "644 $1/include/udfburn.h"
     echo "644 $1/share/man/man3/udfburn.3"
+    sed -n 's/^[a-z].*[ *]\(udfburn_[a-z_]*\)(.*/\1/p' library/udfburn.h | sed "s|.*|644 $1/share/man/man3/&.3|"
     for example in examples/*.c; do echo "644 $1/share/doc/udfburn/$example"; done
 }
 
@@ -285,6 +286,19 @@ if [ -n "$library" ]; then
     holds 'the linker finds the library' [ "$(readlink "$room/with/usr/lib/machine/libudfburn.so")" = libudfburn.so.0 ]
     DESTDIR=$room/with ./install.sh --uninstall /usr > "$room/listed" 2> "$room/errors"
     holds 'nothing is left of the library' [ -z "$(find "$room/with" ! -type d)" ]
+    holds 'it installs the library alone' env DESTDIR="$room/with" LIBRARY="$library" UDFBURN=/nowhere ./install.sh --library /usr/local
+    { library_files usr/local usr/local/lib; echo '644 usr/local/share/doc/udfburn/installed'; } | LC_ALL=C sort -k 2 > "$room/wanted"
+    holds 'it has these files of the library' same "$room/wanted" files "$room/with"
+    holds 'it installs the programs beside it' env DESTDIR="$room/with" LIBRARY="$library" ./install.sh /usr/local
+    holds 'it installs the library alone again' env DESTDIR="$room/with" LIBRARY="$library" ./install.sh --library /usr/local
+    { expected usr/local; library_files usr/local usr/local/lib; } | LC_ALL=C sort -k 2 > "$room/wanted"
+    holds 'and what is beside it stays' same "$room/wanted" files "$room/with"
+    DESTDIR=$room/with ./install.sh --uninstall /usr/local > "$room/listed" 2> "$room/errors"
+    holds 'nothing is left of both' [ -z "$(find "$room/with" ! -type d)" ]
+    status=0
+    LIBRARY='' ./install.sh --library "$room/none" > "$room/told" 2>&1 || status=$?
+    holds 'a library alone is named' [ "$status" -eq 2 ]
+    holds 'and nothing is installed without it' [ ! -e "$room/none" ]
     printf '#include <stdio.h>\n#include <udfburn.h>\nint main(void) { return puts(udfburn_version()) < 0; }\n' > "$room/versioned.c"
     sed -n 's/^__version__ = "\(.*\)"$/\1/p' clients/python/udfburn/__init__.py > "$room/version"
     holds 'it installs into a prefix with the library' env LIBRARY="$library" ./install.sh "$room/embedded"
@@ -312,6 +326,9 @@ if [ -n "$library" ] && command -v dpkg-deb > "$room/which"; then
     } | LC_ALL=C sort -k 2 > "$room/wanted"
     for package in "$room/debs"/lib*.deb; do dpkg-deb -x "$package" "$room/libraries"; done
     holds 'the packages of the library have these files' same "$room/wanted" files "$room/libraries"
+    dpkg-deb -e "$room/debs"/libudfburn0_*.deb "$room/control"
+    printf 'libudfburn 0 libudfburn0 (>= %s)\n' "$(cat "$room/version")" > "$room/wanted"
+    holds 'a program that is built with it asks for its version' same "$room/wanted" cat "$room/control/shlibs"
     need lintian lintian
     if command -v lintian > "$room/which"; then
         holds 'lintian has nothing to say of them' silent lintian --allow-root "$room/debs"/lib*.deb

@@ -1,16 +1,20 @@
 #!/bin/sh
 # The C library, from C, C++ and Python: what its calls do, that wrong arguments and faults give a status, and what it shows.
 #
-# usage: test/library.sh CORE UDFBURN UDFBURND [MODULE..]
+# usage: test/library.sh [--large] CORE UDFBURN UDFBURND [MODULE..]
 # CORE is the core of the library: crates/capi/out/libcapi.a, which `rt lib` proves, or what packaging/library/unproved.sh built.
-# Its last line is 'library: N passed, M failed, K skipped'. It takes Python 3.9 or later, gcc, g++, clang, binutils,
-# valgrind and libburn-dev.
+# --large tries changed images for minutes, and more drives that flip bits. Its last line is
+# 'library: N passed, M failed, K skipped'. It takes Python 3.9 or later, gcc, g++, clang, binutils, valgrind and libburn-dev.
 set -eu
 
 suite=library
 # shellcheck source=test/shell.sh
 . "$(dirname "$0")/shell.sh"
-[ $# -ge 3 ] || { echo 'usage: test/library.sh CORE UDFBURN UDFBURND [MODULE..]' >&2; exit 2; }
+if [ "${1:-}" = --large ]; then
+    export LARGE=1
+    shift
+fi
+[ $# -ge 3 ] || { echo 'usage: test/library.sh [--large] CORE UDFBURN UDFBURND [MODULE..]' >&2; exit 2; }
 core=$(absolute "$1")
 udfburn=$(absolute "$2")
 udfburnd=$(absolute "$3")

@@ -114,20 +114,20 @@ move() {
 libraries() {
     libdir=/usr/lib/$(dpkg-architecture -qDEB_HOST_MULTIARCH 2> "$work/which" || cc -dumpmachine)
     mkdir "$work/installed"
-    DESTDIR=$work/installed LIBDIR=$libdir ./install.sh /usr
+    DESTDIR=$work/installed LIBDIR=$libdir ./install.sh --library /usr
     find "$work/installed/usr/share/man" -type f -exec gzip -9n {} +
     move libudfburn0 "$libdir/libudfburn.so.0"
     move libudfburn-dev "$libdir/libudfburn.so" "$libdir/libudfburn.a" "$libdir/libudfburn_drive.a" "$libdir/pkgconfig/udfburn.pc" \
-        /usr/include/udfburn.h /usr/share/man/man3/udfburn.3.gz
+        /usr/include/udfburn.h /usr/share/man/man3
     mkdir -p "$work/libudfburn-dev/usr/share/doc/libudfburn-dev/docs"
     mv "$work/installed/usr/share/doc/udfburn/examples" "$work/libudfburn-dev/usr/share/doc/libudfburn-dev/"
-    mv "$work/installed/usr/share/doc/udfburn/docs/EMBEDDING.md" "$work/installed/usr/share/doc/udfburn/docs/PROTOCOL.md" \
-        "$work/libudfburn-dev/usr/share/doc/libudfburn-dev/docs/"
+    install -m 644 docs/EMBEDDING.md docs/PROTOCOL.md "$work/libudfburn-dev/usr/share/doc/libudfburn-dev/docs/"
     strip --strip-unneeded --remove-section=.comment --remove-section=.note "$work/libudfburn0$libdir/libudfburn.so.0"
     documents libudfburn0
     documents libudfburn-dev
     mkdir "$work/libudfburn0/DEBIAN"
-    echo 'libudfburn 0 libudfburn0' > "$work/libudfburn0/DEBIAN/shlibs"
+    # A program may use a function that an earlier version has not.
+    echo "libudfburn 0 libudfburn0 (>= $version)" > "$work/libudfburn0/DEBIAN/shlibs"
     echo 'activate-noawait ldconfig' > "$work/libudfburn0/DEBIAN/triggers"
     chmod 644 "$work/libudfburn0/DEBIAN"/*
     make_package libudfburn0 << END

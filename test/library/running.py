@@ -26,6 +26,6 @@ class Running(Case):
         room.mkdir()
         return [str(room), version()] if source == "calls.c" else [str(room)]
 
-    def passes(self, source: str, program: str, before: Sequence[str] = ()) -> None:
-        said = self.ran(*before, program, *self.words(source))
+    def passes(self, source: str, program: str, before: Sequence[str] = (), *words: str) -> None:
+        said = self.ran(*before, program, *(words or self.words(source)))
         self.assertRegex(said, r"^%s: [1-9]\d+ expected, 0 failed\n$" % source[:-2])

@@ -12,7 +12,7 @@ from library.building import Case, built
 from library.test_exports import declared
 from protocol import GET, Request, encode, query
 
-OK, NONE, BUSY, EXISTS, NOT_FOUND = 0, 7, 9, 35, 34
+OK, NONE, BUSY, OLDER, EXISTS, NOT_FOUND = 0, 7, 9, 13, 35, 34
 BLOCK = 2048
 MOMENT = 1_700_000_000_000_000
 
@@ -40,6 +40,16 @@ class Commit(ctypes.Structure):
 
 class Reason(ctypes.Structure):
     _fields_ = [("size", c_size_t), ("status", c_int32), ("error", c_int32), ("call", ctypes.c_char * 32), ("path", ctypes.c_char * 256)]
+
+
+class Volume(ctypes.Structure):
+    _fields_ = [("size", c_size_t), ("identity", c_uint64), ("moment", c_uint64),
+                *((name, c_uint32) for name in ("capacity", "next", "unused", "commits", "files", "directories", "clients")),
+                ("label", ctypes.c_char * 64)]
+
+
+class Entry(ctypes.Structure):
+    _fields_ = [("name", c_char_p), ("size", c_uint64), ("moment", c_uint64), ("kind", c_int32), ("reserved", c_int32)]
 
 
 CAPACITY = ctypes.CFUNCTYPE(c_int32, c_void_p, POINTER(c_uint32))
@@ -149,6 +159,20 @@ class FromPython(Case):
         self.assertEqual([(names[i].name, names[i].kind) for i in range(count.value)], [(b"y", 0)])
         self.call("free", names)
 
+    def its_past(self, path: bytes) -> None:
+        """The volume as it was after its first commit, beside what is there now."""
+        then, volume, entries, count = c_void_p(), Volume(ctypes.sizeof(Volume)), POINTER(Entry)(), c_size_t()
+        self.assertEqual(self.call("open_read", path, c_uint32(1), byref(then)), OK)
+        self.assertEqual(self.call("describe", then, byref(volume)), OK)
+        self.assertEqual((volume.identity, volume.commits, volume.next, volume.unused, volume.label), (MOMENT, 1, 267, 0, b"PY"))
+        self.assertEqual(self.call("entries", then, b"/", c_size_t(ctypes.sizeof(Entry)), byref(entries), byref(count)), OK)
+        self.assertEqual([(entries[i].name, entries[i].size, entries[i].kind) for i in range(count.value)], [(b"a", 5, 0)])
+        self.call("free", entries)
+        self.assertEqual(self.call("expect", then, c_uint32(1)), OK)
+        self.assertEqual(self.call("room", then, b"/b", c_uint64(1000)), OK)
+        self.assertEqual(self.call("expect", then, c_uint32(2)), OLDER)
+        self.call("close", then)
+
     def by_descriptor(self, path: bytes) -> None:
         handle = c_void_p()
         with open(path + b".fd", "xb+") as file:
@@ -175,6 +199,8 @@ class FromPython(Case):
         self.assertIsNone(broken.value)
         self.assertEqual(self.call("format_drive", byref(disc.drive), b"PY", c_uint64(MOMENT)), OK)
         self.assertEqual(self.call("open_drive", byref(disc.drive), byref(handle)), OK)
+        self.call("close", handle)
+        self.assertEqual(self.call("open_drive_with", byref(disc.drive), c_uint32(1), byref(handle)), OK)
         asked = encode(Request("create", 7, 1, "/a", b"hello"))
         self.assertEqual(self.call("answer", handle, asked, c_size_t(len(asked))), OK)
         self.call("close", handle)
@@ -191,6 +217,7 @@ class FromPython(Case):
         self.what_it_is(handle)
         self.how_it_came(handle)
         self.requests(handle)
+        self.its_past(path)
         self.call("close", handle)
         self.by_descriptor(path)
         self.assertEqual(self.in_memory(), image)
@@ -199,7 +226,8 @@ class FromPython(Case):
 
     def test_structures(self) -> None:
         """The sizes of the structures are those of a C compiler."""
-        kinds = {"request": AskedRequest, "node": Node, "name": Name, "status": Status, "commit": Commit, "reason": Reason, "drive": Drive}
+        kinds = {"request": AskedRequest, "node": Node, "name": Name, "status": Status, "commit": Commit, "reason": Reason, "volume": Volume,
+                 "entry": Entry, "drive": Drive}
         lines = ["#include \"udfburn.h\"", "#include <stdio.h>", "int main(void) {"]
         lines += ["    printf(\"%%zu\\n\", sizeof(struct udfburn_%s));" % name for name in kinds]
         source = self.folder / "sizes.c"

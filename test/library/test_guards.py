@@ -2,6 +2,7 @@
 from __future__ import annotations
 
 import os
+import re
 import subprocess
 
 from faults.machine import lacks
@@ -69,7 +70,7 @@ class Names(Running):
         """Each status of the header has its name."""
         source = self.folder / "names.c"
         header = (built().plain / "udfburn.h").read_text()
-        names = [line.split()[0] for line in header.splitlines() if line.startswith("    UDFBURN_") and " = " in line]
+        names = [line.split()[0] for line in header.splitlines() if re.match(r" {4}UDFBURN_\w+ = \d", line)]
         self.assertGreater(len(names), 25)
         lines = ["#include \"udfburn.h\"", "#include <stdio.h>", "int main(void) {"]
         lines += ["    puts(udfburn_error_name(%s));" % name for name in names]
