@@ -62,7 +62,7 @@ class Reasons(Running):
         self.tells(self.compiled("reasons.c", archive=DRIVES, watched=True))
 
     def test_under_valgrind(self) -> None:
-        self.tells(*VALGRIND, "--trace-children=no", self.compiled("reasons.c", archive=DRIVES))
+        self.tells(*VALGRIND, self.compiled("reasons.c", archive=DRIVES))
 
 
 class Names(Running):

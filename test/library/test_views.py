@@ -25,7 +25,7 @@ class Views(Running):
         self.passes("views.c", self.compiled("views.c", watched=True))
 
     def test_under_valgrind(self) -> None:
-        self.passes("verify.c", self.compiled("verify.c", archive=DRIVES), (*VALGRIND, "--track-fds=no"), "1")
+        self.passes("verify.c", self.compiled("verify.c", archive=DRIVES), VALGRIND, "3")
 
     def test_a_drive_that_flips_bits(self) -> None:
         self.passes("verify.c", self.compiled("verify.c", archive=DRIVES, watched=True), (), ROUNDS)

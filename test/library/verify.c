@@ -140,6 +140,6 @@ int main(int argc, char **argv) {
         EXPECT(lost(20, UDFBURN_VERIFY) == 0);
     }
     /* So the drive does flip bits. */
-    EXPECT(without > atoi(argv[1]));
+    EXPECT(without > 0);
     return finish("verify");
 }

@@ -338,7 +338,7 @@ static void until_it_is_full(void) {
     udfburn *handle = opened("room.img");
     while (said == UDFBURN_OK && count < 512) {
         memset(path, 'n', sizeof path);
-        snprintf(path + 100 + count % 140, 10, "%d", count);
+        snprintf(path + 100 + count % 140, 12, "%d", count);
         path[0] = '/';
         said = udfburn_room(handle, path, (size_t)(count * 397 % 9000));
         int32_t done = create(handle, path, (size_t)(count * 397 % 9000));
