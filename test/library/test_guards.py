@@ -2,11 +2,10 @@
 from __future__ import annotations
 
 import os
-import re
 import subprocess
 
 from faults.machine import lacks
-from library.building import CLANG, GCC, GPP, THREADS, build_library, built
+from library.building import CLANG, GCC, GPP, THREADS, build_library
 from library.running import DRIVES, VALGRIND, Running
 
 # Of threads on one handle, and of children.
@@ -63,16 +62,3 @@ class Reasons(Running):
 
     def test_under_valgrind(self) -> None:
         self.tells(*VALGRIND, self.compiled("reasons.c", archive=DRIVES))
-
-
-class Names(Running):
-    def test_of_each_status(self) -> None:
-        """Each status of the header has its name."""
-        source = self.folder / "names.c"
-        header = (built().plain / "udfburn.h").read_text()
-        names = [line.split()[0] for line in header.splitlines() if re.match(r" {4}UDFBURN_\w+ = \d", line)]
-        self.assertGreater(len(names), 25)
-        lines = ["#include \"udfburn.h\"", "#include <stdio.h>", "int main(void) {"]
-        lines += ["    puts(udfburn_error_name(%s));" % name for name in names]
-        source.write_text("\n".join([*lines, "    return 0;", "}"]))
-        self.assertEqual(self.ran(self.compiled(str(source))).split(), names)
