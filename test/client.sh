@@ -1,7 +1,8 @@
 #!/bin/sh
 # The Python client: its unit tests, and its tests over the built programs.
 #
-# usage: test/client.sh [UDFBURN UDFBURND]
+# usage: test/client.sh [--large] [UDFBURN UDFBURND]
+# --large adds what takes long: all random losses of blocks.
 # KILLS of the environment is how often clients and daemons are killed (200). TIMES=1 reports which tests take long. ANEW=1 gives
 # each command a Python of its own.
 # Its last line is 'client: N passed, M failed'. It takes a POSIX shell, Python 3.9 or later (PYTHON names another) and a C
@@ -13,6 +14,11 @@ here=$(cd "$(dirname "$0")/.." && pwd)
 suite=client
 # shellcheck source=test/shell.sh
 . "$here/test/shell.sh"
+if [ "${1:-}" = --large ]; then
+    LARGE=1
+    export LARGE
+    shift
+fi
 UDFBURN=$(absolute "${1:-$here/crates/udfburn/out/udfburn}")
 UDFBURND=$(absolute "${2:-$here/crates/udfburnd/out/udfburnd}")
 export UDFBURN UDFBURND

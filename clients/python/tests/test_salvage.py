@@ -178,7 +178,7 @@ class Salvaging(Damaged):
         self.damage(data, 0, bytes(range(256)) * 8)
         files, _ = self.salvage()
         self.assertEqual(files["d", "large"][:2], (EARLIER, self.model.files()["d", "large"]))
-        self.assertEqual(files["d", "large"][2].commit, 7)
+        self.assertEqual(files["d", "large"][2].commit, (7, 7))
         self.assertEqual(files["d", "small"][:2], (EARLIER, self.model.files()["d", "renamed"]))
         self.assertEqual(files["d", "e", "deep"][:2], (UNPROVED, self.model.files()["d", "e", "deep"]))
 

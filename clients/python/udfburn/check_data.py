@@ -37,6 +37,9 @@ def check_data(coverage: Coverage, path: Path, found: Found) -> Result:
     for manifest, fault in coverage.faults:
         if is_below(manifest, path):
             tell(result, found, manifest, fault, coverage.commit_of(coverage.nodes[manifest]))
+    for known in coverage.unreached():
+        if is_below(known.path, path):
+            tell(result, found, known.path, "the ledger has it, and no chain of tables reaches the commit that wrote it", known.commit)
     for node in in_order(coverage, path):
         faults = faults_of(coverage, node, result)
         if faults:

@@ -24,6 +24,8 @@ from .ledger import Ledger
 from .ledger_records import Volume as KnownVolume
 from .protocol import Path, show
 from .reader import Kind, Node, State, Volume
+from .reader.chain import Chain, Span
+from .reader.survey import Survey
 
 
 class Wanted(NamedTuple):
@@ -51,33 +53,56 @@ class Coverage:
         """What manifests list and the state does not have."""
         self._wanted: Dict[Path, List[Wanted]] = {}
         self._sent: Dict[int, Known] = {}
+        self._now: Dict[Path, Known] = {}
+        self._chain: Optional[Chain] = None
         self._tables = sorted(volume.chain(), key=lambda table: table.address)
+        self._last = volume.chain()[-1]
+        """The oldest table that the newest one leads to."""
         self._ends = [table.address for table in self._tables]
         for path in sorted(self.nodes):
             if path and path[-1] in (m.MANIFEST, m.TAG_MANIFEST) and self.nodes[path].kind is Kind.FILE:
                 self._take_manifest(path)
 
     def commit_of(self, node: Node) -> Optional[int]:
-        """The commit that wrote a node's entry; None where the chain does not reach so far."""
-        index = bisect_left(self._ends, node.address)
-        if index == len(self._tables):
-            return None
-        table = self._tables[index]
-        # Where the chain is broken below this table, an older node is of a commit that is not known.
-        begin = table.previous if table.previous is not None else -1 if table.commit == 0 else table.address
-        return table.commit if begin < node.address else None
+        """The commit that wrote a node's entry; None where that is not known."""
+        return self._commits_of(node).commit
+
+    def _commits_of(self, node: Node) -> Span:
+        """The commits that may have written a node's entry. Where the chain of tables is broken, all tables are looked for."""
+        if self._last.commit and self._chain is None:
+            self._chain = Chain(self.volume, Survey(self.volume.medium))
+        if self._chain is not None:
+            return self._chain.commit_of(node.address) or Span(0, self._tables[-1].commit)
+        commit = self._tables[bisect_left(self._ends, node.address)].commit
+        return Span(commit, commit)
 
     def of(self, node: Node) -> List[Wanted]:
         """What a file should be, by each source that speaks of it."""
         wanted = list(self._wanted.get(node.path, ()))
-        sent = self._sent.get(self.commit_of(node) or 0)
+        sent = self.sent(node)
         if sent is not None:
             wanted.append(Wanted(sent.sha256, "the ledger", None))
         return wanted
 
     def sent(self, node: Node) -> Optional[Known]:
-        """What the ledger sent as this file."""
-        return self._sent.get(self.commit_of(node) or 0)
+        """What the ledger sent as this file. Where the commit that wrote it is not known, it is that with its path, its size and its moment."""
+        if not self._sent:
+            return None
+        commits = self._commits_of(node)
+        if commits.commit is not None:
+            return self._sent.get(commits.commit)
+        now = self._now.get(node.path)
+        is_it = now is not None and commits.low <= now.commit <= commits.high and (now.size, now.moment) == (node.size, node.moment)
+        return now if is_it else None
+
+    def unreached(self) -> List[Known]:
+        """The files that the ledger has and that are not known to be here or gone: no chain of tables reaches the commits that wrote
+        them."""
+        if not self._now or not self._last.commit:
+            return []
+        met = {sent.commit for sent in map(self.sent, self.nodes.values()) if sent is not None}
+        reached = {link.commit for link in self._chain.links if link.adjacent} if self._chain is not None else set()
+        return [known for known in self._now.values() if known.commit not in met and known.commit not in reached]
 
     # ---- manifests
 
@@ -116,7 +141,8 @@ class Coverage:
         others = [volume for volume in ledger.volumes() if bound is None or volume.id != bound.id]
         for volume in ([bound] if bound else []) + others:
             if self._is(ledger, volume, replies):
-                self._sent = Files(ledger, volume).by_commit
+                files = Files(ledger, volume)
+                self._sent, self._now = files.by_commit, files.now
                 return volume
         return None
 

@@ -9,14 +9,14 @@ from .errors import UdfburnError
 from .reader import Kind, Medium, Note, Volume
 from .reader.audit import audit
 from .reader.basics import BLOCK, PARTITION, blocks_of, crc
-from .reader.chain import Chain, Link
+from .reader.chain import Chain, Link, Span
 from .reader.entry import Entry
 from .reader.notes import Cause
 from .reader.survey import Survey
 from .reader.volume import Path
 from .salvage_carve import Carver
 from .salvage_digests import DECLARATION, Digests, Manifest, add_manifests, folder_of, is_manifest
-from .salvage_ledger import Commits, commits_of
+from .salvage_ledger import NOTHING, Kept, Seen, Stored, commits_of
 from .salvage_tree import LOST_AND_FOUND, Item, Tree
 from .salvage_write import InTheWay, Output, Written
 
@@ -49,7 +49,7 @@ class Outcome(NamedTuple):
     kind: Optional[Kind]
     state: str
     size: int
-    commit: Optional[int]
+    commit: Optional[Span]
     ranges: Tuple[Tuple[int, int], ...]
     why: str
     written: Optional[str]
@@ -74,7 +74,7 @@ class Salvage:
         self.digests = Digests()
         audit(self.chain, self.index)
         self.tree = Tree(self.chain, self.index)
-        self._stored: Commits = {}
+        self._stored: Kept = NOTHING
         self._carver = Carver(self.chain)
         self._digests_met: Set[str] = set()
         self._manifests: Dict[Path, FrozenSet[Optional[Path]]] = {}
@@ -94,13 +94,29 @@ class Salvage:
         """What is not as docs/FORMAT.md has it, by the addresses of blocks."""
         return sorted(self.volume.notes.all())
 
+    def paths(self) -> Dict[int, str]:
+        """The paths of nodes, by the addresses of their entries."""
+        return {item.version.address: "/" + "/".join(item.path) for item in self.tree.items if item.version is not None}
+
+    def missing(self) -> List[int]:
+        """The commits that were acknowledged to the ledger and that come after the newest table."""
+        return sorted(commit for commit in self._stored.commits if self.index == 0 and commit > self.link.numbers.high)
+
+    def stored(self, commit: int) -> Optional[Stored]:
+        """What the ledger stored by a commit."""
+        return self._stored.files.get(commit)
+
     def _index(self, commit: Optional[int]) -> int:
         if not self.chain.links:
             raise NothingToSalvage(f"{self.medium.path}: no table of a volume can be read")
         index = 0 if commit is None else self.chain.index_of(commit)
         if index is None:
-            known = [link.commit for link in self.chain.links]
-            raise NothingToSalvage(f"{self.medium.path}: no table of commit {commit} can be read; there are {len(known)}, from {known[-1]} to {known[0]}")
+            links = self.chain.links
+            may_be = [link for link in links if commit is not None and link.numbers.low <= commit <= link.numbers.high]
+            why = "; it may be one of several, of which it is not known which is whose" if may_be else ""
+            raise NothingToSalvage(
+                f"{self.medium.path}: no table of commit {commit} can be read; there are {len(links)}, from {links[-1].numbers} to {links[0].numbers}{why}"
+            )
         return index
 
     def _add_manifests(self) -> None:
@@ -116,30 +132,32 @@ class Salvage:
                     found.append(Manifest(path, folder, read.data, digest(read.data).hexdigest(), bool(read.why), item.version.address))
         self._manifests = add_manifests(self.digests, found, bags)
 
-    def _seen(self) -> Iterator[Tuple[int, int, Optional[int]]]:
-        """The commit, the size and the moment of each file."""
+    def _seen(self) -> Iterator[Seen]:
+        """Each file that was found."""
         for item in self.tree.items:
-            commit = self.chain.commit_of(item.version.address) if item.version is not None else None
-            if item.entry is not None and commit is not None and item.kind is Kind.FILE:
-                yield commit, item.entry.size, item.entry.moment
+            seen = self._seen_as(item, item.version.address if item.version is not None else None)
+            if item.entry is not None and seen is not None and item.kind is Kind.FILE:
+                yield seen
+
+    def _seen_as(self, item: Item, address: Optional[int]) -> Optional[Seen]:
+        """What is known of the file whose entry is at an address; None where it is of no commit."""
+        commits = self.chain.commit_of(address) if address is not None else None
+        entry = item.entry
+        if commits is None:
+            return None
+        return Seen(commits, entry.size if entry is not None else -1, entry.moment if entry is not None else None)
 
     # ---- digests
-
-    def _kept(self, item: Item) -> Optional[str]:
-        """The digest that the ledger keeps of what the commit wrote whose entry an item has."""
-        address = item.version.address if item.version is not None else self.tree.address(item)
-        commit = self.chain.commit_of(address) if address is not None else None
-        stored = self._stored.get(commit) if commit is not None else None
-        return stored.digest if stored is not None else None
 
     def agrees(self, item: Item, data: bytes) -> Tuple[Optional[bool], str]:
         """Whether bytes have the digest that is kept of a file (None where none is), and their digest, where one is asked for."""
         if not self._stored and not len(self.digests):
             return None, ""
         digest = hashlib.sha256(data).hexdigest()
-        kept = self._kept(item)
-        address = item.version.address if item.version is not None else 0
-        return (digest == kept if kept is not None else self.digests.agrees(item.path, digest, address)), digest
+        address = item.version.address if item.version is not None else self.tree.address(item)
+        seen = self._seen_as(item, address)
+        agrees = self._stored.agrees(seen, item.path, digest) if seen is not None else None
+        return (agrees if agrees is not None else self.digests.agrees(item.path, digest, address or 0)), digest
 
     def _carved(self, item: Item) -> Optional[bytes]:
         """The newest bytes of a file whose newest entry is lost, where a digest of them is kept."""
@@ -147,8 +165,10 @@ class Salvage:
         is_lost = item.version is None or item.version.commit is not None or is_carved(item.version.entry)
         if address is None or not is_lost or item.is_unfinished:
             return None
-        kept = self._kept(item._replace(version=None))
-        if kept is not None:
+        commits = self.chain.commit_of(address)
+        stored = self._stored.files.get(commits.commit) if commits is not None and commits.commit is not None else None
+        if stored is not None:
+            kept = stored.digest
             return self._carver.find(address, lambda digest: digest == kept)
         if item.kind is None:
             return self._carver.find(address, lambda digest: self.digests.path_of(digest) is not None)
@@ -236,20 +256,28 @@ class Salvage:
         """Each file, and each directory that is not whole. With an output each is written there."""
         waiting: Dict[int, Outcome] = {}
         last: List[int] = []
+        nameless: List[Outcome] = []
         for key, item in enumerate(self.tree.items):
             if item.kind is Kind.DIRECTORY:
                 yield from self._directory(item, output, tail_of(item))
             elif item.path in self._manifests:
                 # Whether it is whole is known once the files are that it lists.
                 last.append(key)
+            elif item.kind is None and item.version is None:
+                # It may be one that a manifest has.
+                nameless += self._file(key, item, output, waiting)
             else:
                 yield from self._file(key, item, output, waiting)
         for key in last:
             yield from self._file(key, self.tree.items[key], output, waiting)
         if output is not None:
             yield from settled(waiting, output.finish())
-        if self._is_hurt:
-            yield from self._unmet()
+        unmet = list(self._unmet()) if self._is_hurt else []
+        lost = [outcome for outcome in nameless if outcome.state == LOST]
+        yield from (outcome for outcome in nameless if outcome.state != LOST)
+        yield from unmet
+        # Those that a manifest has are counted once.
+        yield from lost[len(unmet) :]
 
     def _file(self, key: int, item: Item, output: Optional[Output], waiting: Dict[int, Outcome]) -> Iterator[Outcome]:
         """A file, and those that got their names meanwhile."""

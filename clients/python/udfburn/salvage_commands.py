@@ -5,7 +5,7 @@ from __future__ import annotations
 import argparse
 from collections import Counter
 from contextlib import suppress
-from typing import TYPE_CHECKING, Counter as Counts, Optional
+from typing import TYPE_CHECKING, Counter as Counts, Dict, Iterator, List, Optional
 
 from .disk import is_full
 from .errors import DiskFull, UsageError
@@ -14,7 +14,7 @@ from .protocol import shown
 from .words import add_output, commit_number
 
 if TYPE_CHECKING:
-    from .reader.chain import Link
+    from .reader.chain import Link, Span
     from .salvage import Outcome, Salvage
     from .words import Subs
 
@@ -89,7 +89,7 @@ class Report:
     def __init__(self, progress: Progress, found: "Salvage", accept: bool):
         self.progress, self.found, self.accept = progress, found, accept
         self.counts: Counts[str] = Counter()
-        self.bytes = self.directories = self.unwritten = 0
+        self.bytes = self.directories = self.unwritten = self.missing = 0
 
     def print(self, output: Optional[object]) -> int:
         """Prints all of it, and gives the status."""
@@ -99,9 +99,27 @@ class Report:
         for outcome in self.found.outcomes(target):
             self._outcome(outcome, target is not None)
         notes = self.found.notes
+        paths = self.found.paths()
         for note in notes:
-            self._told(str(note), True, did="structure", block=note.block, cause=int(note.cause), message=note.text)
+            path = paths.get(note.block)
+            of = f" (of {path})" if path is not None else ""
+            self._told(f"{note}{of}", True, did="structure", block=note.block, cause=int(note.cause), message=note.text, path=path)
+        self._missing()
         return self._end(len(notes))
+
+    def _missing(self) -> None:
+        """Names the first commit that was acknowledged to the ledger and is not there."""
+        missing = self.found.missing()
+        if not missing:
+            return
+        self.missing = len(missing)
+        stored = self.found.stored(missing[0])
+        what = f", which stored /{'/'.join(stored.path)}" if stored is not None else ""
+        more = f", and {plural(self.missing - 1, 'later one', 'later ones')}" if self.missing > 1 else ""
+        self._told(
+            f"commit {missing[0]}{what}{more}: acknowledged to the ledger, and not in this copy, whose newest commit is {self.found.link.numbers}",
+            True, did="missing", commit=missing[0], commits=self.missing, path="/" + "/".join(stored.path) if stored is not None else None,
+        )
 
     def _told(self, line: str, is_bad: bool, **fields: object) -> None:
         if self.progress.as_json:
@@ -128,7 +146,7 @@ class Report:
         path = "/" + "/".join(outcome.path)
         self._told(
             line_of(outcome, path, writes), missed or outcome.state not in (WHOLE, UNPROVED, UNFINISHED), did="directory" if is_directory else "file",
-            path=path, state=outcome.state, bytes=outcome.size, commit=outcome.commit, ranges=[list(found) for found in outcome.ranges],
+            path=path, state=outcome.state, bytes=outcome.size, **said_of(outcome.commit), ranges=[list(found) for found in outcome.ranges],
             message=outcome.why, written=outcome.written,
         )
 
@@ -136,7 +154,7 @@ class Report:
         from .salvage import STATES, UNFINISHED, UNPROVED, WHOLE
 
         volume, link, files = self.found.volume, self.found.link, sum(self.counts[state] for state in STATES)
-        status = 0 if not (notes or self.unwritten or self.directories) and self.counts[WHOLE] + self.counts[UNPROVED] == files else 1
+        status = 0 if not (notes or self.unwritten or self.directories or self.missing) and self.counts[WHOLE] + self.counts[UNPROVED] == files else 1
         unproved = self.counts[UNPROVED]
         if unproved and not self.accept:
             if status == 0:
@@ -147,8 +165,8 @@ class Report:
         words += f", and {plural(unfinished, 'file', 'files')} of a commit that is not finished" if unfinished else ""
         name = f"volume {volume.label!r}" if volume.label is not None else "volume without a label"
         self.progress.result(
-            f"{name}, commit {link.commit}: {plural(files, 'file', 'files')}, {size(self.bytes)}: {words}; {plural(notes, 'structure is', 'structures are')} not as it must be",
-            path=shown(self.found.medium.path), label=volume.label, moment=volume.moment, capacity=volume.capacity, commit=link.commit,
+            f"{name}, commit {link.numbers}: {plural(files, 'file', 'files')}, {size(self.bytes)}: {words}; {plural(notes, 'structure is', 'structures are')} not as it must be",
+            path=shown(self.found.medium.path), label=volume.label, moment=volume.moment, capacity=volume.capacity, **said_of(link.numbers),
             files=files, bytes=self.bytes, structures=notes, unfinished=unfinished, **{state: self.counts[state] for state in STATES},
         )
         return status
@@ -184,27 +202,63 @@ def log(arguments: argparse.Namespace) -> int:
         if not chain.links:
             return progress.fail(f"{shown(arguments.image_path)}: no table of a volume can be read")
         broken = lost = 0
-        for index, link in enumerate(chain.links):
-            broken += bool(link.broken)
-            tell_link(progress, link)
-            older = chain.links[index + 1].commit if index + 1 < len(chain.links) else -1
-            for commit in range(link.commit - 1, older, -1):
-                lost += 1
-                progress.say(f"{commit} ? ? ? lost", did="commit", commit=commit, address=None, files=None, directories=None, broken=["lost"])
-    progress.outcome = {"path": shown(arguments.image_path), "commits": chain.links[0].commit, "broken": broken, "lost": lost}
+        for group in groups_of(chain.links):
+            for link in group:
+                broken += bool(link.broken)
+                tell_link(progress, link)
+            lost += tell_gap(progress, group, chain.links)
+    newest = chain.links[0].numbers
+    progress.outcome = {"path": shown(arguments.image_path), "commits": newest.commit, "broken": broken, "lost": lost}
     if broken or lost:
         return progress.fail(f"{plural(broken, 'table is', 'tables are')} broken, {lost} lost")
     return 0
+
+
+def groups_of(links: "List[Link]") -> "Iterator[List[Link]]":
+    """Each link whose commit is known, with those below it whose commits are not."""
+    group: "List[Link]" = []
+    for link in links:
+        if group and link.commit is not None:
+            yield group
+            group = []
+        group.append(link)
+    yield group
 
 
 def tell_link(progress: Progress, link: "Link") -> None:
     """Prints a commit."""
     table = link.table
     files, directories = (table.files, table.directories) if table is not None else (None, None)
-    line = f"{link.commit} {link.address} {'?' if files is None else files} {'?' if directories is None else directories}"
+    line = f"{'?' if link.commit is None else link.commit} {link.address} {'?' if files is None else files} {'?' if directories is None else directories}"
     if link.broken:
         line += f" broken: {'; '.join(link.broken)}"
-    progress.say(line, did="commit", commit=link.commit, address=link.address, files=files, directories=directories, broken=list(link.broken))
+    progress.say(line, did="commit", **said_of(link.numbers), address=link.address, files=files, directories=directories, broken=list(link.broken))
+
+
+def tell_gap(progress: Progress, group: "List[Link]", links: "List[Link]") -> int:
+    """Prints in one line how many commits are lost below the first link of a group, and gives their number."""
+    from .reader.numbering import Span
+
+    after = links.index(group[-1]) + 1
+    low = links[after].numbers.low + 1 if after < len(links) else 0
+    high, unknown = group[0].numbers.high - 1, len(group) - 1
+    if group[0].commit is None:
+        high, unknown = group[0].numbers.high, len(group)
+    count = high - low + 1 - unknown
+    if count <= 0 or group[0].commit is None:
+        # Above the newest commit that is known there may be none.
+        return 0
+    span = Span(low, high)
+    which = f"{count} of {low} to {high}" if unknown else str(low) if count == 1 else f"{low} to {high}"
+    progress.say(f"{which} ? ? ? lost", did="commit", **said_of(span), address=None, files=None, directories=None, broken=["lost"], lost=count)
+    return count
+
+
+def said_of(commits: "Optional[Span]") -> "Dict[str, object]":
+    """The commits of something in JSON: one that is known, else the least and the greatest."""
+    if commits is None or commits.commit is not None:
+        return {"commit": commits.commit if commits is not None else None}
+    return {"commit": None, "between": [commits.low, commits.high]}
 
 
 __all__ = ["add", "log", "salvage"]

@@ -6,7 +6,7 @@ from itertools import islice
 from typing import Dict, Iterator, List, NamedTuple, Optional, Set, Tuple
 
 from .reader.basics import BLOCK, FILE_BYTES, PARTITION, PATH_NAMES, UNUSED, blocks_of
-from .reader.chain import Chain
+from .reader.chain import Chain, Span
 from .reader.directory import IS_PARENT, Directory, Identifier, Known, piece_at, read_directory, said_by
 from .reader.entry import Entry, Kind, read_entry
 from .reader.medium import Medium
@@ -27,7 +27,7 @@ class Version(NamedTuple):
 
     entry: Entry
     address: int
-    commit: Optional[int]
+    commit: Optional[Span]
 
 
 class Item(NamedTuple):
@@ -43,7 +43,7 @@ class Item(NamedTuple):
     kind: Optional[Kind]
     virtual: int
     version: Optional[Version]
-    commit: Optional[int]
+    commit: Optional[Span]
     why: str
     is_unfinished: bool = False
 
@@ -67,7 +67,7 @@ class Tree:
         self._reached: Set[int] = {0}
         self._hurt: List[Item] = []
         self._loose: List[Tuple[Item, Identifier]] = []
-        self._older: List[Tuple[Item, Identifier, int]] = []
+        self._older: List[Tuple[Item, Identifier, Span]] = []
         self._build()
 
     def _build(self) -> None:
@@ -95,7 +95,7 @@ class Tree:
 
     # ---- entries
 
-    def resolve(self, virtual: int, unique: Optional[int], kind: Optional[Kind], listed: Optional[int] = None) -> Optional[Version]:
+    def resolve(self, virtual: int, unique: Optional[int], kind: Optional[Kind], listed: Optional[Span] = None) -> Optional[Version]:
         """The entry of a node: that which the table leads to, else the newest one before it.
 
         `listed` is the commit of the earlier listing that names it: a virtual address that has another node since is none then.
@@ -193,7 +193,7 @@ class Tree:
         number = self.entries[item.virtual] if item.virtual < len(self.entries) else UNUSED
         return number + PARTITION if number != UNUSED else None
 
-    def versions(self, virtual: int, after: int) -> Iterator[Tuple[int, int]]:
+    def versions(self, virtual: int, after: int) -> Iterator[Tuple[int, Span]]:
         """The entries that were committed for a virtual address below an address, the newest first, and until which commit each was valid."""
         for at in self.survey.nodes(virtual, min(after, self.link.start)):
             place, replaced = self.chain.place_of(at), self.chain.place_of(after)
@@ -202,10 +202,11 @@ class Tree:
             entries = self.chain.entries(place)[0]
             is_there = virtual < len(entries) and entries[virtual] + PARTITION == at
             if is_there and place > replaced:
-                yield at, self.chain.links[replaced + 1].commit
+                yield at, self.chain.links[replaced + 1].numbers
             elif is_there or not self.chain.links[place].adjacent:
                 # It was valid for a while, and no table of that while is left.
-                yield at, max(self.chain.links[place].commit - 1, 0)
+                low, high = self.chain.commit_of(at) or self.chain.links[place].numbers
+                yield at, Span(low, max(high - 1, low))
             else:
                 continue
             after = at
@@ -261,7 +262,7 @@ class Tree:
             break
         return name
 
-    def _take(self, above: Item, name: Identifier, listed: Optional[int], is_marked: bool = False) -> None:
+    def _take(self, above: Item, name: Identifier, listed: Optional[Span], is_marked: bool = False) -> None:
         """Takes a node that a directory names, in this state or in an earlier one; its path has the commit then, where it is marked."""
         path = above.path + (name.name,)
         kind = Kind.DIRECTORY if name.is_directory else Kind.FILE
@@ -278,7 +279,7 @@ class Tree:
             return
         self._reached.add(name.virtual)
         commit = listed if is_marked else version.commit if version is not None else None
-        suffix = f".at-commit-{commit}" if commit is not None else ""
+        suffix = suffix_of(commit)
         why = "no entry of it can be read" if version is None else "" if name.proved else "its name is not certain: what says it has a wrong byte, or is older"
         self._put(Item(path, above.target + (name.name + suffix,), kind, name.virtual, version, commit, why))
 
@@ -330,7 +331,7 @@ class Tree:
             name, kind, why = f"block-{address}", None, "no name leads to it, and its entry cannot be read"
             self.items.append(Item((LOST_AND_FOUND, name), (LOST_AND_FOUND, name), kind, virtual, None, None, why))
             return
-        suffix = f".at-commit-{version.commit}" if version.commit is not None else ""
+        suffix = suffix_of(version.commit)
         name = str(version.entry.unique)
         why = "no name leads to it"
         self._put(Item((LOST_AND_FOUND, name), (LOST_AND_FOUND, name + suffix), version.entry.kind, virtual, version, version.commit, why))
@@ -358,6 +359,13 @@ class Tree:
         if entry is not None and entry.kind is Kind.DIRECTORY:
             directory = self._read(entry, (LOST_AND_FOUND,))
             yield from directory.names if directory is not None else ()
+
+
+def suffix_of(commit: Optional[Span]) -> str:
+    """What is after the name of a node of an earlier commit."""
+    if commit is None:
+        return ""
+    return f".at-commit-{commit.low}" if commit.commit is not None else f".at-commit-{commit.low}-to-{commit.high}"
 
 
 def data_before(medium: Medium, number: int) -> Optional[Tuple[bytes, int, int]]:

@@ -11,6 +11,7 @@ from .directory import Known, read_directory
 from .entry import Kind, read_entry, read_file_set
 from .front import note_front, read_front
 from .notes import Cause, Fault
+from .numbering import greatest_at
 from .table import (
     HEAD, RECORD_SIZES, SESSIONS, Head, client_faults, lengths_agree, read_clients, read_entries, read_head,
 )
@@ -43,6 +44,7 @@ class Audit:
         self._used = 0
         self._records = b""
         self._is_next = False
+        self._low = PARTITION - 1
         self._last: Dict[int, int] = {}
         self._known = Known(mends=0)
 
@@ -60,18 +62,13 @@ class Audit:
         head = read_head(data)
         if head is None:
             return
-        self._is_next = place + 1 < len(self.chain.links) and self.chain.links[place + 1].table is not None and self.chain.links[place + 1].adjacent
+        self._is_next = link.adjacent and place + 1 < len(self.chain.links) and self.chain.links[place + 1].table is not None
         self.notes.extend(link.start, list(self._head_faults(data, head, number)))
         if any(run.data[table.size :]):
             # `udfburn` does not look at these bytes; docs/FORMAT.md has zeros there.
             self.notes.add(link.start, Cause.HEADER, "a byte after the table is not zero")
-        low = self.chain.links[place + 1].address if place + 1 < len(self.chain.links) else PARTITION - 1
-        if link.adjacent or place + 1 == len(self.chain.links):
-            self._changes(link, read_entries(data, table.length), low, head)
-        else:
-            self._entries = array("I")
-            self._used = 0
-            self._changes(link, read_entries(data, table.length), PARTITION - 1, head)
+        self._changes(link, read_entries(data, table.length), head)
+        self._low = link.address
 
     def _entry_of(self, link: Link, is_linked: bool) -> None:
         block = self.medium.block(link.address)
@@ -118,28 +115,28 @@ class Audit:
                 yield Fault(Cause.SESSIONS, "the records of clients are not those of the table before and one more reply")
             self._records = records
 
-    def _changes(self, link: Link, entries: "array[int]", low: int, head: Head) -> None:
+    def _changes(self, link: Link, entries: "array[int]", head: Head) -> None:
         """Compares the entries with those of the table before, and looks at what they lead to anew."""
         number, said = link.address - PARTITION, len(entries)
         used = self._used
         for virtual, old, new in differences(self._entries, entries):
             used += (new != UNUSED) - (old != UNUSED)
-            self._word(link, virtual, new, low)
+            self._word(link, virtual, new)
         if not 2 <= said <= NODES + 1:
             self.notes.add(link.start, Cause.COUNT, f"there are {said} virtual addresses")
         if used != 1 + head.files + head.directories:
             self.notes.add(link.start, Cause.COUNT, f"{used} virtual addresses are used, and the table counts {head.files} files and {head.directories} directories")
-        if 2 * link.commit + 261 > link.address or head.next_unique > FIRST_UNIQUE + link.commit:
-            self.notes.add(link.start, Cause.COUNTS, f"block number {number} or the next unique ID is not one of commit {link.commit}")
+        if head.commits > greatest_at(link.address) or head.next_unique > FIRST_UNIQUE + link.numbers.high:
+            self.notes.add(link.start, Cause.COUNTS, f"the commit {head.commits} or the next unique ID is not one of block number {number}")
 
-    def _word(self, link: Link, virtual: int, new: int, low: int) -> None:
+    def _word(self, link: Link, virtual: int, new: int) -> None:
         """Looks at a word of a table that is not that of the table before."""
         if virtual >= len(self._entries):
             self._entries.extend([UNUSED] * (virtual + 1 - len(self._entries)))
         old = self._entries[virtual]
         if new == UNUSED and virtual > 1:
             self._last[virtual] = old
-        elif not low < new + PARTITION < link.start:
+        elif not self._low < new + PARTITION < link.start:
             if self._last.get(virtual) != new:
                 self.notes.add(link.start, Cause.ENTRY, f"virtual address {virtual} leads to block number {new}, which the commit did not write")
                 return

@@ -4,15 +4,15 @@ from __future__ import annotations
 
 from array import array
 from bisect import bisect_left
-from collections import Counter
-from typing import Dict, List, NamedTuple, Optional, Set, Tuple
+from typing import Dict, Iterator, List, Optional, Set, Tuple
 
 from .basics import BLOCK, PARTITION, UNUSED, blocks_of
-from .entry import Entry, Kind
+from .entry import Entry, Kind, is_entry_like
 from .mend import Hint, mend_entry
 from .notes import Cause
+from .numbering import Link, Span, greatest_at, number
 from .survey import Survey
-from .table import Head, Table, entries_at, previous_of, read_entries, read_head, used_size
+from .table import Table, entries_at, read_clients, read_entries, read_head, used_size
 from .volume import Volume
 
 
@@ -20,59 +20,34 @@ KEPT = 16
 """The tables whose entries are kept, at most."""
 
 
-class Link(NamedTuple):
-    """A table of the chain.
-
-    `table` is None where its data cannot be used. `said` is the commit that the table itself says, `broken` what is wrong with it,
-    and `adjacent` says that the next older link is the table before it, with none lost between.
-    """
-
-    commit: int
-    address: int
-    table: Optional[Table]
-    said: Optional[int]
-    adjacent: bool
-    broken: Tuple[str, ...]
-
-    @property
-    def start(self) -> int:
-        """The address of the first block of its data, or of its entry where that is not known."""
-        return self.table.first + PARTITION if self.table is not None else self.address
-
-
 class Chain:
     """The tables that can be found, the newest first, and what each says of a virtual address."""
 
     def __init__(self, volume: Volume, survey: Survey):
         self.volume, self.survey = volume, survey
-        self.links: List[Link] = []
         self._entries: "Dict[int, Tuple[array[int], Set[int]]]" = {}
+        found: List[Link] = []
         link = self._newest()
         while link is not None:
             older, link = self._before(link)
-            self.links.append(link)
-            link = older
-        self._number()
+            found.append(link)
+            link = older if older is not None and older.address < link.address else None
+        self.links = number(found)
+        self._note()
         self._addresses = [link.address for link in reversed(self.links)]
-        self._places = {link.commit: index for index, link in reversed(list(enumerate(self.links)))}
+        self._places = {link.commit: index for index, link in reversed(list(enumerate(self.links))) if link.commit is not None}
 
     # ---- the links
 
     def _newest(self) -> Optional[Link]:
         last = self.survey.tables[-1] if self.survey.tables else None
         known = self._link(last) if last is not None else None
-        for at in reversed(self.survey.hurt):
-            if last is not None and at < last:
-                break
-            newer = self._mended(at)
-            if newer is not None and follows(newer, known):
-                return newer
-        for head in self.survey.heads_below(self.volume.medium.blocks):
-            if last is not None and head < last:
-                break
-            newer = self._headed(head, None)
-            if newer is not None and follows(newer, known) and self._was_written(newer.address):
-                return newer
+        above = last if last is not None else -1
+        for at in sorted(at for at in self.survey.hurt + self.survey.heads if at > above):
+            block = self.survey.hurt[bisect_left(self.survey.hurt, at) :][:1] == [at]
+            newer = self._mended(at) if block else self._headed(at, None)
+            if newer is not None and follows(newer, known) and (block or self._was_written(newer.address)):
+                known = newer
         return known
 
     def _was_written(self, address: int) -> bool:
@@ -86,8 +61,15 @@ class Chain:
     def _link(self, address: int) -> Link:
         """The link of a VAT ICB that is as it must be."""
         table = self.volume.table_at(address)
-        broken = () if table is not None else ("its data cannot be used",)
-        return Link(table.commit if table else 0, address, table, table.commit if table else None, True, broken)
+        return self._of(address, table, () if table is not None else ("its data cannot be used",))
+
+    def _of(self, address: int, table: Optional[Table], broken: Tuple[str, ...]) -> Link:
+        """The link of a table, with the commit that it says twice: as its count, and as that of its newest reply."""
+        if table is None or table.commit > greatest_at(address):
+            return Link(address, table, None, False, broken)
+        run = self.volume.medium.run(table.first + PARTITION, blocks_of(table.length))
+        replies = [reply.commit for client in read_clients(run.data[: table.length], table.version, table.clients) for reply in client.replies]
+        return Link(address, table, table.commit if max(replies, default=0) == table.commit else None, False, broken)
 
     def _mended(self, address: int) -> Optional[Link]:
         """The link of a VAT ICB with wrong bytes."""
@@ -98,7 +80,7 @@ class Chain:
         if entry.first + blocks_of(entry.size) != number:
             return None
         table = self.volume.table_of(address, entry)
-        return None if table is None else Link(table.commit, address, table, table.commit, True, ("its entry has a wrong byte",))
+        return None if table is None else self._of(address, table, ("its entry has a wrong byte",))
 
     def _headed(self, start: int, address: Optional[int]) -> Optional[Link]:
         """The link of a table whose data begins there and whose entry is lost. The data ends where the entry was."""
@@ -111,47 +93,71 @@ class Chain:
         if size is None or address is not None and start + blocks_of(size) != address:
             return None
         at, number = start + blocks_of(size), start + blocks_of(size) - PARTITION
-        length = entries_at(head, size)
-        if length is None:
+        if entries_at(head, size) is None:
             return None
-        lost = Entry(Kind.TABLE, None, 0, 0, size, start - PARTITION, None, number, 0, False)
-        table = self.volume.table_of(at, lost)
-        return None if table is None else Link(table.commit, at, table, table.commit, True, ("its entry is lost",))
+        table = self.volume.table_of(at, Entry(Kind.TABLE, None, 0, 0, size, start - PARTITION, None, number, 0, False))
+        return None if table is None else self._of(at, table, ("its entry is lost",))
 
     def _before(self, link: Link) -> Tuple[Optional[Link], Link]:
-        """The next older link, and this one with what is wrong with the way to it."""
+        """The next older link, and this one with what is to be trusted of what it says."""
         lower = self.survey.table_below(link.start)
         known = self._link(lower) if lower is not None else None
-        if known is not None and self._is_stale(link, known):
-            link = self._broken(link, "its data is that of an older table")._replace(table=None, said=None)
-        previous = link.table.previous if link.table is not None else None
-        if link.table is not None and link.said == 0 and previous is None and lower is None:
+        if self._is_of_another(link, known):
+            link = link._replace(table=None, said=None, broken=link.broken + ("its data is that of another table",))
+            lower = self.survey.table_below(link.start)
+            known = self._link(lower) if lower is not None else None
+        table = link.table
+        if table is not None and table.commit == 0 and table.previous is None and known is None:
             return None, link
-        if previous is not None and previous < link.start:
-            older = known if previous == lower else self._at(previous)
-            if older is not None and (older.said is None or older.said + 1 == link.said or older.address == lower):
-                return older, link
-        if known is not None and (known.said is None or link.said is None or known.said + 1 == link.said):
-            return known, self._broken(link, "the link to the table before it is wrong")
+        if table is not None and table.previous is not None and table.previous < link.start:
+            older = known if table.previous == lower else self._at(table.previous)
+            if older is not None and is_step(older, link) and (lower is None or older.address >= lower or self._is_skipped(link, known)):
+                return older, link._replace(follows=True)
+        if known is not None and link.said is not None and known.said is not None and known.said + 1 == link.said:
+            return known, link
         between = self._between(link, lower)
         if between is not None:
-            return between, self._broken(link, "the link to the table before it is wrong")
-        if known is not None:
-            return known, self._broken(link, "the table before it is lost", False)
-        return None, link if link.said == 0 else self._broken(link, "the tables before it are lost", False)
+            return between, link
+        return known, link if self._is_apart(link, lower) else link._replace(said=None)
 
-    def _is_stale(self, link: Link, lower: Link) -> bool:
-        """Whether the data of a table is that of an older one: commits go up, and a table leads to the one below it."""
-        if link.table is None or lower.table is None or link.table.previous == lower.address:
+    def _is_skipped(self, link: Link, known: Optional[Link]) -> bool:
+        """Whether the table below a link is not the one that the link names. A drive may have kept a commit that was written again."""
+        return known is not None and known.said is not None and known.said == link.said
+
+    def _is_apart(self, link: Link, lower: Optional[int]) -> bool:
+        """Whether what a table says of itself is to be trusted, though what it names as the table before is not there."""
+        table = link.table
+        if table is None or table.previous is None and table.commit:
             return False
-        if link.table.commit != lower.table.commit:
-            return link.table.commit < lower.table.commit
-        # A copy may have a commit twice that the drive failed to write at first: these have places of their own.
-        return self.volume.data_of(link.table).data == self.volume.data_of(lower.table).data
+        return lower is None or table.previous is not None and lower <= table.previous < link.start
 
-    def _broken(self, link: Link, text: str, adjacent: bool = True) -> Link:
-        self.volume.notes.add(link.address, Cause.CHAIN, f"of the table with its VAT ICB here: {text}")
-        return link._replace(broken=link.broken + (text,), adjacent=adjacent)
+    def _is_of_another(self, link: Link, known: Optional[Link]) -> bool:
+        """Whether the data of a table is that of another one: the entry before it is another than it has, or it is older than the table
+        below."""
+        if link.table is None:
+            return False
+        if self._misses_last(link):
+            return True
+        if known is None or known.table is None or link.table.previous == known.address:
+            return False
+        if link.table.commit != known.table.commit:
+            return link.table.commit < known.table.commit
+        # A copy may have a commit twice that the drive failed to write at first: these have places of their own.
+        return self.volume.data_of(link.table).data == self.volume.data_of(known.table).data
+
+    def _misses_last(self, link: Link) -> bool:
+        """Whether the entry right before a table's data is of a node for which the table has an earlier one, or none."""
+        at = link.start - 1
+        block = self.volume.medium.block(at)
+        entry = mend_entry(block, Hint(at - PARTITION)) if block is not None and is_entry_like(block) else None
+        if link.table is None or entry is None or not entry.proved or entry.kind is Kind.TABLE:
+            return False
+        run = self.volume.data_of(link.table)
+        words = read_entries(run.data[: link.table.size], link.table.length)
+        word = words[entry.location] if entry.location < len(words) else UNUSED
+        if word == at - PARTITION or run.missing:
+            return False
+        return word == UNUSED or self.survey.last_node(entry.location, word + PARTITION, word + PARTITION + 1) is not None
 
     def _at(self, address: int) -> Optional[Link]:
         """The link at an address to which a table leads."""
@@ -179,28 +185,26 @@ class Chain:
                 break
         return None
 
-    def _number(self) -> None:
-        """Gives each link its commit: what most tables of those in a row say."""
-        begin = 0
-        for end in range(1, len(self.links) + 1):
-            if end < len(self.links) and self.links[end - 1].adjacent:
-                continue
-            said = Counter(link.said + index for index, link in enumerate(self.links[begin:end]) if link.said is not None)
-            last = self.links[end - 1]
-            if last.said == 0 and last.table is not None and last.table.previous is None:
-                # The first table says it twice.
-                said[end - 1 - begin] += 1
-            newest = said.most_common(1)[0][0] if said else end - begin - 1
-            for index in range(begin, end):
-                self._renumber(index, max(newest - (index - begin), 0))
-            begin = end
+    def _note(self) -> None:
+        """Notes what is wrong with the links between tables, and with what tables say of themselves."""
+        for index, link in enumerate(self.links):
+            texts = list(self._faults(index, link))
+            for text in texts:
+                self.volume.notes.add(link.address, Cause.CHAIN, f"of the table with its VAT ICB here: {text}")
+            self.links[index] = link._replace(broken=link.broken + tuple(texts))
 
-    def _renumber(self, index: int, commit: int) -> None:
-        link = self.links[index]
-        if link.said is not None and link.said != commit:
-            self.volume.notes.add(link.start, Cause.CHAIN, f"the table says commit {link.said}, and is that of commit {commit}")
-            link = link._replace(broken=link.broken + (f"it says commit {link.said}",))
-        self.links[index] = link._replace(commit=commit)
+    def _faults(self, index: int, link: Link) -> Iterator[str]:
+        table, commit = link.table, link.commit
+        if table is not None and commit is not None and table.commit != commit:
+            yield f"it says commit {table.commit}"
+        if commit is None:
+            yield f"its commit is {link.numbers}"
+        if link.follows or index + 1 == len(self.links) and link.adjacent:
+            return
+        if not link.adjacent:
+            yield "the table before it is lost" if index + 1 < len(self.links) else "the tables before it are lost"
+        elif table is not None:
+            yield "the link to the table before it is wrong"
 
     # ---- what they say
 
@@ -213,13 +217,16 @@ class Chain:
         found = bisect_left(self._addresses, address)
         return len(self.links) - 1 - found if found < len(self._addresses) else None
 
-    def commit_of(self, address: int) -> Optional[int]:
-        """The commit that wrote a block; None after the last table, and where tables are lost, so that it may be of one of these."""
+    def commit_of(self, address: int) -> Optional[Span]:
+        """The commits that may have written a block; None after the last table."""
         place = self.place_of(address)
         if place is None:
             return None
         link = self.links[place]
-        return link.commit if link.adjacent or link.commit == 0 else None
+        if link.adjacent or address >= link.start:
+            return link.numbers
+        older = self.links[place + 1].numbers.low + 1 if place + 1 < len(self.links) else 0
+        return Span(older, link.numbers.high)
 
     def floor(self, address: int) -> int:
         """The address after the last structure below an address: data of a file that ends there begins no earlier."""
@@ -304,9 +311,12 @@ def follows(newer: Link, known: Optional[Link]) -> bool:
     """Whether a table with a broken entry follows the last one that has a whole one."""
     if newer.table is None:
         return False
-    if known is None:
-        return True
-    return newer.table.previous == known.address and (known.said is None or newer.said == known.said + 1)
+    return known is None or newer.table.previous == known.address and is_step(known, newer)
 
 
-__all__ = ["Chain", "Head", "Link", "previous_of"]
+def is_step(older: Link, newer: Link) -> bool:
+    """Whether a table may be that of the commit after another one, by what both say."""
+    return older.said is None or newer.said is None or older.said + 1 == newer.said
+
+
+__all__ = ["Chain", "Link", "Span"]
