@@ -152,7 +152,9 @@ class WithArchive(unittest.TestCase):
         return self.run_in(self.archive, command, *words, status=status)
 
     def init(self, *words: str, archive: Optional[str] = None) -> None:
-        self.do("init", archive or self.archive, "--label", "T", *words)
+        """Makes an archive. Folders for copies are on the disk of the room."""
+        same = ["--same-device"] if "--copies" in words else []
+        self.do("init", archive or self.archive, "--label", "T", *words, *same)
 
     def add(self, *words: str, status: Optional[int] = 0) -> Done:
         """Adds the source as /."""

@@ -94,15 +94,15 @@ class Crashes(WithArchive):
         self.init("--copies", remote)
         write(os.path.join(self.source, "f"), b"1")
         self.add()
-        shutil.copytree(self.archive, self.path("kept"))
+        for folder in (self.archive, remote):
+            shutil.copytree(folder, self.path("kept", os.path.basename(folder)))
         before = digests(self.source)
         count = 0
         while True:
             # Each time from the same state, killed one call later.
             for folder in (self.archive, remote):
                 shutil.rmtree(folder)
-            shutil.copytree(self.path("kept"), self.archive)
-            os.mkdir(remote)
+                shutil.copytree(self.path("kept", os.path.basename(folder)), folder)
             done = self.steps(count, "close")
             if done.returncode == 0:
                 break
@@ -342,6 +342,7 @@ class Catalogues(WithArchive):
             self.add()
             self.do("close")
         os.unlink(os.path.join(self.archive, "closed", "T-000002.img"))
+        os.rename(os.path.join(remote, "T-000002.img"), self.path("T-000002.img"))
         for name in os.listdir(self.archive):
             if name.startswith("catalogue"):
                 os.unlink(os.path.join(self.archive, name))
@@ -352,7 +353,7 @@ class Catalogues(WithArchive):
         write(os.path.join(self.source, "c"), b"c")
         self.add()
         self.assertEqual([volume["volume"] for volume in self.volumes()], ["T-000001", "T-000003"])
-        shutil.copy(os.path.join(remote, "T-000002.img"), os.path.join(self.archive, "closed"))
+        shutil.copy(self.path("T-000002.img"), os.path.join(self.archive, "closed"))
         self.do("rebuild")
         self.assertEqual(len({row["path"] for row in self.rows()}), 3)
         self.require_agreed()

@@ -222,9 +222,13 @@ class Shared(WithOlder):
         self.assertEqual(self.do("check", "--remotes").last()["failures"], [])
 
     def test_the_image_itself_is_no_copy(self) -> None:
-        self.init("--copies", os.path.join(self.archive, "closed"))
+        self.init("--copies", self.copies)
         self.change_source("a")
         self.add()
+        os.rename(self.copies, self.copies + ".away")
+        self.do("close", status=1)
+        os.rename(self.copies + ".away", self.copies)
+        os.link(os.path.join(self.archive, "closed", "T-000001.img"), os.path.join(self.copies, "T-000001.img"))
         self.assertIn("is the image itself", self.do("close", status=1).last()["failures"][0])
         self.assertEqual(self.add("--delete-source").last()["deleted"], 0)
 

@@ -99,10 +99,10 @@ class Adder:
 
     # ---- what became of files
 
-    def _kept(self, jobs: List[Job]) -> None:
-        """The catalogue has files."""
-        self.summary.files += sum(1 for job in jobs if job.first == 0)
-        self.summary.bytes += sum(job.planned_bytes() for job in jobs)
+    def _kept(self, jobs: List[Job], count: int) -> None:
+        """The catalogue has all of files."""
+        self.summary.files += len(jobs)
+        self.summary.bytes += count
         if self.options.delete_source:
             self.deleter.stored(jobs)
 

@@ -86,12 +86,12 @@ class SqliteBase(Base):
             self._base.execute("PRAGMA cache_size = -65536")
             # PostgreSQL has it.
             self._base.create_function("reverse", 1, backwards, deterministic=True)
-        except sqlite3.Error as error:
+        except (sqlite3.Error, UnicodeDecodeError) as error:
             raise self._trouble(error) from error
         if not there:
             sync_folder(os.path.dirname(path))
 
-    def _trouble(self, error: sqlite3.Error) -> CatalogueError:
+    def _trouble(self, error: Exception) -> CatalogueError:
         told = f"{shown(self.path)}: {error}"
         if isinstance(error, sqlite3.OperationalError):
             return CatalogueError(f"{told}: check that the disk works and has room, and run the command again")
@@ -100,19 +100,19 @@ class SqliteBase(Base):
     def run(self, statement: str, values: Sequence[Any] = ()) -> List[Row]:
         try:
             return self._base.execute(statement, values).fetchall()
-        except sqlite3.Error as error:
+        except (sqlite3.Error, UnicodeDecodeError) as error:
             raise self._trouble(error) from error
 
     def many(self, statement: str, rows: Sequence[Sequence[Any]]) -> None:
         try:
             self._base.executemany(statement, rows)
-        except sqlite3.Error as error:
+        except (sqlite3.Error, UnicodeDecodeError) as error:
             raise self._trouble(error) from error
 
     def stream(self, statement: str, values: Sequence[Any] = ()) -> Iterator[Row]:
         try:
             yield from self._base.execute(statement, values)
-        except sqlite3.Error as error:
+        except (sqlite3.Error, UnicodeDecodeError) as error:
             raise self._trouble(error) from error
 
     @contextmanager

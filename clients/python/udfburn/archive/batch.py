@@ -56,8 +56,11 @@ def sound_length(image: str) -> Optional[int]:
     if not image.endswith(".img"):
         return None
     try:
-        with open(tail_note(image), encoding="ascii") as file:
-            return int(file.read())
+        with open(tail_note(image), "rb") as file:
+            text = file.read(32)
+        if not text.strip().isdigit():
+            raise ValueError("no number")
+        return int(text)
     except FileNotFoundError:
         return None
     except ValueError as error:

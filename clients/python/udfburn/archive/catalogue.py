@@ -19,8 +19,8 @@ from .names import kept_name, name_back
 from .schema import COMMITS, VERSION, statements
 from .trigrams import NameIndex
 
-OPEN, FULL, CLOSING, CLOSED, NEW = "open", "full", "closing", "closed", "new"
-"""The states of a volume. NEW has its number and maybe no image yet."""
+OPEN, FULL, CLOSING, CLOSED, NEW, RETIRED = "open", "full", "closing", "closed", "new", "retired"
+"""The states of a volume. NEW has its number and maybe no image yet. RETIRED is a closed one that nobody is asked for any more."""
 
 FOLDERS = 100_000
 """Ids of folders that are remembered, at most."""
@@ -217,6 +217,10 @@ class Catalogue:
         statement = """INSERT INTO copy (volume, remote, made, checked, trouble) VALUES (?, ?, ?, ?, ?) ON CONFLICT (volume, remote)
         DO UPDATE SET made = excluded.made, checked = excluded.checked, trouble = excluded.trouble"""
         self.base.run(statement, tuple(copy))
+
+    def forget_copies(self, remote: str) -> None:
+        """Keeps nothing of the copies on a remote."""
+        self.base.run("DELETE FROM copy WHERE remote = ?", (remote,))
 
     # ---- files
 
@@ -432,6 +436,6 @@ def is_whole(group: Sequence[Held]) -> bool:
 
 
 __all__ = [
-    "CLOSED", "CLOSING", "Catalogue", "Copy", "FULL", "Held", "NEW", "OPEN", "VolumeRow", "as_of", "image_of", "is_whole",
+    "CLOSED", "CLOSING", "Catalogue", "Copy", "FULL", "Held", "NEW", "OPEN", "RETIRED", "VolumeRow", "as_of", "image_of", "is_whole",
     "part_count", "versions",
 ]

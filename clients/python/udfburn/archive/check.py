@@ -143,7 +143,7 @@ class Checker:
         """Looks at a copy on a remote."""
         self.tell.working(f"reading {row.label} on {copy.remote}")
         try:
-            found = remote_of(copy.remote).look(row.label + ".img")
+            found = remote_of(self.catalogue, copy.remote).look(row.label + ".img")
         except CopyFailed as error:
             self.failures.append(f"{row.label}: the copy on {copy.remote} cannot be checked: {error}")
             return
@@ -201,8 +201,8 @@ class Repairer:
             self.catalogue.save(row._replace(trouble=None, checked=now()))
         for copy in self.catalogue.copies(row.number):
             try:
-                if remote_of(copy.remote).look(row.label + ".img") != wanted:
-                    send(row, image, copy.remote)
+                if remote_of(self.catalogue, copy.remote).look(row.label + ".img") != wanted:
+                    send(self.catalogue, row, image, copy.remote)
                     self._did(row, f"the copy on {copy.remote}", "the image at hand")
             except CopyFailed as error:
                 self.failures.append(f"{row.label}: the copy on {copy.remote}: {error}")
@@ -215,7 +215,7 @@ class Repairer:
         why: Dict[str, str] = {}
         for copy in self.catalogue.copies(row.number):
             try:
-                remote_of(copy.remote).fetch(row.label + ".img", new)
+                remote_of(self.catalogue, copy.remote).fetch(row.label + ".img", new)
                 sync_file(new)
                 if print_of_file(new, fresh=True) != wanted:
                     raise CopyFailed("is not as it was closed")
@@ -244,7 +244,7 @@ class Repairer:
             path = beside(image, end)
             if not os.path.lexists(path):
                 try:
-                    remote_of(remote).fetch(os.path.basename(path), path + ".new")
+                    remote_of(self.catalogue, remote).fetch(os.path.basename(path), path + ".new")
                     os.rename(path + ".new", path)
                 except (CopyFailed, OSError) as error:
                     self.tell.note(f"{shown(path)}: {error}", did="not repaired", path=path)

@@ -59,6 +59,7 @@ def add_writers(subs: "Subs") -> None:
     init.add_argument("--copies", nargs="+", default=[], metavar="REMOTE", help="where closed volumes are copied to: absolute paths of folders, or rclone remotes as NAME:PATH")
     init.add_argument("--copies-wanted", type=int, metavar="N", help="how many remotes must have a volume before its sources are deleted (default: all)")
     init.add_argument("--delete", choices=("acknowledged", "copied"), help="when --delete-source may delete: once a volume has acknowledged the file, or once that volume is closed and copied (default: copied if there are remotes)")
+    init.add_argument("--same-device", action="store_true", help="allow folders for copies on the disk of the archive itself: copies there are lost with it")
     init.add_argument("--json", action="store_true", help="print a line of JSON with the result")
     init.add_argument("--quiet", action="store_true", help="print nothing but errors")
 
@@ -76,6 +77,11 @@ def add_writers(subs: "Subs") -> None:
 
     repair = command(subs, "repair", "replace damaged or lost images by good copies, and damaged copies by good images")
     repair.add_argument("volume", nargs="*", metavar="VOLUME", help="labels of volumes (default: all in which check found damage)")
+
+    remote = command(subs, "remote", "list, add or remove the places for copies")
+    remote.add_argument("action", choices=("list", "add", "remove"), metavar="list|add|remove", help="'add' also lets a folder that is in archive.toml already take copies")
+    remote.add_argument("remote", nargs="?", metavar="REMOTE", help="a folder, or an rclone remote as NAME:PATH")
+    remote.add_argument("--same-device", action="store_true", help="allow folders for copies on the disk of the archive itself: copies there are lost with it")
 
     adopt = command(subs, "adopt", "take over a volume from another folder of this archive whose machine is gone")
     adopt.add_argument("volume", metavar="VOLUME", help="the label of the volume")
@@ -125,6 +131,7 @@ def add_readers(subs: "Subs") -> None:
 COMMANDS: Dict[str, str] = {
     "init": "commands", "add": "commands", "rebuild": "commands", "ls": "lookups", "find": "lookups", "history": "lookups", "where": "lookups",
     "get": "queries", "status": "queries", "report": "queries", "adopt": "closing", "close": "closing", "check": "closing", "repair": "closing",
+    "remote": "remote_command",
 }
 
 

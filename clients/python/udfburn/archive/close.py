@@ -24,7 +24,7 @@ from .bag import info, tag_manifest
 from .catalogue import CLOSED, CLOSING, Catalogue, Copy, Held, VolumeRow, image_of
 from .claims import Claims
 from .config import Config, write_file
-from .contents import Contents, File, read_fields
+from .contents import SIZE, Contents, File, number, read_fields
 from .errors import ArchiveError, CopyFailed, NotAtHand, VolumeDiffers
 from .remotes import Print, Remote, print_of_file, remote_of
 from .tell import Tell, plural, shown_path, stamp
@@ -43,8 +43,11 @@ def sidecar(image: str) -> Tuple[int, bytes]:
     """The length and the digest that an image had when it was closed; of one that has none kept, those that it has now."""
     try:
         with open(beside(image, ".info"), "rb") as file:
-            fields = read_fields(file.read())
-        return int(fields["length"]), bytes.fromhex(fields["sha256"])
+            fields = read_fields(file.read(limits.FILE))
+        digest = bytes.fromhex(fields["sha256"])
+        if len(digest) != sha256().digest_size:
+            raise ValueError("no SHA-256")
+        return number(fields["length"], SIZE), digest
     except (OSError, KeyError, ValueError):
         found = print_of_file(image)
         return found.length, found.sha256
@@ -237,7 +240,7 @@ class Closer:
                 continue
             self.tell.working(f"copying {row.label} to {name}")
             try:
-                send(row, image, name)
+                send(self.catalogue, row, image, name)
             except CopyFailed as error:
                 self.failures.append(f"{row.label}: is not on {name}: {error}")
                 continue
@@ -283,10 +286,11 @@ def read_payload(contents: Contents, rows: Sequence[Held], sent: Mapping[int, by
     return Payload([Line(digests[node.path], node.path) for node in contents.payload()], size, damaged)
 
 
-def send(row: VolumeRow, image: str, name: str) -> None:
+def send(catalogue: Catalogue, row: VolumeRow, image: str, name: str) -> None:
     """Copies a closed volume to a remote, the image first, where it is not there; and compares all its bytes as they are there."""
-    remote, wanted = remote_of(name), Print(row.length or 0, row.sha256 or b"")
+    remote, wanted = remote_of(catalogue, name), Print(row.length or 0, row.sha256 or b"")
     base = os.path.basename(image)
+    remote.require_own()
     if remote.is_file(image, base):
         raise CopyFailed("what is there is the image itself, and no copy")
     if remote.look(base) != wanted:

@@ -12,7 +12,10 @@ from .add import Adder, Options
 from .catalogue import Catalogue
 from .config import FILE, LOCAL, check_label, check_remote, checked, config_of, is_url, strange, write
 from .errors import BadConfig, NoArchive
-from .rebuild import Rebuilder, open_or_make, open_to_compare
+from .markers import Owner, require_place, write_marker
+from .rebuild import Rebuilder
+from .remake import open_or_make, open_to_compare
+from .remotes import owner_of
 from .scan import targets
 from .tell import plural, size, tell_of
 
@@ -33,10 +36,15 @@ def init(arguments: argparse.Namespace) -> int:
     table = {
         "format": 1, "id": str(uuid.uuid4()), "label": check_label(arguments.label), "catalogue": catalogue, "capacity": arguments.capacity,
         "copies": copies, "copies_wanted": wanted, "delete": arguments.delete or ("copied" if wanted else "acknowledged"),
+        "same_device": arguments.same_device,
     }
     config = checked(folder, table, "init")
     make_folder(folder)
-    Catalogue(config, make=True).base.close()
+    for copy in filter(os.path.isabs, copies):
+        require_place(Owner(folder, "", config.label, config.same_device), copy)
+    with Catalogue(config, make=True) as made:
+        for copy in filter(os.path.isabs, copies):
+            write_marker(owner_of(made), copy)
     write(config)
     line = f"made the archive {config.label} in {shown(folder)}"
     tell_of(arguments).result(line, archive=folder, label=config.label, catalogue=config.catalogue)
@@ -73,8 +81,9 @@ def add(arguments: argparse.Namespace) -> int:
 def rebuild(arguments: argparse.Namespace) -> int:
     """Makes the catalogue again."""
     config, tell = config_of(arguments), tell_of(arguments)
-    with (open_to_compare if arguments.dry_run else open_or_make)(config, tell) as catalogue:
-        summary = Rebuilder(config, catalogue, tell, arguments.dry_run).run(arguments.image)
+    catalogue, kept = (open_to_compare if arguments.dry_run else open_or_make)(config, tell)
+    with catalogue:
+        summary = Rebuilder(config, catalogue, tell, arguments.dry_run, kept).run(arguments.image)
     for difference in summary.differences:
         tell.say(f"{difference.volume} {difference.path}: {difference.how}", did="differs", **difference._asdict())
     for volume, count in summary.unknown.items():

@@ -5,9 +5,10 @@ from __future__ import annotations
 import argparse
 import os
 import re
+import stat
 from contextlib import suppress
 from importlib import import_module
-from typing import Any, Dict, List, NamedTuple, Optional, Set, Tuple
+from typing import Any, Dict, Iterable, List, NamedTuple, Optional, Set, Tuple
 
 from ..ledger_file import make_folder, sync_file, sync_folder
 from ..protocol import is_bytes, limits
@@ -26,14 +27,15 @@ LABEL = 30 - 7
 """Letters of an archive's label: a volume's label has a hyphen and six digits more, and at most 30 letters."""
 
 DELETIONS = ("acknowledged", "copied")
-KEYS = {"format", "id", "label", "catalogue", "capacity", "copies", "copies_wanted", "delete"}
+KEYS = {"format", "id", "label", "catalogue", "capacity", "copies", "copies_wanted", "delete", "same_device"}
 
 
 class Config(NamedTuple):
     """What `archive.toml` says.
 
     `id` is drawn once a folder. `capacity` is the blocks of a new volume. `copies` are the places where closed volumes are
-    sent. `wanted` of them have to have a volume before a source is deleted by `delete = "copied"`.
+    sent. `wanted` of them have to have a volume before a source is deleted by `delete = "copied"`. `same_device` allows folders for
+    copies on the archive's own disk.
     """
 
     folder: str
@@ -44,6 +46,7 @@ class Config(NamedTuple):
     copies: Tuple[str, ...]
     wanted: int
     delete: str
+    same_device: bool = False
 
     def path(self, *names: str) -> str:
         """A path in the archive's folder."""
@@ -72,12 +75,16 @@ def volume_label(label: str, number: int) -> str:
 
 
 def traces(config: Config) -> Set[int]:
-    """The numbers of volumes of which a file is in the folder of the archive, or in a folder for copies."""
-    own = re.compile(re.escape(config.label) + r"-([0-9]{6,})\.[a-z0-9]+")
+    """The numbers of volumes of which a file is in the folder of the archive, or in a folder for copies. An empty file, or one with a
+    number that no volume has, is none of a volume."""
+    own = re.compile(re.escape(config.label) + r"-([0-9]{6,9})\.[a-z0-9]+")
     found: Set[int] = set()
     for folder in (config.path("closed"), config.path("open"), *filter(os.path.isabs, config.copies)):
-        with suppress(OSError):
-            found.update(int(match.group(1)) for match in map(own.fullmatch, os.listdir(folder)) if match)
+        with suppress(OSError), os.scandir(folder) as entries:
+            for entry in entries:
+                match = own.fullmatch(entry.name)
+                if match and entry.stat().st_size:
+                    found.add(int(match.group(1)))
     return found
 
 
@@ -141,12 +148,15 @@ def checked(folder: str, table: Dict[str, Any], where: str) -> Config:
     if unknown:
         raise BadConfig(f"{where}: has unknown fields: {', '.join(unknown)}")
     copies = field(table, "copies", list, where)
+    same_device = table.get("same_device", False)
+    if not isinstance(same_device, bool):
+        raise BadConfig(f"{where}: same_device must be true or false")
     if not all(isinstance(copy, str) for copy in copies):
         raise BadConfig(f"{where}: copies must be a list of strings")
     found = Config(
         folder, field(table, "id", str, where), check_label(field(table, "label", str, where)), field(table, "catalogue", str, where),
         field(table, "capacity", int, where), tuple(check_remote(copy) for copy in copies), field(table, "copies_wanted", int, where),
-        field(table, "delete", str, where),
+        field(table, "delete", str, where), same_device,
     )
     check_different(found.copies, where)
     if not limits.CAPACITY[0] <= found.capacity <= limits.CAPACITY[1]:
@@ -160,8 +170,8 @@ def checked(folder: str, table: Dict[str, Any], where: str) -> Config:
 
 def text(config: Config) -> str:
     """`archive.toml` of an archive."""
-    copies = ", ".join(quoted(copy) for copy in config.copies)
-    return f"""# An archive of udfburn-archive(1). `copies`, `copies_wanted`, `delete` and `capacity` may be changed.
+    same_device = "\n# Folders for copies may be on the disk of the archive itself.\nsame_device = true" if config.same_device else ""
+    return f"""# An archive of udfburn-archive(1). `copies_wanted`, `delete` and `capacity` may be changed. 'remote' changes `copies`.
 format = {FORMAT}
 id = {quoted(config.id)}
 label = {quoted(config.label)}
@@ -169,12 +179,43 @@ catalogue = {quoted(config.catalogue)}
 # Blocks of 2,048 bytes of a new volume.
 capacity = {config.capacity}
 # Where closed volumes are sent: absolute paths of folders, or remotes of rclone.
-copies = [{copies}]
+copies = {quoted_list(config.copies)}
 # How many of them have to have a volume before a source is deleted, where delete is "copied".
 copies_wanted = {config.wanted}
 # When --delete-source deletes: "acknowledged" (the volume has the file) or "copied".
-delete = {quoted(config.delete)}
+delete = {quoted(config.delete)}{same_device}
 """
+
+
+def quoted_list(values: Iterable[str]) -> str:
+    """An array of strings of TOML."""
+    return "[" + ", ".join(map(quoted, values)) + "]"
+
+
+def with_field(text: str, key: str, value: str) -> str:
+    """The text of an `archive.toml` with another value of a field. All else stays as the user has it."""
+    tomllib: Any = import_module("tomllib")
+    lines = text.splitlines(keepends=True)
+    for first, line in enumerate(lines):
+        for last in range(first + 1, len(lines) + 1) if re.match(rf"\s*{key}\s*=", line) else ():
+            with suppress(ValueError):
+                tomllib.loads("".join(lines[first:last]))
+                return "".join([*lines[:first], f"{key} = {value}\n", *lines[last:]])
+    return text.rstrip("\n") + f"\n{key} = {value}\n"
+
+
+def change(config: Config, **values: str) -> Config:
+    """Changes fields of an archive's `archive.toml`, whose values are those of TOML."""
+    where = config.path(FILE)
+    with open(where, encoding="utf-8") as file:
+        new = file.read()
+        mode = os.fstat(file.fileno()).st_mode & 0o777
+    for key, value in values.items():
+        new = with_field(new, key, value)
+    tomllib: Any = import_module("tomllib")
+    found = checked(config.folder, tomllib.loads(new), shown(where))
+    write_file(where, new.encode(), mode)
+    return found
 
 
 def quoted(value: str) -> str:
@@ -193,10 +234,11 @@ def write(config: Config) -> None:
     write_file(config.path(FILE), text(config).encode())
 
 
-def write_file(path: str, data: bytes) -> None:
-    """Writes a file that has its name once it is whole and on the disk."""
+def write_file(path: str, data: bytes, mode: int = 0o666) -> None:
+    """Writes a file that has its name once it is whole and on the disk. It never has more permissions than the mode."""
     new = path + ".new"
-    with open(new, "wb") as file:
+    with open(new, "wb", opener=lambda name, flags: os.open(name, flags | os.O_CLOEXEC, mode)) as file:
+        os.fchmod(file.fileno(), stat.S_IMODE(os.fstat(file.fileno()).st_mode) & mode)
         file.write(data)
     sync_file(new)
     os.replace(new, path)

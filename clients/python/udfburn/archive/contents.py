@@ -3,6 +3,7 @@ which knows the medium's format alone."""
 
 from __future__ import annotations
 
+import re
 from bisect import bisect_left, bisect_right
 from hashlib import sha256
 from typing import Dict, Iterator, List, NamedTuple, Optional, Set, Tuple
@@ -12,11 +13,14 @@ from ..protocol import Path, limits
 from ..reader import Kind, Medium, Node, NoVolume, State, Volume
 from .batch import sound_length
 from .catalogue import Held, part_count
-from .errors import VolumeDiffers
-from .names import DESCRIPTION, read_back, text_of
+from .errors import CannotStore, VolumeDiffers
+from .names import DESCRIPTION, kept_name, read_back, text_of
+from .schema import COMMITS, NUMBERS
 
 TITLE = "udfburn-archive 1"
 """The first line of the text that each volume of an archive begins with; its number is that of the layout."""
+
+NUMBER, ARCHIVE = re.compile("[0-9]{1,19}"), re.compile("[0-9a-f-]{36}")
 
 ABOUT = "volume.txt"
 RUNS = "runs"
@@ -63,6 +67,17 @@ def read_fields(data: bytes) -> Dict[str, str]:
     return found
 
 
+SIZE = (1 << 62) - 1
+"""The greatest size of a file that a description may give."""
+
+
+def number(text: str, most: int) -> int:
+    """The number that plain digits say, or `ValueError` where it is greater than it may be. Whoever made a volume wrote them."""
+    if not NUMBER.fullmatch(text) or int(text) > most:
+        raise ValueError(f"{text[:40]!r} is no number from 0 to {most}")
+    return int(text)
+
+
 def read_about(data: bytes, where: str) -> About:
     """What `volume.txt` says, or `VolumeDiffers`."""
     title = data.decode("utf-8", "replace").split("\n", 1)[0]
@@ -70,7 +85,9 @@ def read_about(data: bytes, where: str) -> About:
         raise VolumeDiffers(f"{where}: is not a volume of an archive, or not of one that this program knows: {ABOUT} begins with {title[:40]!r}")
     fields = read_fields(data)
     try:
-        return About(fields["archive"], fields["label"], int(fields["volume"]))
+        if not ARCHIVE.fullmatch(fields["archive"]):
+            raise ValueError(f"{fields['archive'][:40]!r} is not the id of an archive")
+        return About(fields["archive"], fields["label"], number(fields["volume"], NUMBERS))
     except (KeyError, ValueError) as error:
         raise VolumeDiffers(f"{where}: {ABOUT} does not name its archive, label and volume") from error
 
@@ -110,6 +127,8 @@ class Contents:
         chain = self.volume.chain()
         self.addresses = [table.address for table in reversed(chain)]
         self.first_commit, self.last_commit = chain[-1].commit, chain[0].commit
+        if not 0 <= self.first_commit <= self.last_commit < COMMITS:
+            raise VolumeDiffers(f"{self.image}: says that it has {self.last_commit} commits, which no volume has")
         self.last_address = chain[0].address
         self.label, self.formatted = self.volume.label or "", self.volume.moment or 0
         self.capacity = self.volume.capacity or limits.CAPACITY[1]
@@ -193,7 +212,10 @@ class Contents:
         """A file in parts, by its description."""
         fields = read_fields(self.bytes_of(node))
         try:
-            size, first, digest = int(fields["size"]), int(fields["first part"]), bytes.fromhex(fields["sha256"])
+            size, digest = number(fields["size"], SIZE), bytes.fromhex(fields["sha256"])
+            first = number(fields["first part"], part_count(size))
+            if len(digest) != 32:
+                raise ValueError("no SHA-256")
         except (KeyError, ValueError) as error:
             raise VolumeDiffers(f"{self.image}: {text_of(node.path)} does not describe a file in parts") from error
         nodes: List[Node] = []
@@ -230,6 +252,7 @@ class Contents:
         """The rows of the catalogue. Digests of files that are known by their commits are not computed anew."""
         found = []
         for file in self.files():
+            require_keepable(self.image, file)
             old = known.get(file.commit) if known else None
             same = old is not None and (old.path, old.size, old.moment) == (file.path, file.size, file.moment)
             found.append(file.held(number, old.sha256 if old is not None and same else self.digest(file)))
@@ -238,3 +261,14 @@ class Contents:
     def payload(self) -> List[Node]:
         """The files of the payload, in order of their paths."""
         return [node for path, node in sorted(self.nodes.items()) if path[:1] == (PAYLOAD,) and node.kind is Kind.FILE]
+
+
+def require_keepable(image: str, file: File) -> None:
+    """Raises where a catalogue cannot keep a file: whoever made the volume did not take it from one."""
+    try:
+        for name in file.path:
+            kept_name(name)
+    except CannotStore as error:
+        raise VolumeDiffers(f"{image}: {error}") from error
+    if not 0 <= file.size <= SIZE:
+        raise VolumeDiffers(f"{image}: {text_of(file.path)} has a size that no file has")

@@ -7,7 +7,7 @@ from typing import Callable, Dict, Iterator, List, Sequence
 from ..errors import Full
 from ..operations import Operation, Outcome
 from ..protocol import Code, MakeDir, Path, limits
-from .catalogue import FULL, Catalogue
+from .catalogue import FULL, Catalogue, is_whole
 from .claims import Claims
 from .config import Config
 from .errors import VolumeDiffers
@@ -19,14 +19,11 @@ from .volume import OpenVolume, open_new, own_volumes
 BATCH_FILES, BATCH_BYTES = 512, 64 * limits.FILE
 """Files, and their bytes, that are planned on a volume before they are sent."""
 
-KEEP = BATCH_FILES
-"""Files that are stored before the catalogue has them, at most."""
-
 OPEN_MOST = 4
 """Open volumes of one run. The files of a folder go to the first that has room for all of them."""
 
-Kept = Callable[[List[Job]], None]
-"""Is called for files that the catalogue has."""
+Kept = Callable[[List[Job], int], None]
+"""Is called for files of which the catalogue has all, with the bytes that this run sent of them."""
 
 Failed = Callable[[Job, str], None]
 """Is called for a file that was not stored, with the reason."""
@@ -43,6 +40,8 @@ class Filler:
         self.open: List[OpenVolume] = []
         self.planned: Dict[int, List[Job]] = {}
         self.weights: Dict[int, int] = {}
+        self.sent: Dict[Path, int] = {}
+        """The bytes that this run sent of files of which the archive has no more than parts."""
         # What an earlier run left comes first, so that the catalogue has all that the volumes have.
         self.refused: Dict[int, str] = {}
         """The volumes that this run does not use, and why."""
@@ -170,8 +169,6 @@ class Filler:
         try:
             for outcome in volume.run(lambda: operations(volume, jobs), len(jobs), sum(job.planned_bytes() for job in jobs)):
                 self._take(volume, outcome, done)
-                if len(done) >= KEEP:
-                    self._keep(volume, done)
         except Full:
             full = True
         # Of a file that was cut the volume has its first parts, and the next run goes on after them.
@@ -227,11 +224,14 @@ class Filler:
         fresh = sum(1 for job in (*done, *cut) if job.begun == job.first)
         volume.row = volume.filled(volume.last_commit, volume.row.files + fresh)
         self.catalogue.add(volume.row, rows)
-        finished = list(done)
-        done.clear()
-        for job in finished:
-            self.tell.step("stored", job.source.path, job.planned_bytes(), volume.row.label, job.commit)
-        self.kept(finished)
+        for job in (*done, *cut):
+            self.sent[job.source.path] = self.sent.get(job.source.path, 0) + job.sent_bytes()
+        # A file is stored once all of it is: other parts may be on their way to another volume.
+        whole = [job for job in done if not job.in_parts() or is_whole(job.rows_in(self.catalogue))]
+        sent = [self.sent.pop(job.source.path, 0) for job in whole]
+        for job, count in zip(whole, sent):
+            self.tell.step("stored", job.source.path, count, volume.row.label, job.commit)
+        self.kept(whole, sum(sent))
 
 
 def operations(volume: OpenVolume, jobs: Sequence[Job]) -> Iterator[Operation]:

@@ -11,7 +11,7 @@ from ..errors import SourceChanged, SourceError
 from ..operations import Operation
 from ..protocol import AnyRequest, Create, MakeDir, Path, limits
 from ..sources import Source, exactly, open_to_read, origin_of, read_parts, shown, unchanged
-from .catalogue import Held, part_count
+from .catalogue import Catalogue, Held, part_count
 from .contents import Contents, File
 from .names import DESCRIPTION
 from .tree import Place, Tree
@@ -59,6 +59,10 @@ class Job:
     def planned_bytes(self) -> int:
         """The bytes that are sent by what was planned."""
         return min(self.size(), len(self.parts) * limits.FILE) if self.in_parts() else self.size()
+
+    def sent_bytes(self) -> int:
+        """The bytes of what is stored by now."""
+        return min(self.size(), self.done * limits.FILE) if self.in_parts() else self.size()
 
     def stored(self) -> bool:
         """Whether all that was planned is stored."""
@@ -155,6 +159,12 @@ class Job:
         source = self.source
         parts = (self.begun, self.first - self.begun + self.done) if self.in_parts() else (None, None)
         return Held(volume, self.commit, source.path, source.identity.size, source.moment(), self.digest, added, *parts)
+
+    def rows_in(self, catalogue: Catalogue) -> List[Held]:
+        """The rows that a catalogue has of this version of the file, the newest first."""
+        source = self.source
+        key = (source.path, source.identity.size, source.moment(), self.digest)
+        return [row for row in catalogue.of_path(source.path) if row.version() == key]
 
 
 def parts_from(source: Source, first: int) -> Generator[bytes, None, None]:

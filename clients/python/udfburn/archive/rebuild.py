@@ -2,31 +2,31 @@
 
 from __future__ import annotations
 
-import atexit
 import os
+import re
 import signal
-import sqlite3
-import time
 from collections import deque
 from concurrent.futures import Future, ProcessPoolExecutor
 from concurrent.futures.process import BrokenProcessPool
-from contextlib import closing, contextmanager
+from contextlib import closing, contextmanager, suppress
 from functools import partial
 from multiprocessing import active_children, get_context, resource_tracker
-from shutil import rmtree
-from tempfile import mkdtemp
-from typing import Callable, Deque, Dict, Generator, Iterable, Iterator, List, NamedTuple, Optional, Tuple
+from tempfile import TemporaryDirectory
+from typing import Callable, Deque, Dict, Generator, Iterable, Iterator, List, NamedTuple, Optional, Set, Tuple
 
-from ..ledger_file import sync_folder
+from ..errors import UdfburnError
+from ..operations import now
 from ..sources import shown
 from .bag import manifest_size
-from .base import SqliteBase
-from .catalogue import CLOSED, CLOSING, FULL, NEW, OPEN, Catalogue, Held, VolumeRow
+from .catalogue import CLOSED, CLOSING, FULL, NEW, OPEN, RETIRED, Catalogue, Copy, Held, VolumeRow
 from .claims import claims_of
-from .close import sidecar
-from .config import LOCAL, Config, traces, volume_label
+from .close import beside, sidecar
+from .config import Config, traces, volume_label
 from .contents import ABOUT, About, Contents
-from .errors import ArchiveError, CatalogueError, Claimed, VolumeDiffers
+from .errors import ArchiveError, CatalogueError, Claimed, CopyFailed, VolumeDiffers
+from .markers import move_marker
+from .remake import NOTHING, Kept
+from .remotes import Print, Remote, owner_of, print_of_file, remote_of
 from .tell import Tell, plural, shown_path
 
 
@@ -63,50 +63,6 @@ def images(config: Config, others: List[str]) -> Iterator[Tuple[str, bool]]:
                 yield os.path.join(folder, name), closed
 
 
-def open_or_make(config: Config, tell: Tell) -> Catalogue:
-    """The catalogue; a new one where it is lost. One that cannot be read is put aside, and not deleted."""
-    try:
-        return Catalogue(config, make=True)
-    except CatalogueError as error:
-        path = config.sqlite()
-        if path is None or not os.path.isfile(path) or not is_broken(path):
-            raise
-        aside = f"{path}.damaged-{int(time.time())}"
-        tell.note(f"{error}; it is kept as {shown(aside)}", did="put aside", path=aside)
-        for end in ("-wal", "-shm", ""):
-            if os.path.lexists(path + end):
-                os.rename(path + end, aside + end)
-        sync_folder(os.path.dirname(path))
-        return Catalogue(config, make=True)
-
-
-def open_to_compare(config: Config, tell: Tell) -> Catalogue:
-    """The catalogue, for a run that changes nothing. In the place of one that is lost or damaged it is an empty one, which goes with this
-    process."""
-    try:
-        return Catalogue(config)
-    except CatalogueError as error:
-        path = config.sqlite()
-        if path is None or os.path.isfile(path) and not is_broken(path):
-            raise
-        tell.note(f"{error}: the volumes are compared with an empty one", did="no catalogue", path=path)
-    folder = mkdtemp()
-    atexit.register(rmtree, folder, ignore_errors=True)
-    return Catalogue(config._replace(catalogue=os.path.join(folder, LOCAL)), make=True)
-
-
-def is_broken(path: str) -> bool:
-    """Whether a file is not an intact SQLite database. One that cannot be read now, as where the disk is full, may well be one."""
-    try:
-        base = SqliteBase(path, False)
-        try:
-            return base.run("PRAGMA integrity_check") != [("ok",)]
-        finally:
-            base.close()
-    except CatalogueError as error:
-        return not isinstance(error.__cause__, sqlite3.OperationalError)
-
-
 STDERR = 2
 """The descriptor of the standard error."""
 
@@ -120,7 +76,14 @@ class Read(NamedTuple):
 
 
 def read_volume(image: str, closed: bool, holder: str) -> Optional[Read]:
-    """Reads a volume; None where it holds none of an archive yet."""
+    """Reads a volume; None where it holds none of an archive yet. One that cannot be read, or says what no volume says, is `VolumeDiffers`."""
+    try:
+        return _read_volume(image, closed, holder)
+    except (ValueError, OverflowError, RecursionError, OSError) as error:
+        raise VolumeDiffers(f"{shown(image)}: cannot be read as a volume of an archive ({error})") from error
+
+
+def _read_volume(image: str, closed: bool, holder: str) -> Optional[Read]:
     with Contents(image) as contents:
         if (ABOUT,) not in contents.nodes:
             return None
@@ -204,21 +167,35 @@ def begin_reading() -> None:
     signal.pthread_sigmask(signal.SIG_UNBLOCK, {signal.SIGINT})
 
 
+def fetched(remote: Remote, base: str, folder: str) -> str:
+    """The path of an image that is brought from a remote into a folder, with what is known of it."""
+    image = os.path.join(folder, base)
+    remote.fetch(base, image)
+    with suppress(CopyFailed):
+        remote.fetch(os.path.basename(beside(image, ".info")), beside(image, ".info"))
+    return image
+
+
 class Rebuilder:
     """A run of `rebuild`."""
 
-    def __init__(self, config: Config, catalogue: Catalogue, tell: Tell, dry_run: bool):
-        self.config, self.catalogue, self.tell, self.dry_run = config, catalogue, tell, dry_run
+    def __init__(self, config: Config, catalogue: Catalogue, tell: Tell, dry_run: bool, kept: Kept = NOTHING):
+        self.config, self.catalogue, self.tell, self.dry_run, self.kept = config, catalogue, tell, dry_run, kept
         self.summary = Summary()
         self.claims = claims_of(catalogue.base, config.path("locks"), config.catalogue)
         self._seen: Dict[int, Tuple[int, int]] = {}
         """The moment of the format and the last commit of each volume that was read, by its number."""
+        self._remote: Set[int] = set()
+        """Those that were read on a remote."""
 
     def run(self, others: List[str]) -> Summary:
         """Reads each volume at hand, and has the catalogue say what it says."""
         found = list(images(self.config, others))
         try:
             self._all(found)
+            if not self.dry_run:
+                self._look_on_remotes()
+                self._take_over()
             self._look_for_others()
             if not self.dry_run:
                 self.summary.names = self.catalogue.mend_names()
@@ -234,15 +211,64 @@ class Rebuilder:
                 for image, read in volumes:
                     try:
                         self._one(image, read())
-                    except (VolumeDiffers, Claimed) as error:
+                    except CatalogueError:
+                        raise
+                    except (UdfburnError, ValueError, OverflowError) as error:
+                        # It is left out, and the others are as good without it.
                         self.summary.failures.append(str(error))
         except BrokenProcessPool as error:
             raise ArchiveError("a process that reads volumes was killed: run 'rebuild' again") from error
 
+    def _look_on_remotes(self) -> None:
+        """Volumes that are not at hand may be on a remote: the catalogue learns their files, where it does not know them, and the copies."""
+        own = re.compile(re.escape(self.config.label) + r"-([0-9]{6,9})\.img")
+        for name in self.config.copies:
+            try:
+                remote = remote_of(self.catalogue, name)
+                found = [int(match.group(1)) for match in map(own.fullmatch, sorted(remote.names())) if match]
+            except CopyFailed as error:
+                self.tell.note(f"{name} was not looked at: {error}", did="not looked at", remote=name)
+                continue
+            for number in found:
+                copies = [copy.remote for copy in self.catalogue.copies(number)]
+                if name not in copies and (number not in self._seen or number in self._remote):
+                    self._on_remote(remote, number)
+
+    def _on_remote(self, remote: Remote, number: int) -> None:
+        """Reads a volume that is on a remote, and keeps that it is there."""
+        base = volume_label(self.config.label, number) + ".img"
+        self.tell.working(f"reading {base} on {remote.name}")
+        try:
+            with TemporaryDirectory(prefix=".rebuild-", dir=self.config.folder) as folder:
+                image = remote.path_of(base) or fetched(remote, base, folder)
+                if number not in self._seen:
+                    read = read_volume(image, True, self.config.id)
+                    if read is None or read.row.state != CLOSED or read.about.number != number:
+                        raise VolumeDiffers(f"{remote.name}: {base}: is not this volume as it was closed, and was left out")
+                    self._one(image, read)
+                    self._remote.add(number)
+                row = self.catalogue.volume(number)
+                good = row is not None and print_of_file(image, fresh=True) == Print(row.length or 0, row.sha256 or b"")
+            self.catalogue.save_copy(Copy(number, remote.name, now(), now(), None if good else "is not as it was closed"))
+        except CatalogueError:
+            raise
+        except (UdfburnError, ValueError, OverflowError, OSError) as error:
+            self.summary.failures.append(str(error))
+
+    def _take_over(self) -> None:
+        """Keeps what could be read of the copies in a damaged catalogue, of the volumes that are known."""
+        closed = {row.number for row in self.catalogue.volumes() if row.state in (CLOSED, RETIRED)}
+        have = {(copy.volume, copy.remote) for copy in self.catalogue.copies()}
+        for copy in self.kept.copies:
+            if copy.volume in closed and (copy.volume, copy.remote) not in have:
+                self.catalogue.save_copy(copy)
+        for number in self.kept.volumes:
+            self.catalogue.keep_numbers_above(number)
+
     def _look_for_others(self) -> None:
         """Volumes whose images are elsewhere leave their traces. No new one gets the number of one of them."""
         known = {row.number for row in self.catalogue.volumes()}
-        for number in sorted(traces(self.config) - known):
+        for number in sorted((traces(self.config) | set(self.kept.volumes)) - known):
             self.summary.lacking.append(volume_label(self.config.label, number))
             if not self.dry_run:
                 self.catalogue.keep_numbers_above(number)
@@ -251,9 +277,13 @@ class Rebuilder:
         """The images that are read. One that may still be written is claimed before."""
         for image, closed in found:
             try:
+                if not os.path.isfile(image):
+                    raise VolumeDiffers(f"{shown(image)}: is not a regular file, and was left out")
                 if not closed:
                     self._claim(image)
-            except (VolumeDiffers, Claimed) as error:
+            except CatalogueError:
+                raise
+            except (UdfburnError, ValueError, OverflowError, OSError) as error:
                 self.summary.failures.append(str(error))
                 continue
             yield image, closed
@@ -270,17 +300,20 @@ class Rebuilder:
         about, number = read.about, read.about.number
         if about.label != self.config.label or not self._is_ours(about.archive):
             raise VolumeDiffers(f"{shown(image)}: belongs to another archive, {about.label} {about.archive}")
+        if read.row.label != volume_label(self.config.label, number):
+            raise VolumeDiffers(f"{shown(image)}: has the label {read.row.label!r}, and {ABOUT} says volume {number}: it was left out")
         state = (read.row.formatted, read.row.last_commit)
         if number in self._seen:
             if self._seen[number] != state:
                 raise VolumeDiffers(f"{shown(image)}: is another state of {read.row.label} than the image that was read before, and was left out")
             return
+        known = self.catalogue.of_volume(number)
         old, closed = self.catalogue.volume(number), read.row.state == CLOSED
+        is_new, old = old is None and not known, old or self.kept.volumes.get(number)
         if old is not None and not closed and self._is_older(old, read.row):
             raise VolumeDiffers(f"{shown(image)}: is an older copy of {old.label}, which was closed or taken over since, and was left out")
         self._seen[number] = state
-        known = self.catalogue.of_volume(number)
-        if old is None and not known:
+        if is_new:
             self.summary.unknown[read.row.label] = len(read.rows)
         else:
             self._compare(read.row.label, known, read.rows)
@@ -302,6 +335,9 @@ class Rebuilder:
             return False
         if not self.dry_run:
             self.catalogue.base.run("UPDATE archive SET id = ?", (archive,))
+            for folder in filter(os.path.isabs, self.config.copies):
+                with suppress(CopyFailed):
+                    move_marker(owner_of(self.catalogue), archive, folder)
         self.catalogue.id = archive
         return True
 

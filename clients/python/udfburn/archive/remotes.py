@@ -3,16 +3,19 @@
 from __future__ import annotations
 
 import errno
+import json
 import os
 import shutil
 import subprocess
 from hashlib import sha256
 from tempfile import TemporaryFile
-from typing import IO, Iterator, List, NamedTuple, Optional
+from typing import IO, Any, Dict, List, NamedTuple, Optional
 
 from ..ledger_file import sync_file, sync_folder
 from ..sources import shown
+from .catalogue import Catalogue
 from .errors import CopyFailed
+from .markers import Owner, require_own
 
 PIECE = 1 << 20
 
@@ -68,17 +71,64 @@ class Remote:
         """The length and the digest of a file there, by all its bytes; None where it is not there."""
         raise NotImplementedError
 
+    def ask(self, name: str) -> Optional[Print]:
+        """The length and the digest of a file as the place itself says now; by all its bytes where it keeps no digests."""
+        return self.look(name)
+
+    def length(self, name: str) -> Optional[int]:
+        """The length of a file there, of which no byte is read; None where it is not there."""
+        raise NotImplementedError
+
+    def names(self) -> List[str]:
+        """The names of the files there."""
+        raise NotImplementedError
+
+    def require_own(self) -> None:
+        """Raises `CopyFailed` where this is no place for copies of this archive now, as where its disk is not mounted."""
+
     def is_file(self, local: str, name: str) -> bool:
         """Whether a file there is a local one itself."""
         return False
+
+    def path_of(self, name: str) -> Optional[str]:
+        """The path under which this machine can read a file there; None where there is none."""
+        return None
 
 
 class FolderRemote(Remote):
     """A folder."""
 
+    def __init__(self, name: str, owner: Owner):
+        super().__init__(name)
+        self.owner = owner
+
+    def require_own(self) -> None:
+        require_own(self.owner, self.name)
+
+    def path_of(self, name: str) -> Optional[str]:
+        return os.path.join(self.name, name)
+
+    def names(self) -> List[str]:
+        try:
+            with os.scandir(self.name) as entries:
+                return [entry.name for entry in entries if entry.is_file()]
+        except OSError as error:
+            raise CopyFailed(f"{shown(self.name)}: {error.strerror or error}") from error
+
+    def length(self, name: str) -> Optional[int]:
+        try:
+            return os.stat(os.path.join(self.name, name)).st_size
+        except FileNotFoundError:
+            # Of a disk that is not mounted nothing is known.
+            self.require_own()
+            return None
+        except OSError as error:
+            raise CopyFailed(f"{shown(os.path.join(self.name, name))}: {error.strerror or error}") from error
+
     def send(self, local: str, name: str) -> None:
         target = os.path.join(self.name, name)
         new = target + ".new"
+        self.require_own()
         try:
             shutil.copyfile(local, new)
             sync_file(new)
@@ -99,8 +149,7 @@ class FolderRemote(Remote):
             return print_of_file(path, fresh=True)
         except FileNotFoundError:
             # Of a disk that is not mounted nothing is known, and nothing is written in its place.
-            if not os.path.isdir(self.name):
-                raise CopyFailed(f"{shown(self.name)}: is not there: mount it, or make the folder") from None
+            self.require_own()
             return None
         except OSError as error:
             if error.errno == errno.EIO:
@@ -142,6 +191,32 @@ class RcloneRemote(Remote):
     def fetch(self, name: str, local: str) -> None:
         self._run(["copyto", "--ignore-times", self._path(name), local])
 
+    def _said(self, name: str, *words: str) -> Optional[Dict[str, Any]]:
+        """What the remote says of a file; None where it is not there."""
+        text = self._run(["lsjson", "--stat", "--files-only", *words, self._path(name)], missing=True)
+        if text is None:
+            return None
+        try:
+            found = json.loads(text)
+        except ValueError as error:
+            raise CopyFailed(f"rclone lsjson {self.name}: prints what is no JSON") from error
+        return found if isinstance(found, dict) and not found.get("IsDir") else None
+
+    def names(self) -> List[str]:
+        told = self._run(["lsf", "--files-only", self.name], missing=True) or b""
+        return told.decode(errors="surrogateescape").splitlines()
+
+    def length(self, name: str) -> Optional[int]:
+        found = self._said(name)
+        return None if found is None else int(found["Size"])
+
+    def ask(self, name: str) -> Optional[Print]:
+        found = self._said(name, "--hash")
+        if found is None:
+            return None
+        digests = {key.lower().replace("-", ""): value for key, value in (found.get("Hashes") or {}).items()}
+        return Print(int(found["Size"]), bytes.fromhex(digests["sha256"])) if digests.get("sha256") else self.look(name)
+
     def look(self, name: str) -> Optional[Print]:
         if not self._run(["lsf", "--files-only", self._path(name)], missing=True):
             return None
@@ -162,11 +237,12 @@ def last_line(told: bytes) -> str:
     return lines[-1] if lines else ""
 
 
-def remote_of(name: str) -> Remote:
+def owner_of(catalogue: Catalogue) -> Owner:
+    """Whose copies folders take."""
+    config = catalogue.config
+    return Owner(config.folder, catalogue.id, config.label, config.same_device)
+
+
+def remote_of(catalogue: Catalogue, name: str) -> Remote:
     """The place of a name in `archive.toml`."""
-    return FolderRemote(name) if os.path.isabs(name) else RcloneRemote(name)
-
-
-def remotes_of(names: "tuple[str, ...]") -> Iterator[Remote]:
-    """The places of an archive."""
-    return map(remote_of, names)
+    return FolderRemote(name, owner_of(catalogue)) if os.path.isabs(name) else RcloneRemote(name)

@@ -16,6 +16,9 @@ VERSION = 3
 COMMITS = 1 << 18
 """More than a volume has commits: 450,000 blocks hold at most 224,868 of two blocks each."""
 
+NUMBERS = 10**9 - 1
+"""The greatest number of a volume."""
+
 FIRST = """
 CREATE TABLE archive (id {text} PRIMARY KEY, version INTEGER NOT NULL, label {text} NOT NULL, next_volume BIGINT NOT NULL);
 CREATE TABLE holder (id {text} PRIMARY KEY, host {text} NOT NULL, place {text} NOT NULL);

@@ -25,6 +25,7 @@ from .claims import Claims
 from .config import Config, traces, volume_label
 from .contents import ABOUT, RUNS, TITLE, Contents, File
 from .errors import LOST, CatalogueError, VolumeDiffers
+from .schema import NUMBERS
 from .tell import plural, stamp
 from .tree import Tree
 
@@ -337,6 +338,8 @@ def new_row(config: Config, catalogue: Catalogue) -> VolumeRow:
     """A volume with the next number, that no other process gets."""
     with catalogue.base.transaction():
         number = catalogue.new_number()
+        if number > NUMBERS:
+            raise CatalogueError(f"the catalogue would give a new volume the number {number}, which no volume has: {REBUILD}")
         later = [other for other in traces(config) if other >= number]
         if later:
             # Its number would be that of another volume, which it would replace one day.

@@ -1,0 +1,191 @@
+"""Where the bytes of volumes are now: on the image at hand, else on a copy in a folder, else on a remote that says so when it is asked.
+
+The catalogue says where to look. What it says of bytes counts for nothing here.
+"""
+
+from __future__ import annotations
+
+import os
+from itertools import zip_longest
+from typing import Dict, Iterator, List, Optional, Sequence
+
+from ..sources import Source, read_parts, shown
+from .catalogue import CLOSED, Catalogue, Copy, Held, VolumeRow, image_of, part_count
+from .config import Config
+from .contents import Contents, File
+from .errors import CopyFailed, VolumeDiffers
+from .job import digest_of, same_parts
+from .remotes import Print, remote_of
+
+OPEN_MOST = 4
+"""Volumes that are kept open to be read."""
+
+
+class Reading:
+    """A volume as it is read now: its files by their commits."""
+
+    def __init__(self, image: str):
+        settle(image)
+        self.contents = Contents(image)
+        try:
+            self._place = self._found()
+            self.files: Dict[int, File] = {file.commit: file for file in self.contents.files()}
+        except BaseException:
+            self.contents.close()
+            raise
+
+    def _found(self) -> "tuple[int, int]":
+        status = os.stat(self.contents.image)
+        return status.st_dev, status.st_ino
+
+    def is_there(self) -> bool:
+        """Whether the image still has its name: one that is gone can be read as long as it is open."""
+        try:
+            return self._found() == self._place
+        except OSError:
+            return False
+
+    def has(self, source: Source, held: Held) -> bool:
+        """Whether the bytes of a row are those of its source, both read now; `SourceError` where the source cannot be read as it was."""
+        file = self.files.get(held.commit)
+        if file is None or (file.path, file.size, file.moment, file.first, file.parts) != (held.path, held.size, held.moment, held.first, held.parts):
+            return False
+        if held.parts is not None:
+            return file.sha256 == held.sha256 and same_parts(source, self.contents, file)
+        return same_bytes(source, self.contents.pieces(file))
+
+    def close(self) -> None:
+        self.contents.close()
+
+
+def same_bytes(source: Source, pieces: Iterator[bytes]) -> bool:
+    """Whether a source has these bytes, and no others."""
+    return all(one == other for one, other in zip_longest(read_parts(source), pieces))
+
+
+def settle(image: str) -> None:
+    """Has what is read of an image come from its disk, and not from what the system has in memory and may never write."""
+    try:
+        descriptor = os.open(image, os.O_RDONLY | os.O_NONBLOCK | os.O_CLOEXEC)
+        try:
+            os.fsync(descriptor)
+            os.posix_fadvise(descriptor, 0, 0, os.POSIX_FADV_DONTNEED)
+        finally:
+            os.close(descriptor)
+    except OSError as error:
+        raise VolumeDiffers(f"{shown(image)}: {error.strerror or error}") from error
+
+
+class Places:
+    """The places that have volumes, each looked at when it is first asked for."""
+
+    def __init__(self, config: Config, catalogue: Catalogue):
+        self.config, self.catalogue = config, catalogue
+        self._open: Dict[str, Reading] = {}
+        self._said: Dict[int, Optional[str]] = {}
+        """What remotes said of whole volumes: why they do not have one, or None."""
+
+    def close(self) -> None:
+        for reading in self._open.values():
+            reading.close()
+        self._open = {}
+
+    def why_not(self, source: Source, held: Held, volume: VolumeRow) -> Optional[str]:
+        """Why nothing shows now that a volume has the bytes of a source; None where something does."""
+        image = image_of(self.config, volume)
+        if image is not None:
+            return None if self._has(image, source, held) else f"since {volume.label} does not have them as they were stored: check it"
+        copies = [copy for copy in self.catalogue.copies(volume.number) if copy.trouble is None]
+        for copy in copies:
+            path = self._in_folder(volume, copy)
+            if path is not None:
+                return None if self._has(path, source, held) else f"since the copy of {volume.label} on {copy.remote} does not have them: 'check --remotes'"
+        why = self._why_not_remote(held, volume, [copy.remote for copy in copies if not os.path.isabs(copy.remote)])
+        return why if why is not None or digest_of(source) == held.sha256 else f"since {volume.label} does not have them as they were stored: check it"
+
+    def _in_folder(self, volume: VolumeRow, copy: Copy) -> Optional[str]:
+        """The path of a copy in a folder that is there now."""
+        remote = remote_of(self.catalogue, copy.remote)
+        path = remote.path_of(volume.label + ".img")
+        try:
+            if path is not None and os.path.isfile(path):
+                remote.require_own()
+                return path
+        except CopyFailed:
+            pass
+        return None
+
+    def _has(self, image: str, source: Source, held: Held) -> bool:
+        try:
+            return self._reading(image).has(source, held)
+        except VolumeDiffers:
+            return False
+
+    def _reading(self, image: str) -> Reading:
+        reading = self._open.get(image)
+        if reading is not None and not reading.is_there():
+            self._open.pop(image).close()
+            reading = None
+        if reading is None:
+            if len(self._open) >= OPEN_MOST:
+                self._open.pop(next(iter(self._open))).close()
+            reading = self._open[image] = Reading(image)
+        return reading
+
+    def _why_not_remote(self, held: Held, volume: VolumeRow, names: Sequence[str]) -> Optional[str]:
+        """Why no remote that is no folder shows that it has a volume."""
+        if volume.state != CLOSED or not names:
+            return f"since {volume.label} is not at hand"
+        if held.parts not in (None, part_count(held.size)):
+            # Whose parts they are only the bytes of all the volumes say.
+            return f"since {volume.label}, which has parts of them, is on {names[0]} alone: 'repair {volume.label}' brings it back"
+        if volume.number not in self._said:
+            self._said[volume.number] = self._ask(volume, names)
+        return self._said[volume.number]
+
+    def _ask(self, volume: VolumeRow, names: Sequence[str]) -> Optional[str]:
+        told: List[str] = []
+        for name in names:
+            try:
+                found = remote_of(self.catalogue, name).ask(volume.label + ".img")
+            except CopyFailed as error:
+                told.append(str(error))
+                continue
+            if found == Print(volume.length or 0, volume.sha256 or b""):
+                return None
+            told.append(f"the copy on {name} {'is not there' if found is None else 'is not as it was closed'}")
+        return f"since {volume.label} is not at hand, and {'; '.join(told)}"
+
+    def why_not_copied(self, volume: VolumeRow) -> Optional[str]:
+        """Why a volume does not count as copied: each copy that counts is asked now whether it is there, with its length."""
+        wanted = self.config.wanted
+        if volume.state != CLOSED:
+            return f"until {volume.label} is closed and on {wanted} remotes"
+        good = 0
+        told: List[str] = []
+        for copy in self.catalogue.copies(volume.number):
+            if good < wanted and copy.trouble is None and copy.remote in self.config.copies:
+                why = self._why_no_copy(volume, copy)
+                if why is None:
+                    good += 1
+                else:
+                    told.append(why)
+        if good >= wanted:
+            return None
+        return f"until {volume.label} is closed and on {wanted} remotes" + "".join(f"; {why}" for why in told)
+
+    def _why_no_copy(self, volume: VolumeRow, copy: Copy) -> Optional[str]:
+        name, image = volume.label + ".img", image_of(self.config, volume)
+        try:
+            remote = remote_of(self.catalogue, copy.remote)
+            remote.require_own()
+            length = remote.length(name)
+            itself = image is not None and remote.is_file(image, name)
+        except CopyFailed as error:
+            return str(error)
+        if length != volume.length or itself:
+            return f"the copy on {copy.remote} {'is the image itself' if itself else 'is not there' if length is None else 'has another length'}: 'repair {volume.label}'"
+        return None
+
+
+__all__ = ["Places", "Reading", "same_bytes"]
