@@ -118,16 +118,16 @@ class Commands(Local):
 
     def test_failures_before_an_early_end(self) -> None:
         """A file that was not stored is named where the import goes no further than the next one, by a name that breaks no line."""
-        local, real = self.write("a\nb"), os.open
+        local, real = os.path.basename(self.write("a\nb")), os.open
         self.write("c", b"too much")
         self.server.before = lambda payload: p.FULL if getattr(request_of(payload), "data", b"") == b"too much" else None
 
-        def opened(path: str, *rest: int) -> int:
+        def opened(path: str, *rest: int, **how: int) -> int:
             if path == local:
                 raise PermissionError(13, "Permission denied")
-            return real(path, *rest)
+            return real(path, *rest, **how)
 
-        with mock.patch("udfburn.sources.os.open", opened), mock.patch("udfburn.tree.CHUNK", 1):
+        with mock.patch("udfburn.beneath.os.open", opened), mock.patch("udfburn.tree.CHUNK", 1):
             told = self.words("put", "-r", "--delete-source", self.folder, "/x", status=1)
         self.assertEqual(told[:2], ["made /x", f"udfburn-client: {self.folder}/a\\nb: Permission denied"])
         self.assertRegex(told[2], "no room for /x/c")

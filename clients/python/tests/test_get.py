@@ -10,7 +10,7 @@ import unittest
 from typing import Callable, Dict, List, Set
 from unittest import mock
 
-from udfburn import disk, errors as e, fetch, saving
+from udfburn import beneath, disk, errors as e, fetch, saving
 
 from .programs import PATIENCE, WithPrograms
 from .test_local import Local
@@ -70,7 +70,7 @@ class Killed(WithPrograms):
     def test_what_a_killed_one_left_is_removed(self) -> None:
         """Also where the file itself came to be otherwise; and nothing else is."""
         for name in ("0/3", "1/58"):
-            left = saving.temporary_name(os.path.join(self.back, name))
+            left = os.path.join(self.back, os.path.dirname(name), saving.temporary_name(os.path.basename(name)))
             os.makedirs(os.path.dirname(left))
             with open(left, "wb") as file:
                 file.write(b"part of it")
@@ -99,11 +99,12 @@ class Killed(WithPrograms):
 
     def test_a_forced_one_that_waits_for_others(self) -> None:
         """A file that another process is writing is not taken from it."""
-        local = os.path.join(self.room, "a")
-        with mock.patch.object(saving, "UNNAMED", 0), saving.Saver(True) as first:
-            first.save(local, [b"first"], None, lambda count: None)
-            with saving.Saver(True) as second, self.assertRaisesRegex(e.SourceError, "another process is writing it"):
-                second.save(local, [b"second"], None, lambda count: None)
+        root = beneath.Root.open(self.room)
+        self.addCleanup(root.close)
+        with mock.patch.object(saving, "UNNAMED", 0), saving.Saver(root, True) as first:
+            first.save(("a",), [b"first"], None, lambda count: None)
+            with saving.Saver(root, True) as second, self.assertRaisesRegex(e.SourceError, "another process is writing it"):
+                second.save(("a",), [b"second"], None, lambda count: None)
             first.finish()
         self.assertEqual(self.read("a"), b"first")
 
@@ -204,12 +205,12 @@ class Goes(Local):
         os.unlink(os.path.join(self.back, "b"))
         real = os.open
 
-        def opened(path: str, *rest: int) -> int:
-            if path == os.path.join(self.back, "a"):
+        def opened(path: str, *rest: int, **how: int) -> int:
+            if path == "a":
                 raise PermissionError(13, "Permission denied")
-            return real(path, *rest)
+            return real(path, *rest, **how)
 
-        with mock.patch("udfburn.sources.os.open", opened):
+        with mock.patch("udfburn.beneath.os.open", opened):
             summary = self.fetched()
         self.assertEqual((summary.files, summary.same, len(summary.failures)), (1, 1, 1))
         self.assertEqual(sorted(self.there()), ["a", "b", "d/c"])
@@ -239,17 +240,17 @@ class Goes(Local):
 
     def test_the_bytes_are_on_the_disk_before_the_name(self) -> None:
         order: List[str] = []
-        real = saving.link_open
+        real = beneath.Root.link_open
 
-        def link(descriptor: int, local: str) -> None:
+        def link(root: beneath.Root, descriptor: int, names: beneath.Names) -> None:
             order.append("named")
-            real(descriptor, local)
+            real(root, descriptor, names)
 
         def synced(descriptor: int) -> bool:
             order.append("synced")
             return True
 
-        with mock.patch.object(saving, "sync_all", synced), mock.patch.object(saving, "link_open", link):
+        with mock.patch.object(saving, "sync_all", synced), mock.patch.object(beneath.Root, "link_open", link):
             self.fetched()
         self.assertEqual(order, ["synced", "named", "named", "named"])
 
@@ -263,7 +264,7 @@ class Goes(Local):
     def synced(self, fetched: Callable[[], fetch.Fetched]) -> Set[str]:
         """The folders whose names are made durable where no file is copied."""
         folders: List[str] = []
-        with mock.patch.object(saving, "sync_names", folders.append):
+        with mock.patch.object(beneath, "sync_folder", lambda descriptor: folders.append(os.readlink(f"/proc/self/fd/{descriptor}"))):
             self.assertEqual(fetched().files, 0)
         return set(folders)
 

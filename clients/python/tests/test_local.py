@@ -15,6 +15,7 @@ from unittest import mock
 from udfburn import Client, blocks, errors as e, fetch, saving, split, tree
 from udfburn.jobs import Job
 from udfburn import protocol as p
+from udfburn.beneath import place_of
 from udfburn.sources import Identity, Scan, Source, delete, read_parts, scan
 from udfburn.tree import Options, put_all
 
@@ -225,7 +226,7 @@ class Changes(Local):
 
     def test_two_changes_in_one_tick(self) -> None:
         """Older systems give both one time: then a file that was read between them is not taken for the one that is there."""
-        fstat, lstat = os.fstat, os.lstat
+        fstat, named = os.fstat, os.stat
 
         class ByTicks:
             """What an older system says of a file: its times are those of the last tick, of 10 ms here."""
@@ -237,8 +238,8 @@ class Changes(Local):
                 told: int = getattr(self.status, name)
                 return told // 10**7 * 10**7 if name.endswith("time_ns") else told
 
-        with mock.patch("udfburn.sources.os.fstat", lambda descriptor: ByTicks(fstat(descriptor))), \
-                mock.patch("udfburn.sources.os.lstat", lambda path: ByTicks(lstat(path))):
+        with mock.patch("udfburn.beneath.os.fstat", lambda descriptor: ByTicks(fstat(descriptor))), \
+                mock.patch("udfburn.beneath.os.stat", lambda *words, **how: ByTicks(named(*words, **how))):
             for name in "abc":
                 local, found = self.write(name, b"first"), Scan()
                 scan(local, (name,), False, False, found)
@@ -273,12 +274,12 @@ class Changes(Local):
         self.write("b")
         real = os.open
 
-        def opened(path: str, *rest: int) -> int:
-            if path == local:
+        def opened(path: str, *rest: int, **how: int) -> int:
+            if path == "a":
                 raise PermissionError(13, "Permission denied")
-            return real(path, *rest)
+            return real(path, *rest, **how)
 
-        with mock.patch("udfburn.sources.os.open", opened):
+        with mock.patch("udfburn.beneath.os.open", opened):
             summary = self.put(delete_source=True)
         self.assertEqual((summary.files, summary.failures), (1, [f"{local}: Permission denied"]))
         self.assertTrue(os.path.exists(local))
@@ -295,14 +296,14 @@ class Changes(Local):
         local, real = self.write("a", b"of another"), os.open
         flags: List[int] = []
 
-        def opened(path: str, how: int, *rest: int) -> int:
-            if path == local:
+        def opened(path: str, how: int, *rest: int, **more: int) -> int:
+            if path == os.path.basename(local):
                 flags.append(how)
                 if how & os.O_NOATIME:
                     raise PermissionError(1, "Operation not permitted")
-            return real(path, how, *rest)
+            return real(path, how, *rest, **more)
 
-        with mock.patch("udfburn.sources.os.open", opened):
+        with mock.patch("udfburn.beneath.os.open", opened):
             self.assertEqual(self.put().files, 1)
         self.assertEqual(self.volume.files()[("x", "a")], b"of another")
         self.assertEqual([bool(how & os.O_NOATIME) for how in flags], [True, False])
@@ -393,7 +394,7 @@ class Changes(Local):
     def test_lists_of_requests(self) -> None:
         """Files are stored as one list, by 64 where something is done after them, and never too many bytes at once."""
         status = os.stat(self.write("a", bytes(10)))
-        source = Source(self.folder, (), Identity.of(status))
+        source = Source(place_of(self.folder), (), Identity.of(status))
 
         def sizes(count: int, **options: bool) -> List[int]:
             importer = tree.Importer(self.client(), Options(**options))  # type: ignore[arg-type]
@@ -472,7 +473,7 @@ class Fetch(Local):
             yield b"of the volume"
 
         for link, unnamed in ((os.link, saving.UNNAMED), (os.link, 0), (mock.Mock(side_effect=refused), 0)):
-            with mock.patch("udfburn.saving.os.link", link), mock.patch.object(saving, "UNNAMED", unnamed):
+            with mock.patch("udfburn.beneath.os.link", link), mock.patch.object(saving, "UNNAMED", unnamed):
                 with self.assertRaisesRegex(e.SourceError, "already exists"):
                     fetch.save(local, parts(), None, False)
                 with open(local, "rb") as file:

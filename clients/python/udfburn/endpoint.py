@@ -6,6 +6,7 @@ import errno
 import os
 from typing import TYPE_CHECKING, Optional, Union
 
+from .beneath import status_given
 from .connection import Connection, ImageConnection, UnixConnection, check_word, find_program
 from .errors import ProgramFailed, UsageError
 from .protocol import is_bytes, shown
@@ -38,6 +39,10 @@ class Endpoint:
     def key(self) -> Union[str, bytes]:
         """The endpoint's name in a ledger, by the file that links lead to; as bytes where these are not UTF-8."""
         return key_of(self.kind, self.path)
+
+    def status(self) -> Optional[os.stat_result]:
+        """What the system says of the socket or the image; None where it says nothing."""
+        return status_given(self.path)
 
     def open(self, timeout: float = 120.0) -> Connection:
         """A new conversation, or `Lost`. `timeout` is the longest wait in it, in seconds."""

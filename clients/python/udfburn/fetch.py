@@ -7,14 +7,14 @@ import stat
 from contextlib import closing, contextmanager
 from typing import TYPE_CHECKING, Dict, Iterator, List, NamedTuple, Sequence, Tuple
 
+from .beneath import Names, NotFollowed, Root, folder_mode, mode_for, place_of
 from .compare import Comparison, verify_tree
-from .disk import sync_names
+from .disk import is_full
 from .errors import DiskFull, SourceError
 from .escape import decode
 from .protocol import Data, Get, Path, shown
 from .refusals import expected
-from .saving import PREFIX, Saver, remove_leftovers, save
-from .sources import open_to_read
+from .saving import PREFIX, Saver, remove_leftovers, save, why_not_written
 from .stored import Stored, Tree, find_file
 from .walk import Told, quiet
 
@@ -37,9 +37,9 @@ def parts_of(client: Client, files: Sequence[Stored]) -> Iterator[Iterator[Tuple
 
 
 class Target(NamedTuple):
-    """A file of the volume, and the local one that it becomes."""
+    """A file of the volume, and the local one that it becomes, below the folder that is copied into."""
 
-    local: str
+    names: Names
     file: Stored
 
 
@@ -57,30 +57,35 @@ class Fetcher:
     def __init__(self, client: Client, split: bool = False, force: bool = False, told: Told = quiet):
         self.client, self.split, self.force, self.told = client, split, force, told
         self.summary = Fetched()
+        # Nobody may read a copy who may not read the volume.
+        self._mode = mode_for(client.endpoint.status())
 
     def tree(self, path: Path, local: str) -> Fetched:
         """Copies a directory into a local folder: one that is new or empty, or that an interrupted copy made, unless `force`."""
         with self.client.held():
             tree = Tree().walk(self.client, path)
             files = tree.files(self.split)
-            folders = [os.path.join(local, *map(decode, at[len(path) :])) for at in tree.directories(files)]
-            targets = [Target(os.path.join(local, *map(decode, file.path[len(path) :])), file) for file in files]
+            folders = [local_names(at[len(path) :]) for at in tree.directories(files)]
+            targets = [Target(local_names(file.path[len(path) :]), file) for file in files]
             if not self.force:
-                require_own(local, [os.path.relpath(place, local).split(os.sep)[0] for place in folders[1:] + [target.local for target in targets]])
-            self._copy(folders, targets)
+                require_own(local, {names[0] for names in folders + [target.names for target in targets] if names})
+            with Root.make(local, folder_mode(self._mode)) as root:
+                self._copy(root, folders, targets)
         return self.summary
 
     def file(self, path: Path, local: str) -> Fetched:
         """Copies a file."""
         with self.client.held():
-            target = Target(local, find_file(self.client, path, self.split))
-            remove_leftovers(os.path.dirname(local) or ".", [os.path.basename(local)])
-            self._copy([], [target])
+            root, names = place_of(local)
+            with root:
+                target = Target(names, find_file(self.client, path, self.split))
+                remove_leftovers(root, names[:-1], names[-1:])
+                self._copy(root, [], [target])
         return self.summary
 
-    def _copy(self, folders: List[str], targets: List[Target]) -> None:
+    def _copy(self, root: Root, folders: List[Names], targets: List[Target]) -> None:
         """Makes folders and files, all of which are on the disk then."""
-        with Saver(self.force) as saver:
+        with Saver(root, self.force, self._mode) as saver:
             try:
                 self._make_folders(folders, targets, saver)
                 self._files(targets, saver)
@@ -92,43 +97,44 @@ class Fetcher:
             finally:
                 self.summary.failures += saver.failures
 
-    def _make_folders(self, folders: List[str], targets: List[Target], saver: Saver) -> None:
+    def _make_folders(self, folders: List[Names], targets: List[Target], saver: Saver) -> None:
         """Makes the folders, and removes what a killed copy left in those that are there."""
-        names: Dict[str, List[str]] = {}
-        for folder in folders[:1]:
-            # A killed copy may have made it.
-            saver.folder(os.path.dirname(os.path.abspath(folder)))
+        names: Dict[Names, List[str]] = {}
         for target in targets:
-            names.setdefault(os.path.dirname(target.local), []).append(os.path.basename(target.local))
+            names.setdefault(target.names[:-1], []).append(target.names[-1])
         for folder in folders:
-            for changed in make_folder(folder) + [folder]:
-                saver.folder(changed)
-            remove_leftovers(folder, names.get(folder, []))
+            try:
+                saver.make_folder(folder)
+                remove_leftovers(saver.root, folder, names.get(folder, []))
+            except OSError as error:
+                if is_full(error):
+                    raise
+                raise SourceError(f"{shown(saver.root.local(folder))}: {error.strerror}") from error
 
     def _files(self, targets: List[Target], saver: Saver) -> None:
         """Copies files, but those that are there whole."""
-        there = [target for target in targets if os.path.lexists(target.local)]
-        same = self._same([target for target in there if same_size(target)], saver)
-        left = [target for target in targets if target.local not in same]
-        refused = set() if self.force else {target.local for target in there}
+        there = {target.names: status for target in targets for status in [saver.root.find(target.names)] if status is not None}
+        same = self._same([target for target in targets if target.names in there and same_size(target, there[target.names])], saver)
+        left = [target for target in targets if target.names not in same]
+        refused = set() if self.force else set(there)
         for target in left:
-            if target.local in refused:
-                self.summary.failures.append(f"{shown(target.local)}: already exists, with other bytes (--force replaces it)")
-        wanted = [target for target in left if target.local not in refused]
+            if target.names in refused:
+                self.summary.failures.append(f"{shown(saver.root.local(target.names))}: already exists, with other bytes (--force replaces it)")
+        wanted = [target for target in left if target.names not in refused]
         with parts_of(self.client, [target.file for target in wanted]) as files:
             for target, (file, parts) in zip(wanted, files):
                 self._save(target, parts, saver)
             saver.flush()
 
-    def _same(self, targets: List[Target], saver: Saver) -> "set[str]":
+    def _same(self, targets: List[Target], saver: Saver) -> "set[Names]":
         """Those of the local files that have all bytes of the volume's."""
         same = set()
         with parts_of(self.client, [target.file for target in targets]) as files:
             for target, (file, parts) in zip(targets, files):
-                if has_bytes(target.local, parts):
-                    same.add(target.local)
+                if has_bytes(saver.root, target.names, parts):
+                    same.add(target.names)
                     # A killed copy may have given it its name.
-                    saver.folder(os.path.dirname(target.local))
+                    saver.folder(target.names[:-1])
                     self.summary.same += 1
                     self.told("same", file.path, file.size, 0)
         return same
@@ -143,25 +149,29 @@ class Fetcher:
             self.told("got", path, count, 0)
 
         try:
-            saver.save(target.local, parts, target.file.moment, named)
-        except SourceError as error:
-            self.summary.failures.append(str(error))
+            saver.save(target.names, parts, target.file.moment, named)
+        except (SourceError, NotFollowed) as error:
+            self.summary.failures.append(why_not_written(saver.root, target.names, error))
         # The next file's bytes come after those of this one.
         for _ in parts:
             pass
 
 
-def same_size(target: Target) -> bool:
-    """Whether a local file is there that may have the bytes."""
-    status = os.lstat(target.local)
+def local_names(path: Path) -> Names:
+    """The local names of a path of the volume."""
+    return tuple(map(decode, path))
+
+
+def same_size(target: Target, status: os.stat_result) -> bool:
+    """Whether a local file may have the bytes."""
     return stat.S_ISREG(status.st_mode) and status.st_size == target.file.size
 
 
-def has_bytes(local: str, parts: Iterator[bytes]) -> bool:
+def has_bytes(root: Root, names: Names, parts: Iterator[bytes]) -> bool:
     """Whether a local file has these bytes. All are taken. One that cannot be read has others."""
     same = True
     try:
-        with open(open_to_read(local), "rb", buffering=0) as file:
+        with open(root.open_file(names, keep_access_time=True), "rb", buffering=0) as file:
             for part in parts:
                 same = same and exactly(file, len(part)) == part
             return same and not file.read(1)
@@ -183,13 +193,15 @@ def exactly(file: "object", count: int) -> bytes:
     return b"".join(pieces)
 
 
-def require_own(local: str, names: List[str]) -> None:
+def require_own(local: str, names: "set[str]") -> None:
     """Raises where a folder has names that the directory does not have: then it is no copy of it that was interrupted."""
-    if not os.path.lexists(local):
+    try:
+        with Root.open(local) as root:
+            others = [name for name in root.names_in(()) if name not in names and not name.startswith(PREFIX)]
+    except FileNotFoundError:
         return
-    if not os.path.isdir(local):
-        raise SourceError(f"{shown(local)}: already exists, and is not a folder")
-    others = sorted(name for name in os.listdir(local) if name not in set(names) and not name.startswith(PREFIX))
+    except NotADirectoryError:
+        raise SourceError(f"{shown(local)}: already exists, and is not a folder") from None
     if others:
         more = f" and {len(others) - 1} more" if len(others) > 1 else ""
         raise SourceError(f"{shown(local)}: already exists, and has {shown(others[0])}{more}, which the volume does not have (--force goes into it)")
@@ -203,18 +215,4 @@ def get_tree(client: Client, path: Path, local: str, split: bool = False, force:
     return summary.files + summary.same
 
 
-def make_folder(folder: str) -> List[str]:
-    """Makes a folder with those above it, and gives those that have a new name in them. One that is a link is not followed."""
-    if os.path.islink(folder):
-        raise SourceError(f"{shown(folder)}: is a symbolic link")
-    if os.path.isdir(folder):
-        return []
-    if os.path.lexists(folder):
-        raise SourceError(f"{shown(folder)}: already exists, and is not a folder")
-    above = os.path.dirname(os.path.abspath(folder))
-    changed = make_folder(above) if not os.path.isdir(above) else []
-    os.makedirs(folder, exist_ok=True)
-    return changed + [above]
-
-
-__all__ = ["Comparison", "Fetched", "Fetcher", "find_file", "get_tree", "parts_of", "save", "sync_names", "verify_tree"]
+__all__ = ["Comparison", "Fetched", "Fetcher", "find_file", "get_tree", "parts_of", "save", "verify_tree"]

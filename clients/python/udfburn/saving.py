@@ -1,4 +1,4 @@
-"""Local files that are written whole: each has its name once all its bytes are on the disk.
+"""Local files that are written whole, below a folder that the user named: each has its name once all its bytes are on the disk.
 
 Files are written without a name where the file system can do that (O_TMPFILE of Linux), so that nothing is left of one, however the
 process ends. Else they get a name that follows from their own, by which the next run finds and removes what a killed one left.
@@ -14,7 +14,8 @@ import stat
 from contextlib import contextmanager, suppress
 from typing import Callable, Dict, Iterable, Iterator, List, NamedTuple, Optional
 
-from .disk import is_full, sync_all, sync_names
+from .beneath import Names, NotFollowed, Root, folder_mode, place_of
+from .disk import is_full, sync_all
 from .errors import DiskFull, SourceError
 from .protocol import shown
 from .sources import odd
@@ -32,61 +33,69 @@ UNABLE = (errno.EOPNOTSUPP, errno.EISDIR, errno.EINVAL, errno.ENOENT)
 
 
 class Written(NamedTuple):
-    """A file that is written and has not its name yet: its descriptor, the name that it has meanwhile, its own, and its bytes."""
+    """A file that is written and has not its name yet: its descriptor, the path that it has meanwhile, its own, and its bytes."""
 
     descriptor: int
-    temporary: Optional[str]
-    local: str
+    temporary: Optional[Names]
+    names: Names
     size: int
     named: Callable[[int], None]
 
 
 class Saver:
-    """Writes local files. `force` replaces files and links that are there. `failures` has each file that did not get its name, with
-    why."""
+    """Writes local files below a root. `force` replaces files and links that are there, `mode` is that of new files. `failures` has each
+    file that did not get its name, with why."""
 
-    def __init__(self, force: bool):
-        self.force = force
+    def __init__(self, root: Root, force: bool, mode: int = 0o666):
+        self.root, self.force, self.mode = root, force, mode
         self.failures: List[str] = []
         self._written: List[Written] = []
         self._bytes = 0
-        self._folders: Dict[str, None] = {}
+        self._folders: Dict[Names, None] = {}
+        self._above = False
 
     def __enter__(self) -> "Saver":
         return self
 
     def __exit__(self, *_: object) -> None:
         for written in self._written:
-            drop(written)
+            self._drop(written)
         self._written = []
 
-    def save(self, local: str, parts: Iterable[bytes], moment: Optional[int], named: Callable[[int], None]) -> None:
+    def save(self, names: Names, parts: Iterable[bytes], moment: Optional[int], named: Callable[[int], None]) -> None:
         """Writes a file. `named` is called with its bytes once it has its name."""
-        require_place(local, self.force)
-        with full_disk(local):
-            descriptor, temporary = open_new(local)
-            written = Written(descriptor, temporary, local, 0, named)
+        self._require_place(names)
+        with full_disk(self.root.local(names)):
+            descriptor, temporary = self._open_new(names)
+            written = Written(descriptor, temporary, names, 0, named)
             try:
                 count = sum(write_all(descriptor, part) for part in parts)
                 if moment is not None:
                     os.utime(descriptor, ns=(moment * 1000, moment * 1000))
             except BaseException:
-                drop(written)
+                self._drop(written)
                 raise
         self._written.append(written._replace(size=count))
         self._bytes += count
         if len(self._written) >= FILES or self._bytes >= BYTES:
             self.flush()
 
-    def folder(self, path: str) -> None:
+    def make_folder(self, names: Names) -> None:
+        """Makes a folder with those above it. All their names are durable at the end, and that of the root."""
+        self._above = True
+        with self.root.at(names, folder_mode(self.mode)):
+            for depth in range(len(names) + 1):
+                self.folder(names[:depth])
+
+    def folder(self, names: Names) -> None:
         """Has the names in a folder made durable at the end."""
-        self._folders[os.path.abspath(path)] = None
+        self._folders[names] = None
 
     def flush(self) -> None:
         """Makes what is written durable, and gives each file its name."""
         if not self._written:
             return
-        with full_disk(self._written[0].local):
+        with full_disk(self.root.local(self._written[0].names)):
             self._sync()
             while self._written:
                 self._name(self._written[0])
@@ -95,22 +104,25 @@ class Saver:
     def _name(self, written: Written) -> None:
         """Gives the first of the files its name. One whose name another has by now is a failure."""
         try:
-            give_name(written, self.force)
-        except SourceError as error:
-            self.failures.append(str(error))
-            drop(self._written.pop(0))
+            self._give_name(written)
+        except (SourceError, NotFollowed) as error:
+            self.failures.append(why_not_written(self.root, written.names, error))
+            self._drop(self._written.pop(0))
             return
         self._written.pop(0)
         os.close(written.descriptor)
-        self.folder(os.path.dirname(written.local))
+        self.folder(written.names[:-1])
         written.named(written.size)
 
     def finish(self) -> None:
         """Makes all names durable."""
         self.flush()
         for folder in self._folders:
-            sync_names(folder)
-        self._folders = {}
+            self.root.sync(folder)
+        if self._above:
+            # An interrupted run may have made it.
+            self.root.sync_above()
+        self._folders, self._above = {}, False
 
     def _sync(self) -> None:
         """Makes the bytes of all files durable. The first descriptor is called for each write that failed since it was opened."""
@@ -121,6 +133,79 @@ class Saver:
             return
         for written in self._written:
             os.fsync(written.descriptor)
+
+    # ---- one file
+
+    def _require_place(self, names: Names) -> None:
+        """Raises where a file may not have its name."""
+        status, local = self.root.find(names), self.root.local(names)
+        if status is None:
+            return
+        if not self.force:
+            raise taken(local)
+        if not stat.S_ISREG(status.st_mode) and not stat.S_ISLNK(status.st_mode):
+            raise SourceError(f"{shown(local)}: is {'a folder' if stat.S_ISDIR(status.st_mode) else odd(status)}, and is not replaced")
+
+    def _open_new(self, names: Names) -> "tuple[int, Optional[Names]]":
+        """A new file without a name, or with one that follows from its own."""
+        if UNNAMED and os.path.isdir("/proc/self/fd"):
+            try:
+                return self.root.unnamed_file(names[:-1], UNNAMED, self.mode), None
+            except OSError as error:
+                if error.errno not in UNABLE:
+                    raise
+        temporary = names[:-1] + (temporary_name(names[-1]),)
+        remove_left(self.root, temporary)
+        descriptor = self.root.new_file(temporary, self.mode)
+        # By this another process knows that it is no file that was left.
+        fcntl.flock(descriptor, fcntl.LOCK_EX | fcntl.LOCK_NB)
+        return descriptor, temporary
+
+    def _give_name(self, written: Written) -> None:
+        """Gives a file its name; if asked to, in the place of an existing file."""
+        names, temporary = written.names, written.temporary
+        if temporary is None and not (self.force and self.root.find(names) is not None):
+            try:
+                return self.root.link_open(written.descriptor, names)
+            except FileExistsError:
+                raise taken(self.root.local(names)) from None
+        if temporary is None:
+            # A file is replaced by a name alone.
+            temporary = names[:-1] + (temporary_name(names[-1]),)
+            remove_left(self.root, temporary)
+            self.root.link_open(written.descriptor, temporary)
+        try:
+            if self.force:
+                self.root.rename(temporary, names[-1])
+            else:
+                self._name_new(temporary, names)
+        except BaseException:
+            with suppress(FileNotFoundError):
+                self.root.unlink(temporary)
+            raise
+
+    def _name_new(self, made: Names, names: Names) -> None:
+        """Gives a file a name that nothing has yet."""
+        try:
+            try:
+                self.root.link(made, names[-1])
+            except FileExistsError:
+                raise
+            except OSError:
+                # A file system without links: the name is taken first, so that nothing is replaced that has it by now.
+                os.close(self.root.new_file(names, self.mode))
+                self.root.rename(made, names[-1])
+            else:
+                self.root.unlink(made)
+        except FileExistsError:
+            raise taken(self.root.local(names)) from None
+
+    def _drop(self, written: Written) -> None:
+        """Closes a file, and removes the name that it had meanwhile."""
+        if written.temporary is not None:
+            with suppress(FileNotFoundError, NotFollowed):
+                self.root.unlink(written.temporary)
+        os.close(written.descriptor)
 
 
 @contextmanager
@@ -136,16 +221,9 @@ def full_disk(local: str) -> Iterator[None]:
         ) from error
 
 
-def require_place(local: str, force: bool) -> None:
-    """Raises where a file may not have its name."""
-    try:
-        status = os.lstat(local)
-    except FileNotFoundError:
-        return
-    if not force:
-        raise taken(local)
-    if not stat.S_ISREG(status.st_mode) and not stat.S_ISLNK(status.st_mode):
-        raise SourceError(f"{shown(local)}: is {'a folder' if stat.S_ISDIR(status.st_mode) else odd(status)}, and is not replaced")
+def why_not_written(root: Root, names: Names, error: Exception) -> str:
+    """The line of a file that was not written."""
+    return f"{shown(root.local(names))}: {error.strerror}" if isinstance(error, OSError) else str(error)
 
 
 def taken(local: str) -> SourceError:
@@ -153,44 +231,33 @@ def taken(local: str) -> SourceError:
     return SourceError(f"{shown(local)}: already exists (--force replaces it)")
 
 
-def temporary_name(local: str) -> str:
+def temporary_name(name: str) -> str:
     """The name that a file has while it is written, where it has one: always the same one."""
     from hashlib import sha256
 
-    mark = sha256(os.fsencode(os.path.basename(local))).hexdigest()[:16]
-    return os.path.join(os.path.dirname(local), PREFIX + mark)
+    return PREFIX + sha256(os.fsencode(name)).hexdigest()[:16]
 
 
-def open_new(local: str) -> "tuple[int, Optional[str]]":
-    """A new file without a name, or with one that follows from its own."""
-    folder = os.path.dirname(local) or "."
-    if UNNAMED and os.path.isdir("/proc/self/fd"):
-        try:
-            return os.open(folder, UNNAMED | os.O_WRONLY | os.O_CLOEXEC, 0o666), None
-        except OSError as error:
-            if error.errno not in UNABLE or not os.path.isdir(folder):
-                raise
-    temporary = temporary_name(local)
-    remove_left(temporary)
-    descriptor = os.open(temporary, os.O_WRONLY | os.O_CREAT | os.O_EXCL | os.O_CLOEXEC, 0o666)
-    # By this another process knows that it is no file that was left.
-    fcntl.flock(descriptor, fcntl.LOCK_EX | fcntl.LOCK_NB)
-    return descriptor, temporary
-
-
-def remove_left(temporary: str) -> None:
+def remove_left(root: Root, temporary: Names) -> None:
     """Removes what a killed run left under the name of a file that is being written. Raises where a run is at it."""
     try:
-        descriptor = os.open(temporary, os.O_RDONLY | os.O_NOFOLLOW | os.O_NONBLOCK | os.O_CLOEXEC)
+        descriptor = root.open_file(temporary)
     except FileNotFoundError:
         return
     try:
         fcntl.flock(descriptor, fcntl.LOCK_EX | fcntl.LOCK_NB)
-        os.unlink(temporary)
+        opened = os.fstat(descriptor)
+        root.unlink(temporary, lambda status: require_same(opened, status, root.local(temporary)))
     except BlockingIOError:
-        raise SourceError(f"{shown(temporary)}: another process is writing it") from None
+        raise SourceError(f"{shown(root.local(temporary))}: another process is writing it") from None
     finally:
         os.close(descriptor)
+
+
+def require_same(opened: os.stat_result, named: os.stat_result, local: str) -> None:
+    """Raises where a name is by now that of another file."""
+    if not os.path.samestat(opened, named):
+        raise SourceError(f"{shown(local)}: another process is writing it")
 
 
 def write_all(descriptor: int, data: bytes) -> int:
@@ -201,82 +268,28 @@ def write_all(descriptor: int, data: bytes) -> int:
     return len(data)
 
 
-def give_name(written: Written, force: bool) -> None:
-    """Gives a file its name; if asked to, in the place of an existing file."""
-    local, temporary = written.local, written.temporary
-    if temporary is None and not (force and os.path.lexists(local)):
-        try:
-            return link_open(written.descriptor, local)
-        except FileExistsError:
-            raise taken(local) from None
-    if temporary is None:
-        # A file is replaced by a name alone.
-        temporary = temporary_name(local)
-        remove_left(temporary)
-        link_open(written.descriptor, temporary)
-    try:
-        if force:
-            os.replace(temporary, local)
-        else:
-            name_new(temporary, local)
-    except BaseException:
-        with suppress(FileNotFoundError):
-            os.unlink(temporary)
-        raise
-
-
-def link_open(descriptor: int, local: str) -> None:
-    """Gives a name to a file that is open and has none."""
-    # With a descriptor for its folder Python follows the link, as is needed here.
-    os.link(f"/proc/self/fd/{descriptor}", local, src_dir_fd=descriptor, follow_symlinks=True)
-
-
-def name_new(made: str, local: str) -> None:
-    """Gives a file a name that nothing has yet."""
-    try:
-        try:
-            os.link(made, local)
-        except FileExistsError:
-            raise
-        except OSError:
-            # A file system without links: the name is taken first, so that nothing is replaced that has it by now.
-            os.close(os.open(local, os.O_WRONLY | os.O_CREAT | os.O_EXCL | os.O_CLOEXEC))
-            os.rename(made, local)
-        else:
-            os.unlink(made)
-    except FileExistsError:
-        raise taken(local) from None
-
-
-def drop(written: Written) -> None:
-    """Closes a file, and removes the name that it had meanwhile."""
-    if written.temporary is not None:
-        with suppress(FileNotFoundError):
-            os.unlink(written.temporary)
-    os.close(written.descriptor)
-
-
-def remove_leftovers(folder: str, names: Iterable[str]) -> None:
+def remove_leftovers(root: Root, at: Names, names: Iterable[str]) -> None:
     """Removes what a killed run left of files of these names in a folder."""
     wanted = set(names)
     with suppress(FileNotFoundError):
-        there = [name for name in os.listdir(folder) if name.startswith(PREFIX) and name not in wanted]
+        there = [name for name in root.names_in(at) if name.startswith(PREFIX) and name not in wanted]
         if there:
-            left = {os.path.basename(temporary_name(name)) for name in wanted}
+            left = {temporary_name(name) for name in wanted}
             for name in there:
                 if name in left:
-                    remove_left(os.path.join(folder, name))
+                    remove_left(root, at + (name,))
 
 
 def save(local: str, parts: Iterator[bytes], moment: Optional[int], force: bool) -> int:
     """Writes one file whole, and makes its name durable. Gives its bytes."""
     counts: List[int] = []
-    with Saver(force) as saver:
-        saver.save(local, parts, moment, counts.append)
+    root, names = place_of(local)
+    with root, Saver(root, force) as saver:
+        saver.save(names, parts, moment, counts.append)
         saver.finish()
     if saver.failures:
         raise SourceError(saver.failures[0])
     return counts[0]
 
 
-__all__ = ["Saver", "remove_leftovers", "save", "sync_names"]
+__all__ = ["Saver", "remove_leftovers", "save", "why_not_written"]

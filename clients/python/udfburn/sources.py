@@ -1,12 +1,16 @@
-"""Local files and folders: found without following links, read as one whole, deleted only as they were read."""
+"""Local files and folders: found without following links, read as one whole, deleted only as they were read.
+
+Each is known by its place below a folder that the user named, and is found, read and deleted by descriptors from there on.
+"""
 
 from __future__ import annotations
 
 import os
 import stat
 import time
-from typing import Dict, Iterator, List, NamedTuple, Optional
+from typing import Dict, Iterator, List, NamedTuple, Optional, Tuple
 
+from .beneath import Place, Root, open_from_top, place_of
 from .errors import SourceChanged, SourceError
 from .escape import encode
 from .notkept import NotKept
@@ -42,9 +46,14 @@ class Identity(NamedTuple):
 class Source(NamedTuple):
     """A local file, and the path that it is to have."""
 
-    local: str
+    place: Place
     path: Path
     identity: Identity
+
+    @property
+    def local(self) -> str:
+        """Its path, to be shown to people."""
+        return self.place.local()
 
     def moment(self) -> int:
         """When it was modified, in microseconds, or the nearest moment that can be said."""
@@ -68,6 +77,7 @@ class Scan:
 
     def __init__(self) -> None:
         self.folders: List[Folder] = []
+        self.roots: Dict[str, Root] = {}
         self.files: List[Source] = []
         self.same: List[Source] = []
         self.kept: Dict[Path, Dict[int, bytes]] = {}
@@ -103,12 +113,19 @@ def why_not(name: str) -> Optional[str]:
 def scan(local: str, path: Path, recursive: bool, skip_odd: bool, into: Scan, escape: bool = False) -> None:
     """Adds a local file or folder, and what is below it. `escape` gives names that cannot be spelled a spelling of their own."""
     try:
-        status = os.lstat(local)
+        place = place_of(local, into.roots)
+        status = place.root.status(place.names)
     except OSError as error:
         into.faults.append(f"{shown(local)}: {error.strerror}")
         return
+    scan_place(place, path, recursive, skip_odd, into, escape, status)
+
+
+def scan_place(place: Place, path: Path, recursive: bool, skip_odd: bool, into: Scan, escape: bool, status: os.stat_result) -> None:
+    """Adds what is at a place."""
+    local = place.local()
     if stat.S_ISREG(status.st_mode):
-        into.files.append(Source(local, path, Identity.of(status)))
+        into.files.append(Source(place, path, Identity.of(status)))
         into.not_kept.add_file(status)
     elif not stat.S_ISDIR(status.st_mode):
         leave(local, f"is {odd(status)}", "--skip-odd leaves it out", skip_odd, into)
@@ -118,12 +135,13 @@ def scan(local: str, path: Path, recursive: bool, skip_odd: bool, into: Scan, es
         into.folders.append(Folder(local, path, status.st_mtime_ns))
         into.not_kept.add_folder(status)
         # A folder that is too deep is refused as it is, however deep it goes on.
-        for name in names_in(local, into) if len(path) <= limits.DEPTH else ():
-            below, fault = os.path.join(local, name), why_not(encode(name) if escape else name) or why_not(encode(name))
+        for below, found in found_in(place, into) if len(path) <= limits.DEPTH else ():
+            name = below.names[-1]
+            fault = why_not(encode(name) if escape else name) or why_not(encode(name))
             if fault:
-                leave(below, fault, remedy(name), skip_odd, into)
+                leave(below.local(), fault, remedy(name), skip_odd, into)
             else:
-                scan(below, path + (encode(name),), recursive, skip_odd, into, escape)
+                scan_place(below, path + (encode(name),), recursive, skip_odd, into, escape, found)
 
 
 def leave(local: str, why: str, how: str, skip_odd: bool, into: Scan) -> None:
@@ -141,26 +159,22 @@ def remedy(name: str) -> str:
     return "--skip-odd leaves it out"
 
 
-def names_in(folder: str, into: Scan) -> List[str]:
-    """The names in a folder, in an order that is always the same."""
+def found_in(folder: Place, into: Scan) -> Iterator[Tuple[Place, os.stat_result]]:
+    """What is in a folder, in an order that is always the same."""
+    root, at = folder
     try:
-        return sorted(os.listdir(folder), key=os.fsencode)
+        names = root.names_in(at)
     except OSError as error:
-        into.faults.append(f"{shown(folder)}: {error.strerror}")
-        return []
-
-
-READING = os.O_RDONLY | os.O_NOFOLLOW | os.O_NONBLOCK | os.O_CLOEXEC
-NO_ACCESS_TIME: int = getattr(os, "O_NOATIME", 0)
-
-
-def open_to_read(path: str) -> int:
-    """Opens a file so that its time of access stays, where the system lets this user: a time that changes is one more thing
-    for the disk to write."""
-    try:
-        return os.open(path, READING | NO_ACCESS_TIME)
-    except PermissionError:
-        return os.open(path, READING)
+        into.faults.append(f"{shown(folder.local())}: {error.strerror}")
+        return
+    for name in names:
+        below = Place(root, at + (name,))
+        try:
+            status = root.status(below.names)
+        except OSError as error:
+            into.faults.append(f"{shown(below.local())}: {error.strerror}")
+            continue
+        yield below, status
 
 
 TICK, COARSE_TICK = 20_000_000, 2_100_000_000
@@ -193,11 +207,16 @@ def exactly(descriptor: int, count: int) -> bytes:
     return b"".join(pieces)
 
 
+def open_source(source: Source) -> int:
+    """Opens a file to read it."""
+    return source.place.root.open_file(source.place.names, keep_access_time=True)
+
+
 def read_parts(source: Source) -> Iterator[bytes]:
     """The bytes of a file in parts of a mebibyte; the last is given only where the file did not change meanwhile."""
     left = source.identity.size
     try:
-        descriptor = open_to_read(source.local)
+        descriptor = open_source(source)
         try:
             status = os.fstat(descriptor)
             unchanged(source, status)
@@ -221,16 +240,17 @@ def read_parts(source: Source) -> Iterator[bytes]:
 
 def origin_of(source: Source, start: int) -> Origin:
     """Where the bytes of a file from one on can be read again."""
-    return Origin(os.path.abspath(source.local), start, source.identity.size, source.identity.modified)
+    root, names = source.place
+    return Origin(os.path.join(root.real(), *names), start, source.identity.size, source.identity.modified)
 
 
 def data_again(origin: Origin, count: int, sha256: bytes) -> Optional[bytes]:
     """So many bytes from there, where the file is as it was and they have this digest; else None."""
     try:
-        descriptor = open_to_read(origin.local)
+        descriptor = open_from_top(origin.local)
         try:
             status = os.fstat(descriptor)
-            if not stat.S_ISREG(status.st_mode) or (status.st_size, status.st_mtime_ns) != (origin.size, origin.modified):
+            if (status.st_size, status.st_mtime_ns) != (origin.size, origin.modified):
                 return None
             os.lseek(descriptor, origin.start, os.SEEK_SET)
             data = exactly(descriptor, count)
@@ -244,8 +264,7 @@ def data_again(origin: Origin, count: int, sha256: bytes) -> Optional[bytes]:
 def delete(source: Source) -> None:
     """Deletes a file, where it is the one that was read, as it was then."""
     try:
-        unchanged(source, os.lstat(source.local))
-        os.unlink(source.local)
+        source.place.root.unlink(source.place.names, lambda status: unchanged(source, status))
     except OSError as error:
         raise SourceError(f"{shown(source.local)}: {error.strerror}") from error
 

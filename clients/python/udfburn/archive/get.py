@@ -7,8 +7,8 @@ import stat
 from hashlib import sha256
 from typing import Dict, Iterable, Iterator, List, NamedTuple, Optional, Sequence, Tuple
 
+from ..beneath import Names, Root, folder_mode, mode_for, status_given
 from ..errors import DiskFull, SourceError, UdfburnError
-from ..fetch import make_folder
 from ..protocol import Path
 from ..saving import Saver
 from ..sources import shown
@@ -16,15 +16,15 @@ from .catalogue import Catalogue, Held, VolumeRow, as_of, image_of, versions
 from .config import Config
 from .contents import Contents, File
 from .errors import Lacking, VolumeDiffers
-from .remotes import Print, print_of_file
+from .remotes import Print, print_of
 from .tell import Tell, shown_path
 
 
 class Wanted(NamedTuple):
-    """A version that is to be copied: its rows, and the local path that it gets."""
+    """A version that is to be copied: its rows, and the names that it gets below the folder that is copied into."""
 
     rows: List[Held]
-    local: str
+    names: Names
 
 
 class Summary:
@@ -37,41 +37,42 @@ class Summary:
         """Volumes that are not at hand, and how many files are on each."""
 
 
-def wanted(catalogue: Catalogue, paths: Sequence[Path], folder: str, moment: Optional[int]) -> Iterator[Wanted]:
+def wanted(catalogue: Catalogue, paths: Sequence[Path], moment: Optional[int]) -> Iterator[Wanted]:
     """What is copied of paths, each of which is a file's or a folder's. One that is nothing is an error."""
     for path in paths:
         found = 0
         group = as_of(versions(catalogue.of_path(path)), moment)
         if group is not None:
             found += 1
-            yield Wanted(group, os.path.join(folder, path[-1]))
+            yield Wanted(group, path[-1:])
         for below in catalogue.folders_below(path):
             for name, rows in sorted(catalogue.in_folder(below).items()):
                 group = as_of(versions(rows), moment)
                 if group is not None:
                     found += 1
-                    yield Wanted(group, os.path.join(folder, *path[-1:], *below[len(path) :], name))
+                    yield Wanted(group, path[-1:] + below[len(path) :] + (name,))
         if not found:
             raise Lacking(f"{shown_path(path)}: is not in the archive" + (" at that time" if moment is not None else ""))
 
 
 def once(files: Iterable[Wanted]) -> List[Wanted]:
     """Files, each once. Two that would have one path are an error, since one would take the place of the other."""
-    found: Dict[str, Wanted] = {}
+    found: Dict[Names, Wanted] = {}
     for want in files:
-        if found.setdefault(want.local, want).rows != want.rows:
-            raise SourceError(f"{shown(want.local)}: two of the files would have this path: get them one by one")
+        if found.setdefault(want.names, want).rows != want.rows:
+            raise SourceError(f"{shown('/'.join(want.names))}: two of the files would have this path: get them one by one")
     return list(found.values())
 
 
-def is_there(want: Wanted) -> bool:
+def is_there(root: Root, want: Wanted) -> bool:
     """Whether the local file has the bytes of a version already, by their count and their SHA-256."""
     held = want.rows[0]
     try:
-        status = os.lstat(want.local)
+        status = root.status(want.names)
         if not stat.S_ISREG(status.st_mode) or status.st_size != held.size:
             return False
-        return print_of_file(want.local) == Print(held.size, held.sha256)
+        with open(root.open_file(want.names), "rb") as file:
+            return print_of(file) == Print(held.size, held.sha256)
     except OSError:
         return False
 
@@ -82,29 +83,35 @@ class Getter:
     def __init__(self, config: Config, catalogue: Catalogue, tell: Tell, force: bool):
         self.config, self.catalogue, self.tell = config, catalogue, tell
         self.summary = Summary()
-        self._force, self._saver = force, Saver(force)
+        self._force = force
         self._rows: Dict[int, VolumeRow] = {row.number: row for row in catalogue.volumes()}
         self._open: Dict[int, Tuple[Contents, Dict[int, File]]] = {}
 
-    def run(self, files: Sequence[Wanted]) -> Summary:
-        """Copies versions, volume by volume."""
-        try:
-            with self._saver:
+    def run(self, files: Sequence[Wanted], folder: str) -> Summary:
+        """Copies versions into a folder, volume by volume."""
+        mode = self._mode(files)
+        with Root.make(folder, folder_mode(mode)) as root, Saver(root, self._force, mode) as saver:
+            try:
                 for want in sorted(files, key=lambda want: [(row.volume, row.commit) for row in want.rows]):
-                    self._one(want)
-                self._saver.finish()
-        finally:
-            for contents, _ in self._open.values():
-                contents.close()
-        self.summary.failures += self._saver.failures
+                    self._one(want, saver)
+                saver.finish()
+            finally:
+                for contents, _ in self._open.values():
+                    contents.close()
+        self.summary.failures += saver.failures
         return self.summary
 
-    def _one(self, want: Wanted) -> None:
+    def _mode(self, files: Sequence[Wanted]) -> int:
+        """The mode of the copies: nobody may read them who may not read the images."""
+        images = [image_of(self.config, self._rows[number]) for number in {row.volume for want in files for row in want.rows} if number in self._rows]
+        return mode_for(*(status_given(image) for image in images if image is not None))
+
+    def _one(self, want: Wanted, saver: Saver) -> None:
         held = want.rows[0]
-        if not self._force and is_there(want):
+        if not self._force and is_there(saver.root, want):
             self.summary.same += 1
             # An interrupted run may have given it its name without making that durable.
-            self._saver.folder(os.path.dirname(want.local))
+            saver.folder(want.names[:-1])
             self.tell.step("same", held.path, held.size)
             return
         missing = [row.volume for row in want.rows if not self._at_hand(row.volume)]
@@ -114,13 +121,12 @@ class Getter:
                 self.summary.lacking[label] = self.summary.lacking.get(label, 0) + 1
             return
         try:
-            for folder in make_folder(os.path.dirname(want.local) or os.curdir):
-                self._saver.folder(folder)
-            self._saver.save(want.local, self._checked(want.rows), held.moment, lambda count: self._got(held, count))
+            saver.make_folder(want.names[:-1])
+            saver.save(want.names, self._checked(want.rows), held.moment, lambda count: self._got(held, count))
         except DiskFull:
             raise
         except (UdfburnError, OSError) as error:
-            self.summary.failures.append(f"{shown_path(held.path)}: {error}")
+            self.summary.failures.append(f"{shown_path(held.path)}: {error.strerror if isinstance(error, OSError) else error}")
 
     def _got(self, held: Held, count: int) -> None:
         """A file has its name."""

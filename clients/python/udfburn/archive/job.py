@@ -10,7 +10,7 @@ from typing import Generator, Iterator, List, Optional, Tuple, Type
 from ..errors import SourceChanged, SourceError
 from ..operations import Operation
 from ..protocol import AnyRequest, Create, MakeDir, Path, limits
-from ..sources import Source, exactly, open_to_read, origin_of, read_parts, shown, unchanged
+from ..sources import Source, exactly, open_source, origin_of, read_parts, shown, unchanged
 from .catalogue import Catalogue, Held, part_count
 from .contents import Contents, File
 from .names import DESCRIPTION
@@ -170,7 +170,7 @@ class Job:
 def parts_from(source: Source, first: int) -> Generator[bytes, None, None]:
     """The parts of a file from one on. Each is given only as long as the file is as it was seen."""
     try:
-        descriptor = open_to_read(source.local)
+        descriptor = open_source(source)
         try:
             unchanged(source, os.fstat(descriptor))
             os.lseek(descriptor, first * limits.FILE, os.SEEK_SET)

@@ -35,8 +35,8 @@ def get(arguments: argparse.Namespace) -> int:
     config, tell = config_of(arguments), tell_of(arguments)
     require_folder(arguments.dir)
     with Catalogue(config) as catalogue:
-        files = once(wanted(catalogue, [path_of(path) for path in arguments.path], arguments.dir, moment_of(arguments.as_of)))
-        summary = Getter(config, catalogue, tell, arguments.force).run(files)
+        files = once(wanted(catalogue, [path_of(path) for path in arguments.path], moment_of(arguments.as_of)))
+        summary = Getter(config, catalogue, tell, arguments.force).run(files, arguments.dir)
     for line in summary.failures:
         tell.fail(line)
     for label, count in sorted(summary.lacking.items()):

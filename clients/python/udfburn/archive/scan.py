@@ -1,4 +1,4 @@
-"""Local folders, one after another, as what is to be stored; links are not followed."""
+"""Local folders, one after another, as what is to be stored; links are not followed, by whomever and whenever they are made."""
 
 from __future__ import annotations
 
@@ -6,6 +6,7 @@ import os
 import stat
 from typing import Iterator, List, NamedTuple, Sequence, Set, Tuple
 
+from ..beneath import Place, place_of
 from ..errors import UsageError
 from ..protocol import Path
 from ..sources import Identity, Source, odd, shown
@@ -33,49 +34,52 @@ class Walk:
     def below(self, local: str, at: Path) -> Iterator[Found]:
         """A file, or a folder and all below it."""
         try:
-            status = os.lstat(local)
+            place = place_of(local)
+            status = place.root.status(place.names)
         except OSError as error:
             self.faults.append(f"{shown(local)}: {error.strerror}")
             return
         if stat.S_ISDIR(status.st_mode):
-            yield from self._folder(local, at)
+            yield from self._folder(place, at)
         elif stat.S_ISREG(status.st_mode):
-            yield Found(at[:-1], [Source(local, at, Identity.of(status))])
+            yield Found(at[:-1], [Source(place, at, Identity.of(status))])
         else:
             self.odd.append(f"{shown(local)}: is {odd(status)}, which is not kept")
 
-    def _folder(self, local: str, at: Path) -> Iterator[Found]:
+    def _folder(self, place: Place, at: Path) -> Iterator[Found]:
         """Folder by folder, the files of each before the folders in it."""
-        waiting = [(local, at)]
+        waiting = [(place, at)]
         while waiting:
-            local, at = waiting.pop()
-            files, folders = self._names(local, at)
+            place, at = waiting.pop()
+            files, folders = self._names(place, at)
             if files:
                 yield Found(at, files)
             waiting += reversed(folders)
 
-    def _names(self, local: str, at: Path) -> Tuple[List[Source], List[Tuple[str, Path]]]:
+    def _names(self, place: Place, at: Path) -> Tuple[List[Source], List[Tuple[Place, Path]]]:
         files: List[Source] = []
-        folders: List[Tuple[str, Path]] = []
+        folders: List[Tuple[Place, Path]] = []
+        root, folder = place
         try:
-            status = os.stat(local)
-            entries = [] if (status.st_dev, status.st_ino) == self._own else sorted(os.scandir(local), key=lambda entry: os.fsencode(entry.name))
+            status = root.status(folder)
+            names = [] if (status.st_dev, status.st_ino) == self._own else root.names_in(folder)
         except OSError as error:
-            self.faults.append(f"{shown(local)}: {error.strerror}")
+            self.faults.append(f"{shown(place.local())}: {error.strerror}")
             return [], []
-        self.empty += not entries
-        for entry in entries:
+        self.empty += not names
+        for name in names:
+            below = Place(root, folder + (name,))
             try:
-                found = entry.stat(follow_symlinks=False)
+                found = root.status(below.names)
             except OSError as error:
-                self.faults.append(f"{shown(entry.path)}: {error.strerror}")
+                self.faults.append(f"{shown(below.local())}: {error.strerror}")
                 continue
             if stat.S_ISDIR(found.st_mode):
-                folders.append((entry.path, at + (entry.name,)))
+                folders.append((below, at + (name,)))
             elif stat.S_ISREG(found.st_mode):
-                files.append(Source(entry.path, at + (entry.name,), Identity.of(found)))
+                files.append(Source(below, at + (name,), Identity.of(found)))
             else:
-                self.odd.append(f"{shown(entry.path)}: is {odd(found)}, which is not kept")
+                self.odd.append(f"{shown(below.local())}: is {odd(found)}, which is not kept")
         return files, folders
 
 
