@@ -4,7 +4,7 @@ from __future__ import annotations
 
 import os
 from contextlib import ExitStack
-from typing import Any, Callable, Dict, Optional
+from typing import Any, Callable, Dict, Optional, Tuple
 from unittest import mock
 
 CALLS = (
@@ -74,9 +74,9 @@ class Turned:
 REAL_LEXISTS = os.path.lexists
 
 
-def picture(folder: str) -> Dict[str, object]:
+def picture(folder: str) -> Dict[str, Tuple[int, int, bytes]]:
     """What is in a folder: names, bytes, times of modification and modes."""
-    found: Dict[str, object] = {}
+    found: Dict[str, Tuple[int, int, bytes]] = {}
     for at, folders, files in os.walk(folder):
         for name in folders + files:
             path = os.path.join(at, name)

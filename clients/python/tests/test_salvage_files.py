@@ -49,20 +49,20 @@ class Writing(unittest.TestCase):
 
     def test_a_name_that_the_file_system_refuses(self) -> None:
         """That file or folder is not written, and the rest is: a disc has names that other file systems do not take."""
-        mkdir, link, rename = os.mkdir, os.link, os.rename
+        mkdir, link, opened = os.mkdir, os.link, os.open
 
         def refusing(call: Any) -> Any:
-            def called(first: bytes, *rest: Any, **more: Any) -> None:
+            def called(first: str, *rest: Any, **more: Any) -> Any:
                 if call is link:
                     raise OSError(errno.EPERM, "Operation not permitted")
-                if b":" in b"".join(name for name in (first, *rest) if isinstance(name, bytes)):
+                if ":" in first:
                     raise OSError(errno.EINVAL, "Invalid argument")
-                call(first, *rest, **more)
+                return call(first, *rest, **more)
             return called
 
         output = Output(self.room)
         self.addCleanup(output.close)
-        with mock.patch("os.mkdir", refusing(mkdir)), mock.patch("os.link", refusing(link)), mock.patch("os.rename", refusing(rename)):
+        with mock.patch("os.mkdir", refusing(mkdir)), mock.patch("os.link", refusing(link)), mock.patch("os.open", refusing(opened)):
             self.assertRaisesRegex(InTheWay, "was not written: Invalid argument", output.folder, ("d:",), 0, "1")
             done = [*output.write(0, ("a:",), b"x", 0, "2"), *output.write(1, ("d:", "b"), b"x", 0, "3"), *output.write(2, ("c",), b"x", 0, "4")]
             done += output.finish()

@@ -49,6 +49,8 @@ class Root:
 
     def __init__(self, path: str, descriptor: int):
         self.path = path
+        self.made = False
+        """Whether it was made just now, so that its own name is durable."""
         self._descriptor = descriptor
         self._levels: List[Level] = []
         self._lock = RLock()
@@ -70,7 +72,9 @@ class Root:
         with root.at(()) as descriptor:
             sync_folder(descriptor)
         root.close()
-        return Root(path, found)
+        made = Root(path, found)
+        made.made = True
+        return made
 
     def close(self) -> None:
         """Closes what is open."""
@@ -313,6 +317,17 @@ def open_given(path: str, flags: int = os.O_RDONLY) -> int:
     return regular(os.open(path, flags | os.O_NONBLOCK | os.O_CLOEXEC), path)
 
 
+def open_medium(path: str) -> int:
+    """Opens an image or a block device that the user named, to read it. It may be a link. A named pipe does not wait for its other end."""
+    # An optical drive that is opened without waiting does not look for its disc.
+    wait = stat.S_ISBLK(os.stat(path).st_mode)
+    descriptor = os.open(path, os.O_RDONLY | os.O_CLOEXEC | (0 if wait else os.O_NONBLOCK))
+    if stat.S_ISFIFO(os.fstat(descriptor).st_mode):
+        os.close(descriptor)
+        raise OSError(errno.ESPIPE, "Is a named pipe, and not an image", path)
+    return descriptor
+
+
 def open_own(path: str, flags: int = os.O_RDONLY) -> int:
     """Opens a regular file of a folder that the user named, by its path. It may not be a link."""
     try:
@@ -340,6 +355,32 @@ def status_given(path: str) -> Optional[os.stat_result]:
         return None
 
 
+def new_given(path: str, mode: int) -> bool:
+    """Makes an empty file that the user named, with just this mode; False where something has its name, or it cannot be made."""
+    try:
+        root, names = place_of(path)
+        with root:
+            descriptor = root.new_file(names, mode)
+            # Whatever the umask is: the mode was asked for.
+            os.fchmod(descriptor, mode)
+            os.close(descriptor)
+    except OSError:
+        return False
+    return True
+
+
+def remove_empty(path: str) -> None:
+    """Removes a file that the user named, where it is one without a byte."""
+    def check(status: os.stat_result) -> None:
+        if not stat.S_ISREG(status.st_mode) or status.st_size:
+            raise FileExistsError
+
+    with suppress(OSError):
+        root, names = place_of(path)
+        with root:
+            root.unlink(names, check)
+
+
 # ---- permissions
 
 def mode_for(*statuses: Optional[os.stat_result]) -> int:
@@ -364,5 +405,5 @@ def folder_mode(mode: int) -> int:
 
 
 __all__ = [
-    "Names", "NotFollowed", "Place", "Root", "folder_mode", "mode_for", "open_from_top", "open_given", "open_own", "place_of", "status_given",
+    "Names", "NotFollowed", "Place", "Root", "folder_mode", "mode_for", "new_given", "open_from_top", "open_given", "open_medium", "open_own", "place_of", "remove_empty", "status_given",
 ]

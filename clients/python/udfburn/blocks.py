@@ -6,6 +6,7 @@ import os
 import struct
 from typing import Dict, Iterable, Optional, Set
 
+from .beneath import open_medium
 from .connection import run_program
 from .errors import ProgramFailed
 from .protocol import Path, limits, spelled_size
@@ -118,7 +119,7 @@ def space_of(image: str, program: str, client: Optional[int]) -> Optional[Space]
     try:
         newest = run_program(program, ["log", os.path.abspath(image)]).split(b"\n", 1)[0].split()
         _, at, files, directories = map(int, newest)
-        with open(image, "rb") as file:
+        with open(open_medium(image), "rb") as file:
             file.seek(34 * limits.BLOCK + 192)
             (partition,) = struct.unpack("<I", file.read(4))
             file.seek(at * limits.BLOCK + 56)

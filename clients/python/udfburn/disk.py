@@ -24,21 +24,6 @@ def room_left(path: str) -> Optional[int]:
     return found.f_bavail * found.f_frsize
 
 
-def sync_names(folder: str) -> None:
-    """Makes the names in a folder durable, where its file system can do that and this user may."""
-    try:
-        descriptor = os.open(folder, os.O_RDONLY | os.O_DIRECTORY | os.O_CLOEXEC)
-    except PermissionError:
-        return
-    try:
-        os.fsync(descriptor)
-    except OSError as error:
-        if error.errno != errno.EINVAL:
-            raise
-    finally:
-        os.close(descriptor)
-
-
 def sync_all(descriptor: int) -> bool:
     """Makes all that a file's file system has durable. False where the system cannot do that, or does not report a write that failed:
     it reports those since this descriptor was opened."""
@@ -75,4 +60,4 @@ def find_call() -> Optional[Any]:
     return getattr(ctypes.CDLL(None, use_errno=True), "syncfs", None)
 
 
-__all__ = ["is_full", "room_left", "sync_all", "sync_names"]
+__all__ = ["is_full", "room_left", "sync_all"]

@@ -9,6 +9,7 @@ import stat
 import time
 from typing import Callable
 
+from .beneath import open_given, open_own
 from .errors import LedgerBusy, LedgerError
 
 
@@ -41,7 +42,7 @@ def make_folder(path: str) -> None:
 
 def sync_file(path: str) -> None:
     """Makes the bytes of a file durable."""
-    descriptor = os.open(path, os.O_RDWR | os.O_CLOEXEC)
+    descriptor = open_own(path, os.O_RDWR)
     try:
         os.fsync(descriptor)
     finally:
@@ -51,7 +52,7 @@ def sync_file(path: str) -> None:
 def lengthen(path: str, size: int) -> None:
     """Gives a file so many bytes, where it has fewer, and makes them durable. What is written in their place later takes no
     change of the file system, for which a synchronisation would wait, and with it all others on the same disk."""
-    descriptor = os.open(path, os.O_WRONLY | os.O_CLOEXEC)
+    descriptor = open_own(path, os.O_WRONLY)
     try:
         begin = os.fstat(descriptor).st_size
         if begin < size:
@@ -80,7 +81,7 @@ def is_there(path: str) -> bool:
             raise LedgerError(f"{path}: is not a ledger (not a regular file): name another with --ledger")
         if not status.st_size:
             return False
-        with open(path, "rb") as file:
+        with open(open_given(path), "rb") as file:
             if file.read(len(MAGIC)) != MAGIC:
                 raise LedgerError(f"{path}: is not a ledger (not an SQLite database): name another with --ledger")
     except FileNotFoundError:
@@ -123,10 +124,10 @@ class Lock:
     def _take(self) -> bool:
         """Tries once. `made` is whether the file was not there."""
         try:
-            self.descriptor = os.open(self.path, os.O_RDWR | os.O_CREAT | os.O_EXCL | os.O_CLOEXEC, 0o600)
+            self.descriptor = os.open(self.path, os.O_RDWR | os.O_CREAT | os.O_EXCL | os.O_NOFOLLOW | os.O_CLOEXEC, 0o600)
             self.made = True
         except FileExistsError:
-            self.descriptor = os.open(self.path, os.O_RDWR | os.O_CREAT | os.O_CLOEXEC, 0o600)
+            self.descriptor = os.open(self.path, os.O_RDWR | os.O_CREAT | os.O_NOFOLLOW | os.O_NONBLOCK | os.O_CLOEXEC, 0o600)
             self.made = False
         try:
             fcntl.flock(self.descriptor, fcntl.LOCK_EX | fcntl.LOCK_NB)

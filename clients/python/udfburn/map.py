@@ -8,6 +8,7 @@ import struct
 from typing import Iterator, List, NamedTuple, Sequence, Tuple
 from xml.sax.saxutils import escape
 
+from .beneath import open_medium
 from .blocks import PARTITION
 from .past import Commit, commits
 from .progress import plural, size
@@ -48,7 +49,7 @@ class Medium(NamedTuple):
 def read_medium(image: str, program: str) -> Medium:
     """The medium of an image."""
     known = commits(image, program)
-    with open(image, "rb") as file:
+    with open(open_medium(image), "rb") as file:
         file.seek(32 * limits.BLOCK + 24)
         label = dstring(file.read(32))
         file.seek(34 * limits.BLOCK + 192)

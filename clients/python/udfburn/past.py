@@ -10,6 +10,7 @@ import tempfile
 from contextlib import contextmanager
 from typing import Iterator, List, NamedTuple, Optional
 
+from .beneath import Root, open_medium
 from .connection import run_program
 from .errors import ProgramFailed, UsageError
 from .protocol import limits
@@ -48,9 +49,10 @@ def address_of(image: str, program: str, commit: int) -> int:
     raise UsageError(f"{image}: has commits 0 to {known[-1].number}, and no commit {commit}")
 
 
-def copy_front(source: str, target: str, size: int) -> None:
-    """Copies the beginning of a file: by shared blocks where the file system has them, else without its blocks of zeros."""
-    with open(source, "rb") as old, open(target, "r+b") as new:
+def copy_front(source: str, target: int, size: int) -> None:
+    """Copies the beginning of a file into one that is open and empty: by shared blocks where the file system has them, else without its
+    blocks of zeros."""
+    with open(open_medium(source), "rb") as old, open(target, "r+b") as new:
         if not cloned(old.fileno(), new.fileno()):
             left = size
             while left:
@@ -77,26 +79,30 @@ def cloned(old: int, new: int) -> bool:
 @contextmanager
 def front(image: str, program: str, commit: Optional[int]) -> Iterator[str]:
     """A copy of the image as it was after a commit, or as it is now; gone at the end."""
-    size = os.path.getsize(image) if commit is None else (address_of(image, program, commit) + 1) * limits.BLOCK
+    size = length_of(image) if commit is None else (address_of(image, program, commit) + 1) * limits.BLOCK
     require_synced(image)
     above = room(image) or tempfile.gettempdir()
     sweep(above, PREFIX)
     folder, lock = own_folder(above, PREFIX)
     try:
-        target = os.path.join(folder, "front.img")
-        with open(target, "xb"):
-            pass
-        copy_front(image, target, size)
-        yield target
+        with Root.open(folder) as root:
+            copy_front(image, root.new_file(("front.img",), 0o600), size)
+        yield os.path.join(folder, "front.img")
     finally:
         shutil.rmtree(folder, ignore_errors=True)
         if lock is not None:
             os.close(lock)
 
 
+def length_of(image: str) -> int:
+    """The bytes of an image."""
+    with open(open_medium(image), "rb") as file:
+        return file.seek(0, os.SEEK_END)
+
+
 def require_synced(image: str) -> None:
     """Has the disk take what the system keeps of the image, and the system forget it, so that a copy reports what is stored."""
-    descriptor = os.open(image, os.O_RDONLY)
+    descriptor = open_medium(image)
     try:
         try:
             os.fsync(descriptor)

@@ -7,10 +7,11 @@ import os
 from contextlib import closing
 from typing import TYPE_CHECKING, Any, Dict, Tuple
 
+from .beneath import mode_for, status_given
 from .client import Client
 from .commands import progress_of, reader
 from .connection import find_program
-from .errors import SourceError, UsageError
+from .errors import UsageError
 from .escape import decode
 from .progress import Progress, moment, plural, size
 from .protocol import Name, Node, NodeKind, Path, Stat, path_of, show, shown
@@ -172,21 +173,13 @@ def verify(arguments: argparse.Namespace) -> int:
 def draw(arguments: argparse.Namespace) -> int:
     """Draws the medium."""
     from .map import draw_map
+    from .saving import require_own, save
 
-    check_picture(arguments.output)
+    require_own(arguments.output, (b"<svg",), "a picture")
     picture = draw_map(arguments.image_path, find_program(arguments.program))
-    with open(arguments.output, "w", encoding="utf-8") as file:
-        file.write(picture)
+    save(arguments.output, [picture.encode()], None, True, mode_for(status_given(arguments.image_path)))
     progress_of(arguments).result(f"drew {shown(arguments.output)}", path=shown(arguments.output))
     return 0
-
-
-def check_picture(path: str) -> None:
-    """Raises where a file is there that is no picture: it may be an image, as where a pattern of the shell named two."""
-    if os.path.isfile(path):
-        with open(path, "rb") as file:
-            if file.read(4) not in (b"", b"<svg"):
-                raise SourceError(f"{shown(path)}: already exists, and is not a picture of this command")
 
 
 __all__ = ["add", "draw", "get", "ls", "verify"]

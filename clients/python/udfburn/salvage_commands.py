@@ -7,6 +7,7 @@ from collections import Counter
 from contextlib import suppress
 from typing import TYPE_CHECKING, Counter as Counts, Dict, Iterator, List, Optional
 
+from .beneath import mode_for
 from .disk import is_full
 from .errors import DiskFull, UsageError
 from .progress import Progress, of_bytes, plural, size
@@ -66,7 +67,7 @@ def salvage(arguments: argparse.Namespace) -> int:
         raise UsageError(str(error)) from error
     with medium:
         found = Salvage(medium, arguments.at, arguments.ledger)
-        output = Output(arguments.folder) if arguments.folder is not None else None
+        output = Output(arguments.folder, mode_for(medium.status)) if arguments.folder is not None else None
         try:
             return Report(arguments.progress, found, arguments.accept_unproved).print(output)
         except OSError as error:

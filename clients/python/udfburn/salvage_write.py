@@ -2,13 +2,14 @@
 
 from __future__ import annotations
 
-import errno
 import os
-import stat
 from concurrent.futures import ThreadPoolExecutor
-from typing import Dict, List, NamedTuple, Optional, Set, Tuple
+from contextlib import suppress
+from typing import Dict, List, NamedTuple, Optional, Set
 
+from .beneath import Names, NotFollowed, Root, folder_mode
 from .disk import is_full
+from .errors import SourceError
 from .reader.volume import Path
 from .saving import write_all
 
@@ -18,16 +19,14 @@ NAME_BYTES = 255
 BATCH_FILES, BATCH_BYTES = 64, 32 << 20
 """What is written before it is made durable together."""
 
-OPEN_FOLDER = os.O_RDONLY | os.O_DIRECTORY | os.O_NOFOLLOW | os.O_CLOEXEC
-
 
 class Waiting(NamedTuple):
     """A file that has its bytes and not yet its name."""
 
     key: int
-    folder: Tuple[bytes, ...]
-    temporary: bytes
-    name: bytes
+    folder: Names
+    temporary: str
+    name: str
     descriptor: int
 
 
@@ -44,29 +43,29 @@ class InTheWay(Exception):
 
 
 class Output:
-    """A folder that files go into. A file has its name once its bytes are on the disk."""
+    """A folder that files go into. A file has its name once its bytes are on the disk. `mode` is that of new files."""
 
-    def __init__(self, path: str):
-        os.makedirs(path, exist_ok=True)
-        self._root = os.open(path, os.O_RDONLY | os.O_DIRECTORY | os.O_CLOEXEC)
-        self._folders: Dict[Tuple[bytes, ...], Optional[int]] = {}
-        self._names: Dict[Path, Tuple[bytes, ...]] = {(): ()}
-        self._taken: Set[Tuple[bytes, ...]] = set()
+    def __init__(self, path: str, mode: int = 0o666):
+        self._mode = mode
+        self._root = Root.make(path, folder_mode(mode))
+        self._folders: Dict[Names, Optional[int]] = {}
+        self._names: Dict[Path, Names] = {(): ()}
+        self._taken: Set[Names] = set()
         self._waiting: List[Waiting] = []
         self._bytes = self._count = 0
         self._pool = ThreadPoolExecutor(8)
 
     # ---- names
 
-    def _place(self, target: Path, tail: str) -> Tuple[bytes, ...]:
+    def _place(self, target: Path, tail: str) -> Names:
         """The names of a path as they are written: each fits, and is that of no other path."""
         if target not in self._names:
             above = self._place(target[:-1], "")
-            name = fitting(target[-1], "")
+            name = os.fsdecode(fitting(target[-1], ""))
             count = 0
             while above + (name,) in self._taken:
                 count += 1
-                name = fitting(target[-1], f"~{tail or count}" if count == 1 else f"~{tail}~{count}")
+                name = os.fsdecode(fitting(target[-1], f"~{tail or count}" if count == 1 else f"~{tail}~{count}"))
             self._taken.add(above + (name,))
             self._names[target] = above + (name,)
         return self._names[target]
@@ -77,29 +76,19 @@ class Output:
         """Makes a folder, or takes the one that is there. Its path, or `InTheWay`."""
         place = self._place(target, tail)
         try:
-            self._open(place).close()
-        except OSError as error:
+            self._make(place)
+        except (InTheWay, SourceError, OSError) as error:
             raise InTheWay(why_not_written(error)) from error
         self._folders[place] = moment
-        return os.fsdecode(b"/".join(place))
+        return "/".join(place)
 
-    def _open(self, place: Tuple[bytes, ...]) -> "Folder":
-        """A folder below the first one, made where it is missing. No link is followed."""
-        descriptor = os.dup(self._root)
+    def _make(self, place: Names) -> None:
+        """Makes a folder below the first one, where it is missing. No link is followed."""
         try:
-            for name in place:
-                try:
-                    os.mkdir(name, dir_fd=descriptor)
-                except FileExistsError:
-                    pass
-                below = open_folder(name, descriptor)
-                os.close(descriptor)
-                descriptor = below
-        except BaseException:
-            os.close(descriptor)
-            raise
-        self._folders.setdefault(place, None)
-        return Folder(descriptor)
+            with self._root.at(place, folder_mode(self._mode)):
+                self._folders.setdefault(place, None)
+        except (NotFollowed, NotADirectoryError) as error:
+            raise InTheWay(f"{error.filename}: is there, and is no folder") from error
 
     # ---- files
 
@@ -107,12 +96,12 @@ class Output:
         """Writes a file. It gives those that got their names meanwhile."""
         place = self._place(target, tail)
         self._count += 1
-        temporary = b".udfburn-salvage.%d.%d" % (os.getpid(), self._count)
+        temporary = f".udfburn-salvage.{os.getpid()}.{self._count}"
         try:
-            with self._open(place[:-1]) as folder:
-                descriptor = os.open(temporary, os.O_RDWR | os.O_CREAT | os.O_EXCL | os.O_CLOEXEC, 0o666, dir_fd=folder.descriptor)
-        except (InTheWay, OSError) as error:
-            return [Written(key, os.fsdecode(b"/".join(place)), why_not_written(error))]
+            self._make(place[:-1])
+            descriptor = self._root.new_file(place[:-1] + (temporary,), self._mode)
+        except (InTheWay, SourceError, OSError) as error:
+            return [Written(key, "/".join(place), why_not_written(error))]
         waiting = Waiting(key, place[:-1], temporary, place[-1], descriptor)
         try:
             write_all(descriptor, data)
@@ -136,36 +125,56 @@ class Output:
         return done[::-1]
 
     def _name(self, waiting: Waiting) -> Written:
-        path = os.fsdecode(b"/".join(waiting.folder + (waiting.name,)))
-        with self._open(waiting.folder) as folder:
-            try:
-                folder.name(waiting.temporary, waiting.name)
-                return Written(waiting.key, path, None)
-            except FileExistsError:
-                same = folder.has_same(waiting.name, waiting.descriptor)
-                return Written(waiting.key, path, None if same else "already exists, with other bytes")
-            except OSError as error:
-                return Written(waiting.key, path, why_not_written(error))
-            finally:
-                os.close(waiting.descriptor)
-                folder.remove(waiting.temporary)
+        path = "/".join(waiting.folder + (waiting.name,))
+        try:
+            self._link(waiting)
+            return Written(waiting.key, path, None)
+        except FileExistsError:
+            same = self._has_same(waiting)
+            return Written(waiting.key, path, None if same else "already exists, with other bytes")
+        except (SourceError, OSError) as error:
+            return Written(waiting.key, path, why_not_written(error))
+        finally:
+            self._drop(waiting)
+
+    def _link(self, waiting: Waiting) -> None:
+        """Gives a file its name; FileExistsError where something has it."""
+        temporary = waiting.folder + (waiting.temporary,)
+        try:
+            self._root.link(temporary, waiting.name)
+        except FileExistsError:
+            raise
+        except OSError:
+            # Some file systems have no second names: the name is taken first, so that nothing is replaced that has it by now.
+            os.close(self._root.new_file(waiting.folder + (waiting.name,), self._mode))
+            self._root.rename(temporary, waiting.name)
+
+    def _has_same(self, waiting: Waiting) -> bool:
+        """Whether the file that has the name has the bytes."""
+        try:
+            descriptor = self._root.open_file(waiting.folder + (waiting.name,))
+        except OSError:
+            return False
+        with open(descriptor, "rb") as file:
+            size = os.fstat(waiting.descriptor).st_size
+            return os.fstat(descriptor).st_size == size and file.read(size) == os.pread(waiting.descriptor, size, 0)
 
     def finish(self) -> List[Written]:
         """Names all files, and makes names and folders durable."""
         done = self.flush()
         for place, moment in sorted(self._folders.items(), key=lambda known: -len(known[0])):
-            with self._open(place) as folder:
-                os.fsync(folder.descriptor)
+            with self._root.at(place) as descriptor:
+                os.fsync(descriptor)
                 if moment is not None:
-                    os.utime(folder.descriptor, ns=(moment * 1000, moment * 1000))
-        os.fsync(self._root)
+                    os.utime(descriptor, ns=(moment * 1000, moment * 1000))
+        self._root.sync(())
         return done
 
     def _drop(self, waiting: Waiting) -> None:
-        """Removes a file that gets no name."""
+        """Closes a file, and removes the name that it had meanwhile."""
         os.close(waiting.descriptor)
-        with self._open(waiting.folder) as folder:
-            folder.remove(waiting.temporary)
+        with suppress(FileNotFoundError, NotFollowed, NotADirectoryError):
+            self._root.unlink(waiting.folder + (waiting.temporary,))
 
     def close(self) -> None:
         """Leaves no temporary file."""
@@ -173,74 +182,7 @@ class Output:
             self._drop(waiting)
         self._waiting = []
         self._pool.shutdown()
-        os.close(self._root)
-
-
-class Folder:
-    """An open folder."""
-
-    def __init__(self, descriptor: int):
-        self.descriptor = descriptor
-
-    def __enter__(self) -> "Folder":
-        return self
-
-    def __exit__(self, *_: object) -> None:
-        self.close()
-
-    def close(self) -> None:
-        """Closes it."""
-        os.close(self.descriptor)
-
-    def name(self, temporary: bytes, name: bytes) -> None:
-        """Gives a file its name; FileExistsError where something has it."""
-        try:
-            os.link(temporary, name, src_dir_fd=self.descriptor, dst_dir_fd=self.descriptor, follow_symlinks=False)
-        except FileExistsError:
-            raise
-        except OSError:
-            # Some file systems have no second names.
-            if self.has(name):
-                raise FileExistsError from None
-            os.rename(temporary, name, src_dir_fd=self.descriptor, dst_dir_fd=self.descriptor)
-
-    def has(self, name: bytes) -> bool:
-        """Whether something has the name."""
-        try:
-            os.stat(name, dir_fd=self.descriptor, follow_symlinks=False)
-            return True
-        except FileNotFoundError:
-            return False
-
-    def has_same(self, name: bytes, other: int) -> bool:
-        """Whether a file of the name has the bytes of an open one."""
-        try:
-            descriptor = os.open(name, os.O_RDONLY | os.O_NOFOLLOW | os.O_CLOEXEC | os.O_NONBLOCK, dir_fd=self.descriptor)
-        except OSError:
-            return False
-        if not stat.S_ISREG(os.fstat(descriptor).st_mode):
-            os.close(descriptor)
-            return False
-        with open(descriptor, "rb") as file:
-            size = os.fstat(other).st_size
-            return os.fstat(descriptor).st_size == size and file.read(size) == os.pread(other, size, 0)
-
-    def remove(self, name: bytes) -> None:
-        """Removes a temporary file, where it still has that name."""
-        try:
-            os.unlink(name, dir_fd=self.descriptor)
-        except FileNotFoundError:
-            pass
-
-
-def open_folder(name: bytes, above: int) -> int:
-    """Opens a folder in another one. No link is followed."""
-    try:
-        return os.open(name, OPEN_FOLDER, dir_fd=above)
-    except OSError as error:
-        if error.errno not in (errno.ENOTDIR, errno.ELOOP):
-            raise
-        raise InTheWay(f"{os.fsdecode(name)}: is there, and is no folder") from error
+        self._root.close()
 
 
 def why_not_written(error: Exception) -> str:

@@ -119,7 +119,7 @@ class Saver:
         self.flush()
         for folder in self._folders:
             self.root.sync(folder)
-        if self._above:
+        if self._above and not self.root.made:
             # An interrupted run may have made it.
             self.root.sync_above()
         self._folders, self._above = {}, False
@@ -280,11 +280,11 @@ def remove_leftovers(root: Root, at: Names, names: Iterable[str]) -> None:
                     remove_left(root, at + (name,))
 
 
-def save(local: str, parts: Iterator[bytes], moment: Optional[int], force: bool) -> int:
+def save(local: str, parts: Iterable[bytes], moment: Optional[int], force: bool, mode: int = 0o666) -> int:
     """Writes one file whole, and makes its name durable. Gives its bytes."""
     counts: List[int] = []
     root, names = place_of(local)
-    with root, Saver(root, force) as saver:
+    with root, Saver(root, force, mode) as saver:
         saver.save(names, parts, moment, counts.append)
         saver.finish()
     if saver.failures:
@@ -292,4 +292,19 @@ def save(local: str, parts: Iterator[bytes], moment: Optional[int], force: bool)
     return counts[0]
 
 
-__all__ = ["Saver", "remove_leftovers", "save", "why_not_written"]
+def require_own(local: str, begin: "tuple[bytes, ...]", what: str) -> None:
+    """Raises where a file is there that does not begin as one of this kind, or is no regular file: it is not replaced."""
+    root, names = place_of(local)
+    with root:
+        if root.find(names) is None:
+            return
+        try:
+            with open(root.open_file(names), "rb") as file:
+                if file.read(max(map(len, begin))) in (b"", *begin):
+                    return
+        except (OSError, SourceError):
+            pass
+    raise SourceError(f"{shown(local)}: already exists, and is not {what} of this command")
+
+
+__all__ = ["Saver", "remove_leftovers", "require_own", "save", "why_not_written"]

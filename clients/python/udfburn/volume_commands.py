@@ -4,9 +4,11 @@ from __future__ import annotations
 
 import argparse
 import os
+import re
 import stat
 from typing import TYPE_CHECKING, Dict, List, Optional, Tuple
 
+from .beneath import new_given, remove_empty
 from .commands import progress_of
 from .connection import check_word, find_program, run_program
 from .errors import ProgramFailed, SourceError, UsageError
@@ -37,6 +39,7 @@ def add(subs: Subs) -> None:
     new.add_argument("--label", metavar="TEXT", help="the volume's name, at most 30 characters (default: the file name without its extension)")
     new.add_argument("--capacity", metavar="N", type=capacity, default=CAPACITY, help="blocks of 2,048 bytes, from 512 to 450,000, or a size such as 700MiB (default: 359,844 blocks, a CD-R of 80 minutes)")
     new.add_argument("--moment", metavar="MOMENT", type=moment_of, help="the moment of the format: microseconds from 1970, or a time such as 2026-11-26T22:00:00Z (default: now)")
+    new.add_argument("--mode", metavar="MODE", type=mode_of, default=0o600, help="the permissions of a new file, in octal (default: 600, nobody's but the user's)")
     state = command(
         subs, "status", status, "show what a volume is, and what it has left",
         "For an image everything is known. Over a socket only the tree is known, and the rest is named as unknown.", volume=False,
@@ -59,6 +62,13 @@ def capacity(text: str) -> int:
     if not least <= blocks <= most:
         raise argparse.ArgumentTypeError(f"{text!r} is {blocks:,} blocks, and a volume has {least} to {most:,} ({size(most * limits.BLOCK)})")
     return blocks
+
+
+def mode_of(text: str) -> int:
+    """The permissions of a word, in octal: the user's own to read and write, and no others than these two."""
+    if not re.fullmatch("0?6[0246][0246]", text):
+        raise argparse.ArgumentTypeError(f"{text!r} is not a valid mode: give one from 600 to 666, such as 640")
+    return int(text, 8)
 
 
 def moment_of(text: str) -> int:
@@ -105,10 +115,16 @@ def format_image(arguments: argparse.Namespace) -> int:
     image: str = arguments.image_path
     label = label_of(arguments)
     when = now() if arguments.moment is None else arguments.moment
-    if arguments.library:
-        format_by_library(image, label, when, arguments.capacity)
-    else:
-        format_by_program(image, label, when, arguments)
+    made = new_given(image, arguments.mode)
+    try:
+        if arguments.library:
+            format_by_library(image, label, when, arguments.capacity)
+        else:
+            format_by_program(image, label, when, arguments)
+    except BaseException:
+        if made:
+            remove_empty(image)
+        raise
     progress_of(arguments).result(
         f"formatted {shown(image)}: {label}, {moment(when)}, {arguments.capacity:,} blocks ({size(arguments.capacity * limits.BLOCK)})",
         path=shown(image), label=label, moment=when, capacity=arguments.capacity,

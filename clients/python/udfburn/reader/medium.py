@@ -2,12 +2,11 @@
 
 from __future__ import annotations
 
-import errno
 import os
-import stat
 from bisect import bisect_right
 from typing import Iterator, List, NamedTuple, Optional, Tuple
 
+from ..beneath import open_given, open_medium
 from .basics import BLOCK
 
 PIECE = 512
@@ -38,7 +37,7 @@ class RescueMap:
     @staticmethod
     def load(path: str) -> "RescueMap":
         """A map from its file; MapError where that is none."""
-        with open(path, encoding="ascii", errors="replace") as file:
+        with open(open_given(path), encoding="ascii", errors="replace") as file:
             lines = [line.split() for line in file if line.strip() and not line.startswith("#")]
         read: List[Tuple[int, int]] = []
         try:
@@ -80,11 +79,9 @@ class Medium:
         """Opens it for reading; OSError where that cannot be done, MapError where the map is none."""
         self.path = path
         self._map = RescueMap.load(rescue_map) if rescue_map is not None else None
-        if stat.S_ISFIFO(os.stat(path).st_mode):
-            # To open one would wait for whoever writes to it.
-            raise OSError(errno.ESPIPE, "Is a named pipe, and not an image", path)
-        self._file = os.open(path, os.O_RDONLY | os.O_CLOEXEC)
+        self._file = open_medium(path)
         try:
+            self.status = os.fstat(self._file)
             # A block device has no size by fstat.
             self.size = os.lseek(self._file, 0, os.SEEK_END)
         except OSError:
