@@ -121,6 +121,14 @@ class Migration(WithServer):
         assert waiting
         self.assertEqual((waiting.deed, waiting.sha256), (Deed(p.Kind.CREATE, ("pending",), (), 13, 300), hashlib.sha256(b"pending bytes").digest()))
 
+    def test_the_frame_of_another_request_says_nothing(self) -> None:
+        """The place of a request's frame may have another one: nothing is kept beside the request then."""
+        with closing(sqlite3.connect(self.ledger)) as base, base:
+            base.execute("UPDATE frame SET payload = (SELECT payload FROM frame WHERE id = 7) WHERE id = 4")
+        with closing(Ledger(self.ledger)) as ledger:
+            first = ledger.sent(ledger.volumes()[0])
+        self.assertEqual([(sent.number, sent.facts is None) for sent in first], [(1, True), (2, True), (3, False), (4, True), (5, False), (6, False)])
+
     def stored(self, number: int, name: str, size: int, moment: int, data: bytes) -> Sent:
         from udfburn.ledger_records import Facts
 

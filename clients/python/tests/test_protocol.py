@@ -182,6 +182,17 @@ class Answers(unittest.TestCase):
         with self.assertRaises(p.BadAnswer):
             frames.take()
 
+    def test_the_greatest_frame(self) -> None:
+        """A payload of exactly the greatest length is one, and a byte more is too many, at each place that looks."""
+        payload = bytes(p.limits.PAYLOAD)
+        frames = p.Frames()
+        frames.feed(p.frame(payload))
+        self.assertEqual((frames.take(), frames.rest()), (payload, 0))
+        self.assertRaisesRegex(ValueError, "above the limit", p.prefix, payload + b"\0")
+        with self.assertRaises(p.Fault) as long:
+            p.decode_message(b"\x10" + payload[1:])
+        self.assertNotEqual(long.exception.cause, p.Cause.TOO_LONG)
+
     def test_round_trips(self) -> None:
         chance = random.Random(22)
         for _ in range(500):
