@@ -173,6 +173,24 @@ class Damage(WithArchive):
         self.assertEqual((last["deleted"], last["kept"]), (0, 1))
         self.assertEqual(list(digests(self.source)), [b"big"])
 
+    def test_a_part_is_compared_with_the_manifest_of_its_volume(self) -> None:
+        """The catalogue has no digest of a part: where one volume is read alone, its bag says which part is damaged."""
+        self.init("--capacity", "4000")
+        data = os.urandom(12_000_000)
+        write(self.big, data)
+        self.add()
+        (row,) = self.rows()
+        first = next(place["first"] for place in row["places"] if place["volume"] == "T-000002")
+        self.do("close", "T-000002")
+        closed = self.path("archive", "closed", "T-000002.img")
+        os.chmod(closed, 0o644)
+        os.rename(closed, self.image(2))
+        self.change(2, data[first << 20 :])
+        os.rename(self.image(2), closed)
+        done = self.do("check", "--data", "T-000002", status=1)
+        self.assertEqual(self.names_of(done.last()["failures"]), ["big"])
+        self.assertIn("1 file is not as it was stored", done.errors)
+
     def test_parts_that_an_earlier_run_stored_are_read(self) -> None:
         self.init("--capacity", "4000")
         data = os.urandom(12_000_000)
