@@ -5,8 +5,8 @@
 # --large adds what takes long: all random losses of blocks.
 # KILLS of the environment is how often clients and daemons are killed (200). TIMES=1 reports which tests take long. ANEW=1 gives
 # each command a Python of its own.
-# Its last line is 'client: N passed, M failed'. It takes a POSIX shell, Python 3.9 or later (PYTHON names another) and a C
-# compiler, cc, for the library by which the client's calls are followed.
+# Its last line is 'client: N passed, M failed'. It takes a POSIX shell, Python 3.9 or later (PYTHON names another), a C
+# compiler, cc, for the library by which the client's calls are followed, and xorriso.
 set -u
 
 here=$(cd "$(dirname "$0")/.." && pwd)
@@ -41,6 +41,7 @@ room=$(mktemp -d) || exit 1
 trap 'rm -rf "$room"' EXIT
 trap 'exit 1' HUP INT PIPE TERM
 output=$room/output
+command -v xorriso > "$output" || "$here/test/packages.sh" xorriso > "$output" 2>&1
 # Where no compiled files are kept, each command compiles the client anew. From a copy that is compiled once it takes half the
 # processor time, and the folder of the client stays as it is. Most commands take less again: see tests/forked.py there.
 mkdir "$room/clients" && cp -R "$here/clients/python" "$room/clients/python" || exit 1

@@ -189,7 +189,7 @@ if [ -d clients/python/udfburn ] && [ -f clients/python/udfburn/__main__.py ]; t
         echo 'raise KeyboardInterrupt' > "$room/interrupted/argparse.py"
         holds 'an interrupt while it loads ends it with 130 and no traceback' interrupted udfburn-client
         # Its page has the options that its commands have.
-        for command in put get ls mkdir mv rm verify resume map format status check seal salvage log; do
+        for command in put get ls mkdir mv rm verify resume map format status check seal salvage log finish burn; do
             "$prefix/bin/udfburn-client" "$command" --help
         done | grep -o -e '--[a-z][a-z-]*' | sort -u > "$room/wanted"
         sed -n -e 's/\.It.* Fl -help.*//' -e 's/\.\{0,1\}[A-Z][a-z] Fl -/\n--/' -e 's/ Fl -/\n--/g' -e p man/udfburn-client.1 |

@@ -31,11 +31,12 @@ case $1 in
         shift
         for tool in gcc:gcc g++:g++ clang:clang valgrind:valgrind python3:python3 rsync:rsync mandoc:mandoc strace:strace lintian:lintian pkg-config:pkgconf strip:binutils mypy:mypy pyflakes3:pyflakes3 shellcheck:shellcheck systemd-analyze:systemd udfclient:udfclient \
             udfinfo:udftools ddrescue:gddrescue par2:par2 dvdisaster:dvdisaster blkid:util-linux mkfs.ext4:e2fsprogs mkfs.xfs:xfsprogs mkfs.btrfs:btrfs-progs mount:mount rclone:rclone \
-            pg_ctlcluster:postgresql qemu-system-x86_64:qemu-system-x86 chromium:chromium; do
+            pg_ctlcluster:postgresql qemu-system-x86_64:qemu-system-x86 chromium:chromium xorriso:xorriso; do
             command -v "${tool%:*}" > /dev/null || set -- "$@" "${tool#*:}"
         done
         [ -e /usr/include/stdio.h ] || set -- "$@" libc6-dev
         [ -e /usr/include/libburn/libburn.h ] || set -- "$@" libburn-dev
+        [ -e /usr/lib/x86_64-linux-gnu/qemu/block-iscsi.so ] || set -- "$@" qemu-block-extra
         [ -d /usr/lib/python3/dist-packages/psycopg ] || set -- "$@" python3-psycopg
         [ $# -gt 0 ] || exit 0
         ;;

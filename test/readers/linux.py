@@ -82,9 +82,9 @@ def read_output(stream: BinaryIO) -> List[Mount]:
         mounts[-1].nodes[path] = found
 
 
-def member(name: str, mode: int, data: bytes) -> bytes:
+def member(name: str, mode: int, data: bytes, seconds: int = 0) -> bytes:
     """A member of an archive of the form that the kernel unpacks at its start (cpio, newc)."""
-    fields = (0, mode, 0, 0, 1, 0, len(data), 0, 0, 0, 0, len(name) + 1, 0)
+    fields = (0, mode, 0, 0, 1, seconds, len(data), 0, 0, 0, 0, len(name) + 1, 0)
     head = b"070701" + b"".join(b"%08X" % value for value in fields) + name.encode() + b"\0"
     head += bytes(-len(head) % 4)
     return head + data + bytes(-len(data) % 4)

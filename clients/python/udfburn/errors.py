@@ -200,6 +200,10 @@ class DiskFull(UdfburnError):
     """A local file system has no room: that of the image, of the ledger or of a local file."""
 
 
+class DiscFailed(UdfburnError):
+    """A disc was not burned, or is not what it should be."""
+
+
 class OutputFailed(UdfburnError):
     """The standard output is closed, or takes no more."""
 
@@ -219,7 +223,7 @@ class UsageError(UdfburnError):
 
 __all__ = [
     "AnswerCode", "BadAnswer", "DAMAGE", "ClientsFull", "Code", "ConnectionFailed", "CopyWentOn", "Damaged", "Differs", "DirectoryFull",
-    "DiskFull", "DoesNotFit", "DriveFailed", "EmptyVolume", "Exists", "FileDiffers", "ForeignReply", "Full", "IntoItself", "InvalidName",
+    "DiscFailed", "DiskFull", "DoesNotFit", "DriveFailed", "EmptyVolume", "Exists", "FileDiffers", "ForeignReply", "Full", "IntoItself", "InvalidName",
     "InvalidPath", "IsDirectory", "IsRoot", "LedgerBusy", "LedgerError", "MISSES", "NoParent", "NotCommitted", "NotDirectory",
     "NotEmpty", "NotFound", "NumberUsedElsewhere", "OtherVolume", "OutOfMemory", "OutputFailed", "ProgramFailed", "REFUSALS",
     "Refused", "Rejected", "SourceChanged", "SourceError", "TooDeep", "TooLarge", "TooMany", "UdfburnError",

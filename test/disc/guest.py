@@ -1,0 +1,264 @@
+"""The first process of the virtual machine: burns discs in the emulated recorders, mounts them, and looks at each file.
+
+What it finds goes to the console, a line for each test: `@ passed NAME` or `@ failed NAME: WHY`; and last `@ ended`.
+"""
+
+from __future__ import annotations
+
+import ctypes
+import io
+import os
+import sys
+import time
+import traceback
+from contextlib import contextmanager, redirect_stderr, redirect_stdout
+from hashlib import sha256
+from typing import Callable, Dict, Iterator, List, Optional, Tuple
+
+sys.path.insert(0, "/client")
+
+ARCHIVE, IMAGE, LABEL = "/work/archive", "/work/disc.img", "DISCS-000001"
+CLOSED = f"{ARCHIVE}/closed/{LABEL}.img"
+BLOCK = 2048
+READ_ONLY, FINIT_MODULE, POWER_OFF = 1, 313, 0x4321FEDC
+
+libc = ctypes.CDLL(None, use_errno=True)
+
+
+def mount(source: str, target: str, kind: str, flags: int = 0, options: str = "") -> None:
+    """Mounts a file system; OSError where the kernel refuses."""
+    os.makedirs(target, exist_ok=True)
+    if libc.mount(source.encode(), target.encode(), kind.encode(), flags, options.encode()):
+        raise OSError(ctypes.get_errno(), os.strerror(ctypes.get_errno()))
+
+
+def begin() -> None:
+    """Has the system's folders and the kernel's modules."""
+    os.environ.update({"PATH": "/usr/bin:/usr/sbin:/bin", "UDFBURN": "/bin/udfburn", "HOME": "/work", "LC_ALL": "C.UTF-8"})
+    for source, target, kind in (("proc", "/proc", "proc"), ("sys", "/sys", "sysfs"), ("dev", "/dev", "devtmpfs"), ("tmp", "/tmp", "tmpfs")):
+        mount(source, target, kind)
+    for name in sorted(os.listdir("/modules")):
+        file = os.open(f"/modules/{name}", os.O_RDONLY)
+        libc.syscall(FINIT_MODULE, file, b"", 0)
+        os.close(file)
+
+
+def drives(count: int) -> Dict[str, str]:
+    """The recorders by their names, once all are there."""
+    limit = time.monotonic() + 120
+    found: Dict[str, str] = {}
+    while len(found) < count and time.monotonic() < limit:
+        for name in os.listdir("/sys/block"):
+            if name.startswith("sr") and os.path.exists(f"/dev/{name}"):
+                with open(f"/sys/block/{name}/device/model", encoding="ascii") as file:
+                    found[file.read().strip()] = f"/dev/{name}"
+        time.sleep(0.1)
+    return found
+
+
+# ---- what is asked of the programs
+
+def run(main: Callable[[List[str]], int], *words: str) -> Tuple[int, str]:
+    """A command's status, and what it prints."""
+    output = io.StringIO()
+    with redirect_stdout(output), redirect_stderr(output):
+        status = main(list(words))
+    return status, output.getvalue()
+
+
+def client(*words: str) -> Tuple[int, str]:
+    from udfburn.cli import main
+
+    return run(main, *words)
+
+
+def archive(*words: str) -> Tuple[int, str]:
+    from udfburn.archive.cli import main
+
+    return run(main, *words, "--archive", ARCHIVE)
+
+
+def expect(found: Tuple[int, str], status: int, text: str) -> None:
+    """Raises where a command ended otherwise, or did not print this."""
+    if found[0] != status or text not in found[1]:
+        raise AssertionError(f"status {found[0]} and not {status}, or no {text!r}: {found[1]}")
+
+
+def burn(device: str, *words: str) -> Tuple[int, str]:
+    return archive("burn", LABEL, "--device", device, *words)
+
+
+@contextmanager
+def mounted(device: str, options: str = "") -> Iterator[str]:
+    mount(device, "/mnt", "udf", READ_ONLY, options)
+    try:
+        yield "/mnt"
+    finally:
+        libc.umount(b"/mnt")
+
+
+def bag_is_whole(device: str, options: str = "") -> None:
+    """Mounts a disc, and compares each file of its bag with the manifest."""
+    with mounted(device, options) as folder:
+        with open(f"{folder}/manifest-sha256.txt", encoding="utf-8") as file:
+            lines = [line.rstrip("\n").split("  ", 1) for line in file]
+        if len(lines) < 10:
+            raise AssertionError(f"the manifest has {len(lines)} files")
+        for digest, name in lines:
+            with open(f"{folder}/{name}", "rb") as file2:
+                if sha256(file2.read()).hexdigest() != digest:
+                    raise AssertionError(f"{name} differs")
+
+
+def is_refused(device: str, options: str = "") -> None:
+    try:
+        with mounted(device, options):
+            pass
+    except OSError:
+        return
+    raise AssertionError("Linux mounted it")
+
+
+def bytes_of(path: str, count: int) -> bytes:
+    with open(path, "rb") as file:
+        return file.read(count)
+
+
+def discs_known() -> str:
+    """The rows of the catalogue that are discs."""
+    import sqlite3
+
+    base = sqlite3.connect(f"{ARCHIVE}/catalogue.sqlite")
+    try:
+        return repr(base.execute("SELECT volume, remote, trouble FROM copy ORDER BY remote").fetchall())
+    finally:
+        base.close()
+
+
+def raw(device: str, image: str, *words: str) -> None:
+    """What people burn by hand, and a drive that has taken the disc in again."""
+    import subprocess
+
+    from udfburn.burning import take_in_again
+
+    done = subprocess.run(["xorriso", "-no_rc", "-as", "cdrecord", "-v", f"dev={device}", *words, image], capture_output=True, text=True, check=False)
+    if done.returncode:
+        raise AssertionError(done.stdout + done.stderr)
+    take_in_again(device, lambda line: None)
+
+
+# ---- the tests
+
+def a_good_disc(device: str, name: str) -> None:
+    """Burned, read back, mounted without options, and recorded; found again by the same words."""
+    expect(burn(device, "--disc", name), 0, f"Write on it: {LABEL} / {name}")
+    bag_is_whole(device)
+    image = bytes_of(CLOSED, os.path.getsize(CLOSED))
+    if bytes_of(device, len(image)) != image:
+        raise AssertionError("the disc is not the image")
+    expect(burn(device, "--disc", name), 0, "is on this disc already")
+    expect(archive("check", "--disc", name, "--device", device), 0, "is intact")
+
+
+def other_words(found: Dict[str, str]) -> None:
+    """A disc that is there already is another disc's neither by its name, nor by what is on it."""
+    before = discs_known()
+    expect(burn(found["BLANK"], "--disc", "CDR"), 1, "already")
+    expect(archive("burn", "DISCS-000002", "--device", found["CDR"], "--disc", "NEW"), 1, "is not blank")
+    expect(archive("check", "--disc", "CDR", "--device", found["RAW"]), 1, "RAW")
+    if discs_known() != before:
+        raise AssertionError("a row changed")
+
+
+def refused(device: str, text: str) -> None:
+    """Nothing is recorded."""
+    before = discs_known()
+    expect(burn(device, "--disc", "REFUSED"), 1, text)
+    if discs_known() != before:
+        raise AssertionError("a row changed")
+
+
+def repaired(device: str) -> None:
+    """The image comes back from a disc, byte by byte."""
+    image = bytes_of(CLOSED, os.path.getsize(CLOSED))
+    os.chmod(CLOSED, 0o600)
+    with open(CLOSED, "r+b") as file:
+        file.seek(300 * BLOCK)
+        file.write(b"damage")
+    expect(burn(device, "--disc", "DAMAGED"), 1, "repair")
+    expect(archive("repair", LABEL, "--disc", "DVDR", "--device", device), 0, "repaired 1")
+    if bytes_of(CLOSED, len(image) + 1) != image:
+        raise AssertionError("it is not the image that was closed")
+
+
+def burned_by_hand(device: str) -> None:
+    """Zeros after the image hide its end from Linux: this test would pass on a recorder that writes no units."""
+    raw(device, CLOSED, "-sao", "padsize=0")
+    is_refused(device)
+    bag_is_whole(device, f"lastblock={os.path.getsize(CLOSED) // BLOCK - 1}")
+
+
+def track_at_once(device: str) -> None:
+    raw(device, CLOSED, "-tao", "padsize=0")
+    bag_is_whole(device)
+
+
+def by_the_client(device: str) -> None:
+    expect(client("burn", IMAGE, "--device", device), 0, "every byte was read back")
+    expect(client("burn", IMAGE, "--device", device), 0, "is on this disc already")
+    with mounted(device) as folder:
+        if bytes_of(f"{folder}/f", 10_000) != bytes(range(250)) * 40:
+            raise AssertionError("its file differs")
+
+
+def past_the_partition(device: str) -> None:
+    """Why a volume without room for the copies is refused."""
+    raw(device, "/work/past.img", "-sao", "padsize=0")
+    is_refused(device)
+
+
+def tests(found: Dict[str, str]) -> List[Tuple[str, Callable[[], None]]]:
+    return [
+        *((f"a good {name}", lambda name=name: a_good_disc(found[name], name)) for name in ("CDR", "DVDR", "DVD+R", "BDR")),  # type: ignore[misc]
+        ("a disc burned by hand", lambda: burned_by_hand(found["RAW"])),
+        ("track at once", lambda: track_at_once(found["TAO"])),
+        ("by the client", lambda: by_the_client(found["CLIENT"])),
+        ("copies past the partition", lambda: past_the_partition(found["PAST"])),
+        ("too small", lambda: refused(found["SMALL"], "is too small")),
+        ("no disc", lambda: refused(found["NONE"], "there is no disc in it")),
+        ("a write that fails", lambda: refused(found["WORN"], "The disc may be spoiled")),
+        ("a disc that was cut short", lambda: refused(found["WORN"], "is not blank, and does not have")),
+        ("a wrong bit is read back", lambda: refused(found["WRONG"], "mark this disc as spoiled")),
+        ("names and other discs", lambda: other_words(found)),
+        ("repaired", lambda: repaired(found["DVDR"])),
+    ]
+
+
+def say(line: str) -> None:
+    """A line of the console, on which the kernel may print too."""
+    os.write(1, f"\n@ {' '.join(line.split())}\n".encode())
+
+
+def main() -> None:
+    begin()
+    with open("/work/count", encoding="ascii") as file:
+        count = int(file.read())
+    found = drives(count)
+    if len(found) != count:
+        say(f"failed drives: {found}")
+    for name, test in tests(found):
+        began = time.monotonic()
+        try:
+            test()
+            say(f"passed {name} {time.monotonic() - began:.1f} s")
+        except BaseException:
+            say(f"failed {name}: {traceback.format_exc()}")
+
+
+try:
+    main()
+except BaseException:
+    say(f"failed the machine: {traceback.format_exc()}")
+say("ended")
+os.sync()
+libc.reboot(POWER_OFF)
