@@ -1,5 +1,5 @@
 #!/bin/sh
-# The archive over many volumes, tried with real programs: PostgreSQL, rclone, udfclient and a Linux kernel, processes that are
+# The archive over many volumes, tried with real programs: PostgreSQL, rclone, xorriso, udfclient and a Linux kernel, processes that are
 # killed, disks that are full, images that are damaged.
 #
 # usage: test/archive.sh [--large] [UDFBURN [NAME..]]
@@ -40,6 +40,7 @@ output=$(mktemp) || exit 1
 trap 'rm -f "$output"' EXIT
 trap 'exit 1' HUP INT PIPE TERM
 cd "$home" || exit 1
+command -v xorriso > "$output" || ./packages.sh xorriso > "$output" 2>&1
 
 # A Linux kernel that reads UDF: this machine's, else Debian's in a machine of QEMU, as in test/readers.sh.
 room=$(mktemp -d) || exit 1

@@ -39,7 +39,7 @@ apart() {
 
 # all_are_looked_at: whether each Python file is in a folder that mypy looks at below.
 all_are_looked_at() {
-    find . -name '*.py' ! -path '*/out/*' | sed 's|^\./||' | grep -v -E '^(clients/python/(udfburn|tests)/|clients/python/bench(_calls)?\.py$|test/(commands|faults|vectors|archive|library|bad_day|copies|readers|documents)/|test/protocol\.py$|bench/[a-z]+/)' > "$room/others"
+    find . -name '*.py' ! -path '*/out/*' | sed 's|^\./||' | grep -v -E '^(clients/python/(udfburn|tests)/|clients/python/bench(_calls)?\.py$|test/(commands|faults|vectors|archive|library|bad_day|copies|disc|readers|documents)/|test/protocol\.py$|bench/[a-z]+/)' > "$room/others"
     cat "$room/others"
     ! [ -s "$room/others" ]
 }
@@ -56,6 +56,8 @@ if have mypy mypy; then
     holds 'the tests of damaged images are typed' apart test/bad_day "$top/clients/python:$top/test" --config-file ../../clients/python/pyproject.toml bad_day.py images.py
     others=$top/test:$top/test/readers:$top/bench/apply
     holds 'the other tests are typed' apart "$top" "$others" test/protocol.py test/copies/*.py test/readers/*.py test/documents/*.py
+    holds 'the tests of discs are typed' apart test/disc "$top/test/disc:$top/test/readers:$top/clients/python" --config-file ../../clients/python/pyproject.toml discs.py
+    holds 'what burns discs in the machine is typed' apart test/disc "$top/clients/python" --config-file ../../clients/python/pyproject.toml --python-version 3.11 guest.py
     # Some of these have the same name, so each folder is looked at apart.
     for folder in bench/*/; do
         set -- "$folder"*.py

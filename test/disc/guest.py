@@ -13,7 +13,7 @@ import time
 import traceback
 from contextlib import contextmanager, redirect_stderr, redirect_stdout
 from hashlib import sha256
-from typing import Callable, Dict, Iterator, List, Optional, Tuple
+from typing import Callable, Dict, Iterator, List, Tuple
 
 sys.path.insert(0, "/client")
 
@@ -37,6 +37,11 @@ def begin() -> None:
     os.environ.update({"PATH": "/usr/bin:/usr/sbin:/bin", "UDFBURN": "/bin/udfburn", "HOME": "/work", "LC_ALL": "C.UTF-8"})
     for source, target, kind in (("proc", "/proc", "proc"), ("sys", "/sys", "sysfs"), ("dev", "/dev", "devtmpfs"), ("tmp", "/tmp", "tmpfs")):
         mount(source, target, kind)
+    # The archive of the machine has no devices, so this process began without a console.
+    console = os.open("/dev/ttyS0", os.O_RDWR | os.O_NOCTTY)
+    for number in range(3):
+        os.dup2(console, number)
+    sys.stdout, sys.stderr = (open(number, "w", encoding="utf-8", closefd=False) for number in (1, 2))
     for name in sorted(os.listdir("/modules")):
         file = os.open(f"/modules/{name}", os.O_RDONLY)
         libc.syscall(FINIT_MODULE, file, b"", 0)
@@ -165,7 +170,7 @@ def other_words(found: Dict[str, str]) -> None:
     before = discs_known()
     expect(burn(found["BLANK"], "--disc", "CDR"), 1, "already")
     expect(archive("burn", "DISCS-000002", "--device", found["CDR"], "--disc", "NEW"), 1, "is not blank")
-    expect(archive("check", "--disc", "CDR", "--device", found["RAW"]), 1, "RAW")
+    expect(archive("check", "--disc", "CDR", "--device", found["CLIENT"]), 1, f"and not {LABEL}: put the right one in")
     if discs_known() != before:
         raise AssertionError("a row changed")
 
@@ -186,7 +191,7 @@ def repaired(device: str) -> None:
         file.seek(300 * BLOCK)
         file.write(b"damage")
     expect(burn(device, "--disc", "DAMAGED"), 1, "repair")
-    expect(archive("repair", LABEL, "--disc", "DVDR", "--device", device), 0, "repaired 1")
+    expect(archive("repair", LABEL, "--disc", "DVDR", "--device", device), 0, "repaired 1 image")
     if bytes_of(CLOSED, len(image) + 1) != image:
         raise AssertionError("it is not the image that was closed")
 
@@ -219,7 +224,7 @@ def past_the_partition(device: str) -> None:
 
 def tests(found: Dict[str, str]) -> List[Tuple[str, Callable[[], None]]]:
     return [
-        *((f"a good {name}", lambda name=name: a_good_disc(found[name], name)) for name in ("CDR", "DVDR", "DVD+R", "BDR")),  # type: ignore[misc]
+        *((f"a good {name}", lambda name=name: a_good_disc(found[name], name)) for name in ("CDR", "DVDR", "DVD+R", "BDR")),
         ("a disc burned by hand", lambda: burned_by_hand(found["RAW"])),
         ("track at once", lambda: track_at_once(found["TAO"])),
         ("by the client", lambda: by_the_client(found["CLIENT"])),
@@ -243,6 +248,7 @@ def main() -> None:
     begin()
     with open("/work/count", encoding="ascii") as file:
         count = int(file.read())
+    say("has begun")
     found = drives(count)
     if len(found) != count:
         say(f"failed drives: {found}")

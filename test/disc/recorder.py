@@ -64,7 +64,7 @@ class Recorder:
         self.blocks = blocks or (self.kind.blocks if self.kind else 0)
         self.data = bytearray()
         self.unreadable = range(0)
-        self.closed = self.attention = self.new = False
+        self.closed = self.attention = self.new = self.asked = False
         self.page5 = bytearray(52)
         self.page5[:16] = bytes([5, 50, 0x60 | SESSION_AT_ONCE, 4, 8, 16, 0, 0, 0, 0, 0, 0, 0, 16, 0, 150])
         self.commands: Dict[int, Callable[[bytes, bytes], bytes]] = {
@@ -198,7 +198,10 @@ class Recorder:
         return len(self.data) // BLOCK
 
     def capacity(self, cdb: bytes, data: bytes) -> bytes:
-        self.medium()
+        # QEMU opens no drive without a disc, so that one is asked once before it is found empty.
+        if self.asked:
+            self.medium()
+        self.asked = True
         return struct.pack(">II", max(self.written() - 1, 0), BLOCK)
 
     def contents(self, cdb: bytes, data: bytes) -> bytes:

@@ -296,4 +296,7 @@ def ends_well(device: str, blocks: int) -> bool:
     return False
 
 
-__all__ = ["Check", "Disc", "FILE", "burned", "ends_well", "look_at", "path_of", "read_back", "read_from", "require_drive", "require_other", "take_in_again"]
+__all__ = [
+    "Check", "Disc", "FILE", "Say", "burned", "ends_well", "look_at", "opened", "path_of", "read_back", "read_from", "require_drive", "require_other",
+    "take_in_again",
+]

@@ -75,14 +75,22 @@ class VolumeRow(NamedTuple):
     trouble: Optional[str] = None
 
 
+DISC = "disc:"
+"""How the catalogue's word for a disc begins, before its name."""
+
+
 class Copy(NamedTuple):
-    """A copy of a closed volume, and what was wrong with it when it was last looked at."""
+    """A copy of a closed volume, on a remote or on a disc, and what was wrong with it when it was last looked at."""
 
     volume: int
     remote: str
     made: int
     checked: int
     trouble: Optional[str]
+
+    def disc(self) -> Optional[str]:
+        """The name of the disc; None for a copy on a remote."""
+        return self.remote[len(DISC) :] if self.remote.startswith(DISC) else None
 
 
 VOLUME = ", ".join(VolumeRow._fields)
@@ -206,6 +214,10 @@ class Catalogue:
         """A volume, by its number."""
         rows = self.base.run(f"SELECT {VOLUME} FROM volume WHERE number = ?", (number,))
         return volume_row(rows[0]) if rows else None
+
+    def on_remotes(self, number: int) -> List[Copy]:
+        """The copies of a volume that a program can ask for, which discs are not."""
+        return [copy for copy in self.copies(number) if copy.disc() is None]
 
     def copies(self, number: Optional[int] = None) -> List[Copy]:
         """The copies of a volume, or of all."""
@@ -436,6 +448,6 @@ def is_whole(group: Sequence[Held]) -> bool:
 
 
 __all__ = [
-    "CLOSED", "CLOSING", "Catalogue", "Copy", "FULL", "Held", "NEW", "OPEN", "RETIRED", "VolumeRow", "as_of", "image_of", "is_whole",
+    "CLOSED", "CLOSING", "Catalogue", "Copy", "DISC", "FULL", "Held", "NEW", "OPEN", "RETIRED", "VolumeRow", "as_of", "image_of", "is_whole",
     "part_count", "versions",
 ]

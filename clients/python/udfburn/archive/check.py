@@ -11,7 +11,7 @@ from typing import Any, Dict, List, NamedTuple, Optional, Sequence, Tuple
 from ..ledger_file import sync_file, sync_folder
 from ..operations import now
 from ..sources import shown
-from .catalogue import CLOSED, Catalogue, Copy, Held, VolumeRow, image_of, part_count
+from .catalogue import CLOSED, DISC, Catalogue, Copy, Held, VolumeRow, image_of, part_count
 from .claims import Claims
 from .close import SIDECARS, beside, send
 from .config import Config
@@ -68,7 +68,7 @@ class Checker:
             else:
                 self._volume(row, image)
             if self.options.remotes:
-                for copy in self.catalogue.copies(row.number):
+                for copy in self.catalogue.on_remotes(row.number):
                     self._copy(row, copy)
 
     def _volume(self, row: VolumeRow, image: str) -> None:
@@ -156,7 +156,10 @@ class Checker:
 
     def _cure(self, row: VolumeRow) -> str:
         """From which copy a volume can be repaired."""
-        good = [copy.remote for copy in self.catalogue.copies(row.number) if copy.trouble is None]
+        # Remotes first, since nobody has to fetch one from a shelf.
+        good = [copy.remote for copy in sorted(self.catalogue.copies(row.number), key=lambda copy: copy.disc() is not None) if copy.trouble is None]
+        if good and good[0].startswith(DISC):
+            return f"'udfburn-archive repair {row.label} --disc {good[0][len(DISC):]}' replaces it by the disc {good[0][len(DISC):]}"
         if good:
             return f"'udfburn-archive repair {row.label}' replaces it by the copy on {good[0]}"
         if row.state != CLOSED:
@@ -199,7 +202,7 @@ class Repairer:
             self._fetch(row, image, wanted)
         if row.trouble:
             self.catalogue.save(row._replace(trouble=None, checked=now()))
-        for copy in self.catalogue.copies(row.number):
+        for copy in self.catalogue.on_remotes(row.number):
             try:
                 if remote_of(self.catalogue, copy.remote).look(row.label + ".img") != wanted:
                     send(self.catalogue, row, image, copy.remote)
@@ -213,7 +216,7 @@ class Repairer:
         """Takes the image from the first copy that is as it was closed. What is damaged gets another name, and is not deleted."""
         new = image + ".new"
         why: Dict[str, str] = {}
-        for copy in self.catalogue.copies(row.number):
+        for copy in self.catalogue.on_remotes(row.number):
             try:
                 remote_of(self.catalogue, copy.remote).fetch(row.label + ".img", new)
                 sync_file(new)
@@ -229,6 +232,9 @@ class Repairer:
         if os.path.lexists(new):
             os.unlink(new)
         told = "; ".join(f"{remote}: {text}" for remote, text in why.items())
+        discs = [copy.disc() for copy in self.catalogue.copies(row.number) if copy.disc() is not None and copy.trouble is None]
+        if discs:
+            raise CopyFailed(f"no copy on a remote is good ({told or 'none is known'}): put the disc {discs[0]} in, and run 'repair {row.label} --disc {discs[0]}'")
         raise CopyFailed(f"no copy is good ({told or 'none is known'}): 'udfburn-client salvage' copies out what is intact")
 
     def _put(self, image: str, new: str) -> None:

@@ -78,6 +78,12 @@ def add_writers(subs: "Subs") -> None:
     repair = command(subs, "repair", "replace damaged or lost images by good copies, and damaged copies by good images")
     repair.add_argument("volume", nargs="*", metavar="VOLUME", help="labels of volumes (default: all in which check found damage)")
 
+    add_disc(repair, False)
+
+    burn = command(subs, "burn", "burn a closed volume onto a blank disc, and compare every byte; run it again to finish what was interrupted")
+    burn.add_argument("volume", metavar="VOLUME", help="the label of the volume")
+    add_disc(burn, True)
+
     remote = command(subs, "remote", "list, add or remove the places for copies")
     remote.add_argument("action", choices=("list", "add", "remove"), metavar="list|add|remove", help="'add' also lets a folder that is in archive.toml already take copies")
     remote.add_argument("remote", nargs="?", metavar="REMOTE", help="a folder, or an rclone remote as NAME:PATH")
@@ -90,6 +96,12 @@ def add_writers(subs: "Subs") -> None:
     rebuild = command(subs, "rebuild", "rebuild the catalogue from the volumes at hand, and report each difference from the old one")
     rebuild.add_argument("image", nargs="*", metavar="IMAGE", help="further images, or folders of images")
     rebuild.add_argument("--dry-run", action="store_true", help="report the differences, and change nothing")
+
+
+def add_disc(sub: argparse.ArgumentParser, required: bool) -> None:
+    """The options for a disc in a drive."""
+    sub.add_argument("--disc", metavar="NAME", required=required, help="the name of the disc in the drive, as it is written on it")
+    sub.add_argument("--device", metavar="DEVICE", default="/dev/sr0", help="the drive (default: /dev/sr0)")
 
 
 def add_readers(subs: "Subs") -> None:
@@ -122,6 +134,8 @@ def add_readers(subs: "Subs") -> None:
     check.add_argument("--sample", type=int, metavar="N", help="check N volumes, chosen at random")
     check.add_argument("--oldest", action="store_true", help="check the volume whose last check is longest ago, or N of them with --sample")
 
+    add_disc(check, False)
+
     report = command(subs, "report", "write a static HTML page: the volumes, a map of each by commit, and a search by path")
     report.add_argument("out", metavar="OUT.html", help="the page; an earlier one is replaced")
 
@@ -130,7 +144,7 @@ def add_readers(subs: "Subs") -> None:
 
 COMMANDS: Dict[str, str] = {
     "init": "commands", "add": "commands", "rebuild": "commands", "ls": "lookups", "find": "lookups", "history": "lookups", "where": "lookups",
-    "get": "queries", "status": "queries", "report": "queries", "adopt": "closing", "close": "closing", "check": "closing", "repair": "closing",
+    "get": "queries", "status": "queries", "report": "queries", "adopt": "closing", "close": "closing", "burn": "discs", "check": "closing", "repair": "closing",
     "remote": "remote_command",
 }
 

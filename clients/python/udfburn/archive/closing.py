@@ -45,7 +45,11 @@ def close(arguments: argparse.Namespace) -> int:
 
 
 def check(arguments: argparse.Namespace) -> int:
-    """Checks volumes."""
+    """Checks volumes, or a disc."""
+    if arguments.disc is not None:
+        from .discs import check_disc
+
+        return check_disc(arguments)
     config, tell = config_of(arguments), tell_of(arguments)
     options = Options(arguments.data, arguments.remotes, arguments.sample, arguments.oldest)
     with Catalogue(config) as catalogue:
@@ -67,7 +71,11 @@ def check(arguments: argparse.Namespace) -> int:
 
 
 def repair(arguments: argparse.Namespace) -> int:
-    """Repairs volumes."""
+    """Repairs volumes, from remotes or from a disc."""
+    if arguments.disc is not None:
+        from .discs import repair_disc
+
+        return repair_disc(arguments)
     config, tell = config_of(arguments), tell_of(arguments)
     with Catalogue(config) as catalogue, closing(claims_of(catalogue.base, config.path("locks"), config.catalogue)) as claims:
         rows = catalogue.volumes()

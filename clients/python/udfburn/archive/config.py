@@ -95,6 +95,8 @@ def check_remote(remote: str) -> str:
     if os.path.isabs(remote):
         return os.path.normpath(remote)
     name, colon, _ = remote.partition(":")
+    if name + colon == "disc:":
+        raise BadConfig(f"{remote}: is how the catalogue names discs: give the remote of rclone another name ('rclone config')")
     if not colon or not name or "/" in name or remote.startswith("-"):
         raise BadConfig(f"{remote}: is neither the absolute path of a folder nor an rclone remote, NAME:PATH")
     return remote

@@ -137,10 +137,12 @@ def where(arguments: argparse.Namespace) -> int:
             if row is None:
                 raise Lacking(f"the catalogue lacks volume {held.volume}: run 'rebuild'")
             image = image_of(config, row)
-            remotes = [copy.remote for copy in catalogue.copies(row.number) if copy.trouble is None]
+            good = [copy for copy in catalogue.copies(row.number) if copy.trouble is None]
+            remotes, discs = [copy.remote for copy in good if not copy.disc()], [copy for copy in good if copy.disc()]
             parts = f", parts {held.first} to {(held.first or 0) + (held.parts or 0) - 1}" if held.parts is not None else ""
             place = image or (f"at {holders.get(row.holder, '?')}" if row.holder != config.id else "away")
             line = f"{row.label} commit {held.commit}{parts}: {row.state}, {place}" + "".join(f", copy on {remote}" for remote in remotes)
+            line += "".join(f", disc {copy.disc()} of {stamp(copy.made)[:10]}" for copy in discs)
             tell.say(line, volume=row.label, commit=held.commit, first=held.first, parts=held.parts, state=row.state, image=image,
-                     holder=holders.get(row.holder), copies=remotes, sha256=held.sha256.hex(), size=held.size, moment=held.moment)
+                     holder=holders.get(row.holder), copies=remotes, discs=[copy.disc() for copy in discs], sha256=held.sha256.hex(), size=held.size, moment=held.moment)
     return 0

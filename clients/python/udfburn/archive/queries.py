@@ -88,7 +88,9 @@ def status_line(line: Line, elsewhere: str) -> str:
     full = " ".join(f"{name} {share:.0%}" for name, share in line.fullness.items())
     words = f"{row.label} {line.state}: {plural(row.files, 'file', 'files')}, {full}"
     words += f", checked {stamp(row.checked)[:10]}" if row.checked else ""
-    words += f", copies {', '.join(copy.remote for copy in line.copies)}" if line.copies else ""
+    remotes = [copy.remote for copy in line.copies if not copy.disc()]
+    words += f", copies {', '.join(remotes)}" if remotes else ""
+    words += "".join(f", disc {copy.disc()} of {stamp(copy.made)[:10]}" for copy in line.copies if copy.disc())
     return words + (f", at {elsewhere}" if elsewhere else "")
 
 
@@ -100,6 +102,7 @@ def status_fields(line: Line, holders: Dict[str, str]) -> Dict[str, object]:
         "nodes": row.nodes, "blocks": row.blocks, "capacity": row.capacity, "clients": row.clients, "manifest": row.manifest,
         "fullest_folder": row.fullest_folder, "fullness": line.fullness, "last_commit": row.last_commit, "closed": row.closed,
         "sha256": row.sha256.hex() if row.sha256 else None, "length": row.length, "checked": row.checked, "data_checked": row.data_checked,
-        "copies": [{"remote": copy.remote, "checked": copy.checked, "trouble": copy.trouble} for copy in line.copies],
+        "copies": [{"remote": copy.remote, "checked": copy.checked, "trouble": copy.trouble} for copy in line.copies if not copy.disc()],
+        "discs": [{"disc": copy.disc(), "burned": copy.made, "checked": copy.checked, "trouble": copy.trouble} for copy in line.copies if copy.disc()],
         "attention": line.attention,
     }

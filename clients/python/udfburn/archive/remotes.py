@@ -13,7 +13,7 @@ from typing import IO, Any, Dict, List, NamedTuple, Optional
 
 from ..ledger_file import sync_file, sync_folder
 from ..sources import shown
-from .catalogue import Catalogue
+from .catalogue import Catalogue, DISC
 from .errors import CopyFailed
 from .markers import Owner, require_own
 
@@ -244,5 +244,7 @@ def owner_of(catalogue: Catalogue) -> Owner:
 
 
 def remote_of(catalogue: Catalogue, name: str) -> Remote:
-    """The place of a name in `archive.toml`."""
+    """The place of a name in `archive.toml`. A disc is none: somebody has to put it in a drive."""
+    if name.startswith(DISC):
+        raise CopyFailed(f"{name[len(DISC):]}: is a disc: name it with --disc, and its drive with --device")
     return FolderRemote(name, owner_of(catalogue)) if os.path.isabs(name) else RcloneRemote(name)

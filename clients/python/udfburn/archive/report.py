@@ -56,7 +56,8 @@ def volume(config: Config, catalogue: Catalogue, line: Line, folders: Dict[str, 
         "checked": row.checked, "last": row.last_commit, "sha256": row.sha256.hex() if row.sha256 else None, "fullness": line.fullness,
         # A file on several volumes counts where its first part is.
         "whole": sum(1 for held in rows if not held.first), "bytes": sum(held.size for held in rows if not held.first),
-        "copies": [copy.remote for copy in line.copies if copy.trouble is None], "attention": line.attention, "ends": ends(config, line),
+        "copies": [copy.remote for copy in line.copies if copy.trouble is None and not copy.disc()],
+        "discs": [[copy.disc(), copy.made] for copy in line.copies if copy.trouble is None and copy.disc()], "attention": line.attention, "ends": ends(config, line),
         "names": [shown_path(held.path[-1:])[1:] for held in rows], "sizes": [held.size for held in rows], "commits": [held.commit for held in rows],
         "folders": [folders.setdefault(shown_path(held.path[:-1]).rstrip("/"), len(folders)) for held in rows],
     }

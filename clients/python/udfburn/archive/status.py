@@ -57,11 +57,13 @@ def attention(row: VolumeRow, at_hand: bool, copies: List[Copy], config: Config,
     found = []
     if row.trouble:
         found.append(f"{row.trouble}: 'repair {row.label}'")
-    found += [f"the copy on {copy.remote}: {copy.trouble}: 'repair {row.label}'" for copy in copies if copy.trouble]
+    found += [f"the copy on {copy.remote}: {copy.trouble}: 'repair {row.label}'" for copy in copies if copy.trouble and not copy.disc()]
+    found += [f"the disc {copy.disc()}: {copy.trouble}: 'burn {row.label}' onto another one" for copy in copies if copy.trouble and copy.disc()]
     if own and not at_hand and row.state not in (NEW, CLOSED):
         found.append("is not closed, and its image is not at hand: bring it back")
     if own and not at_hand and row.state == CLOSED and not good(copies, config):
-        found.append("is away, and no copy is known")
+        discs = [f"the disc {copy.disc()}" for copy in copies if copy.disc() and not copy.trouble]
+        found.append(f"is away, and known on no remote, but on {', '.join(discs)}" if discs else "is away, and no copy is known")
     if row.state in (FULL, CLOSING):
         found.append(f"is {row.state}: 'close {row.label}'")
     if row.state == CLOSED and at_hand and good(copies, config) < len(config.copies):

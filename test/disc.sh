@@ -1,0 +1,61 @@
+#!/bin/sh
+# Discs: volumes that are burned onto a CD-R, a DVD-R, a DVD+R and a BD-R, read back, and mounted by a Linux kernel without options;
+# and what is said where a disc cannot be burned. The recorders are emulated (test/disc/recorder.py).
+#
+# usage: test/disc.sh [UDFBURN]
+# The recorders answer over iSCSI on this machine alone, and a virtual machine of QEMU takes them for its drives: it starts once for
+# all tests. What is not there is installed from Debian's packages where we may; what cannot be had is said, and is a failure where
+# CI=true. Its last line is 'disc: N passed, M failed'.
+set -u
+home=$(cd "$(dirname "$0")" && pwd)
+suite=disc
+# shellcheck source=test/shell.sh
+. "$home/shell.sh"
+udfburn=$(absolute "${1:-$home/../crates/udfburn/out/udfburn}")
+if ! [ -x "$udfburn" ]; then
+    echo "disc: $udfburn is no program"
+    echo 'disc: 0 passed, 1 failed'
+    exit 1
+fi
+room=$(mktemp -d) || exit 1
+trap 'rm -rf "$room"' EXIT
+trap 'exit 1' HUP INT PIPE TERM
+PATH=$PATH:/usr/sbin:/sbin
+export PYTHONDONTWRITEBYTECODE=1
+python=${PYTHON:-/usr/bin/python3}
+[ -x "$python" ] || python=python3
+
+# install PACKAGE..: installs them, where we may.
+install() {
+    "$home/packages.sh" "$@" >> "$room/apt.log" 2>&1
+}
+
+# left_out WHAT: says what is not there, which is a failure in CI.
+left_out() {
+    echo "disc: not tried: $1"
+    if [ "${CI:-}" = true ]; then fail "$1"; fi
+    counted
+    exit
+}
+
+# kernel: unpacks Debian's kernel for virtual machines; nothing of it is installed.
+kernel() {
+    install --lists
+    package=$(apt-cache depends linux-image-cloud-amd64 | sed -n 's/.*Depends: \(linux-image-[0-9].*\)/\1/p' | head -n 1)
+    mkdir "$room/kernel" "$room/package"
+    [ -n "$package" ] && (cd "$room/package" && apt-get -q download "$package" >> "$room/apt.log" 2>&1) &&
+        dpkg-deb -x "$room/package/"*.deb "$room/kernel"
+}
+
+for tool in qemu-system-x86_64:qemu-system-x86 xorriso:xorriso ldd:libc-bin; do
+    command -v "${tool%:*}" > "$room/which" || install "${tool#*:}"
+    command -v "${tool%:*}" > "$room/which" || left_out "${tool%:*} is not there"
+done
+# QEMU has its part for iSCSI in a package of its own.
+ls /usr/lib/*/qemu/block-iscsi.so > "$room/which" 2>&1 || install qemu-block-extra
+ls /usr/lib/*/qemu/block-iscsi.so > "$room/which" 2>&1 || left_out 'QEMU has no iSCSI'
+kernel || left_out 'no kernel with udf'
+mkdir "$room/room"
+status=0
+"$python" "$home/disc/discs.py" "$udfburn" "$room/kernel" "$room/room" > "$room/output" 2>&1 || status=$?
+counted_in "$room/output" "$status"
