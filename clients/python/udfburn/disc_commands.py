@@ -54,11 +54,13 @@ def require_sound(arguments: argparse.Namespace, progress: Progress) -> None:
 def finish_image(arguments: argparse.Namespace) -> int:
     """Makes a copy for a disc."""
     from .finish import track_of
-    from .saving import require_place, save
+    from .saving import save, taken
     from .second_opinion import opinion_of
 
     progress = progress_of(arguments)
-    require_place(arguments.out, False)
+    # A look before the long check of the image. `save` decides.
+    if os.path.lexists(arguments.out):
+        raise taken(arguments.out)
     require_sound(arguments, progress)
     track = track_of(arguments.image_path, arguments.medium)
     sent = Sum()

@@ -77,7 +77,6 @@ def add_writers(subs: "Subs") -> None:
 
     repair = command(subs, "repair", "replace damaged or lost images by good copies, and damaged copies by good images")
     repair.add_argument("volume", nargs="*", metavar="VOLUME", help="labels of volumes (default: all in which check found damage)")
-
     add_disc(repair, False)
 
     burn = command(subs, "burn", "burn a closed volume onto a blank disc, and compare every byte; run it again to finish what was interrupted")
