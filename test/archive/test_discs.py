@@ -7,7 +7,7 @@ import shutil
 from typing import Any, Dict, List
 from unittest import mock
 
-from .support import COMMANDS, Done, WithArchive, environment, make_tree, write
+from .support import COMMANDS, Done, WithArchive, digests, environment, make_tree, write
 
 from udfburn.archive import remotes  # noqa: E402
 from udfburn.archive.config import check_remote  # noqa: E402
@@ -160,7 +160,9 @@ class Discs(WithArchive):
             (("burn", LABEL, "--disc", "N", "--device", "/nonexistent/sr0"), 1, "there is no such drive"), (("burn", LABEL, "--disc", "N" * 41), 2, "is not a name for a disc"),
             (("burn", LABEL, "--disc", "a\tb"), 2, "is not a name for a disc"), (("burn", "TAPES-000009", "--disc", "N"), 1, "is not a volume"),
             (("check", "--disc", "N"), 1, "is no disc of this archive"), (("check", "TAPES-000002", "--disc", "A"), 2, f"is a disc with {LABEL}"),
-            (("burn", LABEL, "--disc", "N", "--device", "stdio:" + self.image), 1, "is the image itself"),
+            (("burn", LABEL, "--disc", "N", "--device", "stdio:" + self.image), 1, "is the image itself"), (("check", "--device", "/dev/sr0"), 2, "goes with --disc"),
+            (("repair", LABEL, "--device", "/dev/sr0"), 2, "goes with --disc"), (("check", "--disc", "A", "--data"), 2, "leave out --data"),
+            (("check", "--disc", "A", "--device", "/nonexistent/sr0"), 1, "there is no such drive"),
         ):
             self.assertIn(why, self.say(*words, status=status))
         # The disc in the drive is another one: nothing is said of that on the shelf.
@@ -179,3 +181,27 @@ class Discs(WithArchive):
         shutil.copy(self.disc("A"), self.disc("D"))
         self.assertEqual(self.burn("D").last()["burned"], False)
         self.assertEqual(self.names(), ["A", "D", "C"])
+
+    def test_only_a_disc_is_left(self) -> None:
+        """A new archive of what a disc has: the copies at its end are no part of what is compared, and harm nothing."""
+        self.burn("A")
+        files = {name: found[0] for name, found in digests(self.source).items()}
+        other = self.path("other")
+        self.run_in(other, "init", other, "--label", "TAPES")
+        shutil.copy(self.disc("A"), os.path.join(other, "closed", LABEL + ".img"))
+        self.assertEqual(self.run_in(other, "rebuild").last()["files"], 30)
+        self.run_in(other, "get", "/tapes", self.path("back"))
+        self.assertEqual({name: found[0] for name, found in digests(self.path("back", "tapes")).items()}, files)
+        self.run_in(other, "check", "--data")
+        self.run_in(other, "burn", LABEL, "--disc", "A", "--device", "stdio:" + self.disc("A"))
+
+    def test_a_full_volume_has_room_for_the_copies(self) -> None:
+        """On each medium: at most 3 copies and what 31 blocks lack to a unit."""
+        archive = self.path("full")
+        self.run_in(archive, "init", archive, "--label", "FULL", "--capacity", "700")
+        make_tree(self.path("many"), 150, 2)
+        self.run_in(archive, "add", self.path("many"))
+        self.run_in(archive, "close")
+        sizes = [os.path.getsize(os.path.join(archive, "closed", name)) // BLOCK for name in os.listdir(os.path.join(archive, "closed")) if name.endswith(".img")]
+        self.assertGreater(len(sizes), 1)
+        self.assertLessEqual(max(sizes) + 34, 700)

@@ -26,7 +26,7 @@ from recorder import Faults, Recorder, recorders  # noqa: E402
 LEFT_OUT = {"test", "tests", "idlelib", "tkinter", "turtledemo", "lib2to3", "ensurepip", "site-packages", "dist-packages", "pydoc_data", "distutils"}
 """Folders of Python's library that no test needs."""
 
-SECONDS = 900.0
+SECONDS = 3000.0
 """More than any machine takes."""
 
 

@@ -12,6 +12,7 @@ import sys
 import time
 import traceback
 from contextlib import contextmanager, redirect_stderr, redirect_stdout
+from functools import partial
 from hashlib import sha256
 from typing import Callable, Dict, Iterator, List, Tuple
 
@@ -224,18 +225,18 @@ def past_the_partition(device: str) -> None:
 
 def tests(found: Dict[str, str]) -> List[Tuple[str, Callable[[], None]]]:
     return [
-        *((f"a good {name}", lambda name=name: a_good_disc(found[name], name)) for name in ("CDR", "DVDR", "DVD+R", "BDR")),
-        ("a disc burned by hand", lambda: burned_by_hand(found["RAW"])),
-        ("track at once", lambda: track_at_once(found["TAO"])),
-        ("by the client", lambda: by_the_client(found["CLIENT"])),
-        ("copies past the partition", lambda: past_the_partition(found["PAST"])),
         ("too small", lambda: refused(found["SMALL"], "is too small")),
         ("no disc", lambda: refused(found["NONE"], "there is no disc in it")),
         ("a write that fails", lambda: refused(found["WORN"], "The disc may be spoiled")),
         ("a disc that was cut short", lambda: refused(found["WORN"], "is not blank, and does not have")),
         ("a wrong bit is read back", lambda: refused(found["WRONG"], "mark this disc as spoiled")),
+        ("by the client", lambda: by_the_client(found["CLIENT"])),
+        ("copies past the partition", lambda: past_the_partition(found["PAST"])),
+        *((f"a good {name}", partial(a_good_disc, found[name], name)) for name in ("CDR", "DVDR", "DVD+R", "BDR")),
         ("names and other discs", lambda: other_words(found)),
         ("repaired", lambda: repaired(found["DVDR"])),
+        ("a disc burned by hand", lambda: burned_by_hand(found["RAW"])),
+        ("track at once", lambda: track_at_once(found["TAO"])),
     ]
 
 

@@ -100,7 +100,7 @@ def add_writers(subs: "Subs") -> None:
 def add_disc(sub: argparse.ArgumentParser, required: bool) -> None:
     """The options for a disc in a drive."""
     sub.add_argument("--disc", metavar="NAME", required=required, help="the name of the disc in the drive, as it is written on it")
-    sub.add_argument("--device", metavar="DEVICE", default="/dev/sr0", help="the drive (default: /dev/sr0)")
+    sub.add_argument("--device", metavar="DEVICE", help="the drive (default: /dev/sr0)")
 
 
 def add_readers(subs: "Subs") -> None:

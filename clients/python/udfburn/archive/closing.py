@@ -46,7 +46,7 @@ def close(arguments: argparse.Namespace) -> int:
 
 def check(arguments: argparse.Namespace) -> int:
     """Checks volumes, or a disc."""
-    if arguments.disc is not None:
+    if arguments.disc is not None or arguments.device is not None:
         from .discs import check_disc
 
         return check_disc(arguments)
@@ -72,7 +72,7 @@ def check(arguments: argparse.Namespace) -> int:
 
 def repair(arguments: argparse.Namespace) -> int:
     """Repairs volumes, from remotes or from a disc."""
-    if arguments.disc is not None:
+    if arguments.disc is not None or arguments.device is not None:
         from .discs import repair_disc
 
         return repair_disc(arguments)

@@ -11,7 +11,7 @@ import os
 from contextlib import closing
 from typing import List, Optional, Tuple
 
-from ..burning import Say, burned, ends_well, look_at, opened, path_of, read_back, read_from, require_other, take_in_again
+from ..burning import Say, burned, ends_well, look_at, opened, path_of, read_back, read_from, require_drive, require_other, take_in_again
 from ..errors import DiscFailed, UsageError
 from ..finish import track_of
 from ..ledger_file import sync_file
@@ -27,8 +27,18 @@ from .errors import CopyFailed, NotAtHand, VolumeDiffers
 from .remotes import Print, print_of_file
 from .tell import Tell, plural, tell_of
 
+DEVICE = "/dev/sr0"
+
 NAME = 40
 """Letters of a disc's name: it is written by hand."""
+
+
+def disc_of(arguments: argparse.Namespace) -> Tuple[str, str]:
+    """The name of the disc that a command is about, where a disc can have it, and its drive."""
+    name: Optional[str] = arguments.disc
+    if name is None:
+        raise UsageError("--device goes with --disc, which says what is written on the disc")
+    return check_name(name), arguments.device or DEVICE
 
 
 def check_name(name: str) -> str:
@@ -118,10 +128,10 @@ class Burner:
 
 def burn(arguments: argparse.Namespace) -> int:
     """Burns a closed volume."""
-    config, tell, name = config_of(arguments), tell_of(arguments), check_name(arguments.disc)
+    (name, device), config, tell = disc_of(arguments), config_of(arguments), tell_of(arguments)
     with Catalogue(config) as catalogue:
         (row,) = chosen(catalogue.volumes(), [arguments.volume], Options())
-        Burner(config, catalogue, tell, arguments.device, name).run(row)
+        Burner(config, catalogue, tell, device, name).run(row)
     return 0
 
 
@@ -153,12 +163,13 @@ def require_volume(device: str, row: VolumeRow) -> None:
 
 def check_disc(arguments: argparse.Namespace) -> int:
     """Compares a disc with what its volume was when it was closed."""
-    config, tell, name, device = config_of(arguments), tell_of(arguments), check_name(arguments.disc), arguments.device
+    (name, device), config, tell = disc_of(arguments), config_of(arguments), tell_of(arguments)
+    if arguments.data or arguments.remotes or arguments.oldest or arguments.sample is not None:
+        raise UsageError("--disc compares every byte of one disc: leave out --data, --remotes, --sample and --oldest")
     with Catalogue(config) as catalogue:
         row, copy = known(catalogue, name, arguments.volume)
         wanted = print_of_row(row)
-        look_at(device)
-        take_in_again(device, tell.working)
+        require_drive(device)
         require_volume(device, row)
         trouble: Optional[str] = None
         try:
@@ -201,13 +212,12 @@ class DiscRepairer(Repairer):
 
 def repair_disc(arguments: argparse.Namespace) -> int:
     """Repairs a volume from a disc."""
-    config, tell, name = config_of(arguments), tell_of(arguments), check_name(arguments.disc)
+    (name, device), config, tell = disc_of(arguments), config_of(arguments), tell_of(arguments)
     with Catalogue(config) as catalogue, closing(claims_of(catalogue.base, config.path("locks"), config.catalogue)) as claims:
         row, _ = known(catalogue, name, arguments.volume)
         print_of_row(row)
-        look_at(arguments.device)
-        take_in_again(arguments.device, tell.working)
-        repairer = DiscRepairer(config, catalogue, claims, tell, arguments.device, name)
+        require_drive(device)
+        repairer = DiscRepairer(config, catalogue, claims, tell, device, name)
         repairer.run([row])
     for line in repairer.failures:
         tell.fail(line)

@@ -24,6 +24,9 @@ SPARE = 64
 """Blocks that are kept beside what is computed: a block that looks like a VAT ICB moves what is written."""
 
 
+ENDING = 34
+"""Blocks that are kept for the end of a disc: three copies of the VAT ICB, and what 31 blocks lack to a unit of 32."""
+
 FIRST = 262
 """The first block after a format."""
 
@@ -90,7 +93,7 @@ class Tree:
     def reserve(self) -> int:
         """Blocks that `close` needs: the manifest with what the program asks for it, and five small files."""
         table = blocks_for(196 + 48 * (len(self.space.clients) + 1) + 4 * (self.space.entries + KEPT_NODES))
-        return 2 * blocks_for(self.manifest + 4096) + 6 * (2 * table + 16) + SPARE
+        return 2 * blocks_for(self.manifest + 4096) + 6 * (2 * table + 16) + SPARE + ENDING
 
     def _keep_room(self) -> None:
         self.space.capacity = self.capacity - self.reserve()
