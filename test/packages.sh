@@ -36,7 +36,7 @@ case $1 in
         done
         [ -e /usr/include/stdio.h ] || set -- "$@" libc6-dev
         [ -e /usr/include/libburn/libburn.h ] || set -- "$@" libburn-dev
-        [ -e /usr/lib/x86_64-linux-gnu/qemu/block-iscsi.so ] || set -- "$@" qemu-block-extra
+        ls /usr/lib/*/qemu/block-iscsi.so > /dev/null 2>&1 || set -- "$@" qemu-block-extra
         [ -d /usr/lib/python3/dist-packages/psycopg ] || set -- "$@" python3-psycopg
         [ $# -gt 0 ] || exit 0
         ;;

@@ -7,7 +7,7 @@ import os
 from typing import TYPE_CHECKING, Iterator
 
 from .commands import progress_of
-from .errors import Damaged, Differs, DiscFailed
+from .errors import Damaged, Differs, DiscFailed, SourceError
 from .progress import Progress, plural, printable, size
 from .protocol import limits, shown
 from .words import command
@@ -54,13 +54,12 @@ def require_sound(arguments: argparse.Namespace, progress: Progress) -> None:
 def finish_image(arguments: argparse.Namespace) -> int:
     """Makes a copy for a disc."""
     from .finish import track_of
-    from .saving import save, taken
+    from .saving import save
     from .second_opinion import opinion_of
 
     progress = progress_of(arguments)
-    # A look before the long check of the image. `save` decides.
     if os.path.lexists(arguments.out):
-        raise taken(arguments.out)
+        raise SourceError(f"{shown(arguments.out)}: already exists")
     require_sound(arguments, progress)
     track = track_of(arguments.image_path, arguments.medium)
     sent = Sum()

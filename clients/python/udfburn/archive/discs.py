@@ -8,7 +8,7 @@ from __future__ import annotations
 
 import argparse
 import os
-from contextlib import closing
+from contextlib import closing, suppress
 from typing import List, Optional, Tuple
 
 from ..burning import Say, burned, ends_well, look_at, opened, path_of, read_back, read_from, require_drive, require_other, take_in_again
@@ -196,15 +196,19 @@ class DiscRepairer(Repairer):
     def _fetch(self, row: VolumeRow, image: str, wanted: Print) -> None:
         require_volume(self.device, row)
         new = image + ".new"
+        if os.path.lexists(new):
+            os.unlink(new)
         try:
-            with open(new, "wb") as file:
+            # No link that somebody puts there meanwhile is followed.
+            with open(os.open(new, os.O_WRONLY | os.O_CREAT | os.O_EXCL | os.O_NOFOLLOW | os.O_CLOEXEC, 0o600), "wb") as file:
                 for piece in read_from(self.device, wanted.length):
                     file.write(piece)
             sync_file(new)
             if print_of_file(new, fresh=True) != wanted:
                 raise CopyFailed(f"{self.name}: is not as it was burned: 'udfburn-client salvage' copies out what is intact")
         except BaseException:
-            os.unlink(new)
+            with suppress(FileNotFoundError):
+                os.unlink(new)
             raise
         self._put(image, new)
         self._did(row, "the image", f"the disc {self.name}")
