@@ -275,6 +275,12 @@ runs_with() {
         "$@" "$room/versioned" > "$room/found" && diff "$room/version" "$room/found"
 }
 
+# documented: compiles a program as docs/EMBEDDING.md says.
+documented() {
+    # shellcheck disable=SC2046
+    cc "$room/recorder.c" $(PKG_CONFIG_PATH=$room/clean/lib/pkgconfig pkg-config --cflags --libs udfburn) -o "$room/recorder"
+}
+
 if [ -n "$library" ]; then
     holds 'install.sh names a library that is not there' sh -c '! LIBRARY=/nowhere ./install.sh "$1/none" && [ ! -e "$1/none" ]' - "$room"
     mkdir "$room/part" "$room/with"
@@ -305,6 +311,18 @@ if [ -n "$library" ]; then
     need pkg-config pkgconf
     if command -v pkg-config > "$room/which" && command -v cc > "$room/which"; then
         holds 'a program is linked with the library' runs_with '' env LD_LIBRARY_PATH="$room/embedded/lib"
+        # The lines of docs/EMBEDDING.md, from a prefix that has nothing else.
+        holds 'a clean prefix gets the library alone' env LIBRARY="$library" ./install.sh --library "$room/clean"
+        sed -n '/^```c$/,/^```$/p' docs/EMBEDDING.md | grep -v '^```' > "$room/recorder.c"
+        holds 'the documented recorder is compiled there' documented
+        holds 'and with the archive' cc "$room/recorder.c" -I"$library" "$library/libudfburn.a" -o "$room/recorder.static"
+        echo stored > "$room/wanted"
+        for recorder in recorder recorder.static; do
+            holds "$recorder stores" same "$room/wanted" sh -c 'echo data | LD_LIBRARY_PATH=$1/clean/lib "$1/$2" "$1/$2.img" /a' - "$room" "$recorder"
+        done
+        if command -v man > "$room/which" && man --version > "$room/which" 2>&1; then
+            holds 'each function leads to the page' sh -c 'MANPATH=$1/clean/share/man man -P cat udfburn_open_read 2> "$1/which" | grep -q UDFBURN' - "$room"
+        fi
         rm "$room/embedded/lib/libudfburn.so"
         holds 'a program is linked statically' runs_with --static env
     fi

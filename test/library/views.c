@@ -328,18 +328,19 @@ static void rooms(void) {
     }
 }
 
-/* Files until none fits: no request is refused that was said to fit. */
-static void until_it_is_full(void) {
-    char path[300];
+/* Files of long names until none fits: no request is refused that was said to fit. Wide characters take two bytes there. */
+static void until_it_is_full(const char *character) {
+    char path[400], *end;
     int32_t said = UDFBURN_OK;
     int count = 0;
     unlink("room.img");
     STATUS(UDFBURN_OK, udfburn_format("room.img", "DISC", MOMENT, 1500));
     udfburn *handle = opened("room.img");
     while (said == UDFBURN_OK && count < 512) {
-        memset(path, 'n', sizeof path);
-        snprintf(path + 100 + count % 140, 12, "%d", count);
-        path[0] = '/';
+        end = path;
+        *end++ = '/';
+        for (int i = 0; i < 90 + count % 30; i++) end += sprintf(end, "%s", character);
+        sprintf(end, "%d", count);
         said = udfburn_room(handle, path, (size_t)(count * 397 % 9000));
         int32_t done = create(handle, path, (size_t)(count * 397 % 9000));
         EXPECT(said == UDFBURN_OK ? done == UDFBURN_OK : done == said);
@@ -361,7 +362,9 @@ int main(int argc, char **argv) {
     expectations();
     entries();
     rooms();
-    until_it_is_full();
+    until_it_is_full("n");
+    until_it_is_full("\xC3\xA4");
+    until_it_is_full("\xE6\xBC\xA2");
     EXPECT(descriptors() == before);
     return finish("views");
 }
