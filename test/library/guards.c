@@ -202,6 +202,8 @@ static void try_all(udfburn *handle) {
     struct udfburn_commit commit = {0, 0, 0, 0, 0};
     struct udfburn_status status;
     struct udfburn_reason reason;
+    struct udfburn_volume volume;
+    struct udfburn_entry *entries;
     struct udfburn_name *names;
     struct udfburn_node node;
     uint8_t bytes[UDFBURN_BLOCK];
@@ -219,6 +221,12 @@ static void try_all(udfburn *handle) {
     STATUS(UDFBURN_MISUSE, udfburn_get(handle, "/a", bytes, sizeof bytes, &count));
     STATUS(UDFBURN_MISUSE, udfburn_list(handle, "/", &names, &count));
     EXPECT(!names && count == 0);
+    STATUS(UDFBURN_MISUSE, udfburn_entries(handle, "/", sizeof *entries, &entries, &count));
+    EXPECT(!entries && count == 0);
+    STATUS(UDFBURN_MISUSE, udfburn_expect(handle, 0));
+    STATUS(UDFBURN_MISUSE, udfburn_room(handle, "/b", 1));
+    volume.size = sizeof volume;
+    STATUS(UDFBURN_MISUSE, udfburn_describe(handle, &volume));
     STATUS(UDFBURN_MISUSE, udfburn_status(handle, &status));
     STATUS(UDFBURN_MISUSE, udfburn_log(handle, &commit));
     STATUS(UDFBURN_MISUSE, udfburn_answer(handle, get_a, sizeof get_a));

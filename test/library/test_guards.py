@@ -2,10 +2,11 @@
 from __future__ import annotations
 
 import os
+import re
 import subprocess
 
 from faults.machine import lacks
-from library.building import CLANG, GCC, GPP, THREADS, build_library
+from library.building import CLANG, GCC, GPP, HERE, THREADS, build_library, built
 from library.running import DRIVES, VALGRIND, Running
 
 # Of threads on one handle, and of children.
@@ -14,6 +15,14 @@ RUNS_WATCHED = "3"
 
 
 class Guards(Running):
+    def test_each_call_is_tried(self) -> None:
+        """Every function that takes a handle is called from within another one."""
+        header = re.sub(r"/\*.*?\*/", "", (built().plain / "udfburn.h").read_text(), flags=re.S)
+        calls = re.findall(r"\b(udfburn_\w+)\((?:const )?udfburn \*handle\b", header)
+        self.assertGreater(len(calls), 20)
+        tried = (HERE / "guards.c").read_text().split("static void try_all(")[1].split("\n}\n")[0]
+        self.assertEqual([call for call in calls if call + "(handle" not in tried], [])
+
     def holds(self, source: str, *words: str) -> None:
         room = self.words(source)[0]
         said = self.ran(words[0], room, *words[1:])

@@ -7,6 +7,7 @@
 #include "support.h"
 
 #include <sys/file.h>
+#include <sys/wait.h>
 
 enum { CAPACITY = 600 };
 
@@ -133,6 +134,42 @@ static void beside_a_commit(void) {
         udfburn_close(handle);
     }
     free(bytes);
+}
+
+/* A process writes, and another one reads what is there, again and again: each state that it sees is a whole one. */
+static void beside_a_writer(void) {
+    enum { FILES = 300 };
+    int outcome = 0, is_over = 0;
+    uint32_t seen = 0, opens = 0;
+    unlink("beside.img");
+    STATUS(UDFBURN_OK, udfburn_format("beside.img", "DISC", MOMENT, 20000));
+    pid_t child = fork();
+    if (child == 0) {
+        udfburn *handle = opened("beside.img");
+        char path[16];
+        for (int i = 1; i <= FILES; i++) {
+            snprintf(path, sizeof path, "/%d", i);
+            STATUS(UDFBURN_OK, create(handle, path, (size_t)i * 100));
+        }
+        _exit(failed);
+    }
+    while (seen < FILES && opens++ < 100000) {
+        struct udfburn_entry *found;
+        size_t count;
+        udfburn *handle = read_at("beside.img", UDFBURN_NEWEST);
+        uint32_t commits = described(handle).commits;
+        EXPECT(commits >= seen);
+        seen = commits;
+        STATUS(UDFBURN_OK, udfburn_entries(handle, "/", sizeof *found, &found, &count));
+        EXPECT(count == commits);
+        for (size_t i = 0; i < count; i++) EXPECT(found[i].size == (i + 1) * 100);
+        udfburn_free(found);
+        udfburn_close(handle);
+        if (is_over) break;
+        is_over = waitpid(child, &outcome, WNOHANG) == child;
+    }
+    if (!is_over) EXPECT(waitpid(child, &outcome, 0) == child);
+    EXPECT(seen == FILES && opens > 1 && outcome == 0);
 }
 
 static void what_cannot_be_read(void) {
@@ -355,6 +392,7 @@ int main(int argc, char **argv) {
     int before = descriptors();
     reading();
     beside_a_commit();
+    beside_a_writer();
     what_cannot_be_read();
     descriptions();
     beyond_the_capacity();
