@@ -5,7 +5,7 @@
  * A volume is one growing file tree. Its blocks are written once, in order of address. You open it and send requests. When
  * a request returns UDFBURN_OK, it is on the medium: you may delete the source. After a crash or a loss of power the
  * volume holds the state after the last committed request, and no acknowledged request is lost. That a file keeps what
- * was synced, and a drive what it acknowledged, is for the system and the drive to keep.
+ * was synced, and a drive what it acknowledged, is for the system and the drive to keep. The library is for Linux on x86-64.
  *
  *     udfburn *disc;
  *     struct udfburn_request request = { .client = 7, .moment = 1700000000000000 };

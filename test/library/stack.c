@@ -22,10 +22,20 @@ static void make_folders(udfburn *handle, char *path) {
     }
 }
 
+/* The folder of a path, which stays as it is. */
+static const char *path_of_folder(const char *path) {
+    static char folder[64];
+    strcpy(folder, path);
+    *strrchr(folder, '/') = '\0';
+    return folder;
+}
+
 static void *work(void *unused) {
     struct udfburn_request request = {7, 0, MOMENT, 0, 0};
     struct udfburn_commit commit = {0, 0, 0, 0, 0};
+    struct udfburn_volume volume = {sizeof volume, 0, 0, 0, 0, 0, 0, 0, 0, 0, {0}};
     struct udfburn_status status;
+    struct udfburn_entry *entries;
     struct udfburn_name *names;
     char path[64], moved[64];
     uint64_t number;
@@ -45,12 +55,20 @@ static void *work(void *unused) {
     STATUS(UDFBURN_OK, udfburn_get(handle, moved, data, sizeof data, &count));
     STATUS(UDFBURN_OK, udfburn_list(handle, "/d", &names, &count));
     udfburn_free(names);
+    STATUS(UDFBURN_OK, udfburn_entries(handle, path_of_folder(path), sizeof *entries, &entries, &count));
+    udfburn_free(entries);
+    STATUS(UDFBURN_OK, udfburn_room(handle, path, 100000));
+    STATUS(UDFBURN_OK, udfburn_describe(handle, &volume));
+    STATUS(UDFBURN_OK, udfburn_expect(handle, 18));
     STATUS(UDFBURN_OK, udfburn_status(handle, &status));
     STATUS(UDFBURN_OK, udfburn_last_number(handle, 7, &number));
     while ((outcome = udfburn_log(handle, &commit)) == UDFBURN_OK) continue;
     STATUS(UDFBURN_NONE, outcome);
     udfburn_close(handle);
     STATUS(UDFBURN_OK, udfburn_open("stack.img", &handle));
+    udfburn_close(handle);
+    STATUS(UDFBURN_OK, udfburn_open_read("stack.img", 3, &handle));
+    STATUS(UDFBURN_OK, udfburn_describe(handle, &volume));
     udfburn_close(handle);
     return unused;
 }
