@@ -214,15 +214,6 @@ static void duplicates(void) {
     udfburn_close(handle);
 }
 
-/* The descriptor that this process has of a file. */
-static int descriptor_of(const char *path) {
-    struct stat wanted, found;
-    int fd = 0;
-    if (stat(path, &wanted)) abort();
-    while (fd < 100 && (fstat(fd, &found) || found.st_dev != wanted.st_dev || found.st_ino != wanted.st_ino)) fd++;
-    return fd;
-}
-
 /* Somebody closes the library's descriptor by mistake, and its number is that of another volume then: nothing is written there. */
 static void a_number_of_another_file(void) {
     uint64_t number;

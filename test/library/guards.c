@@ -187,6 +187,36 @@ static void locks(void) {
     EXPECT(!is_locked("locks.img"));
 }
 
+/* A format, and an open that is refused, give the lock up too, also where somebody has a duplicate of the descriptor. */
+static void locks_of_duplicates(void) {
+    udfburn *handle = NULL;
+    unlink("locks.img");
+    int fd = open("locks.img", O_RDWR | O_CREAT | O_CLOEXEC, 0644), other = dup(fd);
+    STATUS(UDFBURN_OK, udfburn_format_fd(fd, "DISC", MOMENT, 600));
+    EXPECT(!is_locked("locks.img"));
+    close(other);
+    put_file("text", "somebody's only copy", 20);
+    fd = image_at("text");
+    other = dup(fd);
+    STATUS(UDFBURN_VOLUME, udfburn_open_fd(fd, &handle));
+    EXPECT(!is_locked("text"));
+    close(other);
+}
+
+/* Where the number is that of another volume by mistake, that one stays locked. */
+static void locks_of_others(void) {
+    make("locks.img");
+    make("others.img");
+    udfburn *handle = opened("locks.img"), *other = opened("others.img");
+    int fd = descriptor_of("locks.img");
+    EXPECT(dup2(descriptor_of("others.img"), fd) == fd);
+    udfburn_close(handle);
+    EXPECT(is_locked("others.img"));
+    STATUS(UDFBURN_OK, udfburn_answer(other, create_a, sizeof create_a));
+    udfburn_close(other);
+    EXPECT(!is_locked("others.img"));
+}
+
 /* ---- A drive whose functions call the library ---- */
 
 static struct {
@@ -310,6 +340,8 @@ int main(int argc, char **argv) {
     if (argc == 3) {
         for (int run = 0; run < runs; run++) children(run % 2 ? fork_of_system : fork);
         locks();
+        locks_of_duplicates();
+        locks_of_others();
         from_within();
     }
     EXPECT(descriptors() == before);

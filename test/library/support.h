@@ -54,6 +54,15 @@ static inline int is_same_file(const char *one, const char *other) {
 
 static inline int is_closed(int fd) { return fcntl(fd, F_GETFD) == -1; }
 
+/* The descriptor that this process has of a file. */
+static inline int descriptor_of(const char *path) {
+    struct stat wanted, found;
+    int fd = 0;
+    if (stat(path, &wanted)) abort();
+    while (fd < 100 && (fstat(fd, &found) || found.st_dev != wanted.st_dev || found.st_ino != wanted.st_ino)) fd++;
+    return fd;
+}
+
 /* How many descriptors this process has open. */
 static inline int descriptors(void) {
     int count = 0;
