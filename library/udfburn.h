@@ -18,8 +18,9 @@
  * THREADS. A handle (`udfburn *`) serves one call at a time. Different threads may use it one after the other, if they
  * order their calls, for example with a lock. A call while another one is on the handle, also from a function of its drive,
  * returns UDFBURN_MISUSE and does nothing. So does every call on a handle of the parent in a child after fork(), but for
- * udfburn_close(): it frees the child's copy, and takes nothing from the parent. If the parent ends without a close, its
- * children keep the lock of the file until they close their copies or end. A program that a child starts does not.
+ * udfburn_close(): it frees the child's copy, and takes nothing from the parent. A child that opens the same file later closes
+ * its copy first. If the parent ends without a close, its children keep the lock of the file until they close their copies or
+ * end. A program that a child starts does not.
  *   Different handles are independent. The library starts no thread, keeps no signal handler and prints nothing. Do not call
  * it from a signal handler, and do not cancel a thread that is in a call.
  *

@@ -4,7 +4,7 @@ from __future__ import annotations
 import os
 import re
 
-from library.building import CLANG, GPP, REPOSITORY, built
+from library.building import CLANG, GCC, GPP, REPOSITORY, built
 from library.running import DRIVES, VALGRIND, Running, version
 
 LARGE = os.environ.get("LARGE") == "1"
@@ -63,6 +63,13 @@ class Header(Running):
         first, second, third = map(int, version().split("."))
         header = (built().plain / "udfburn.h").read_text()
         self.assertIn("#define UDFBURN_VERSION_NUMBER %d\n" % (first * 10000 + second * 100 + third), header)
+
+    def test_its_statuses_are_signed(self) -> None:
+        """As what the calls return, for generators of bindings."""
+        source = self.folder / "signed.c"
+        source.write_text("#include \"udfburn.h\"\nint main(void) { return (enum udfburn_code)-1 < 0 && sizeof(enum udfburn_code) == 4 ? 0 : 1; }\n")
+        for compiler in (GCC, CLANG, GPP):
+            self.assertEqual(self.ran(self.compiled(str(source), compiler)), "")
 
     def test_its_limits(self) -> None:
         """They are those of the core."""
