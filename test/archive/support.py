@@ -167,7 +167,7 @@ class WithArchive(unittest.TestCase):
         return digests(os.path.join(folder, "s"))
 
     def volumes(self, archive: Optional[str] = None) -> List[Dict[str, Any]]:
-        return [line for line in self.run_in(archive or self.archive, "status").objects() if line["did"] == "volume"]
+        return [line for line in self.run_in(archive or self.archive, "status", status=None).objects() if line["did"] == "volume"]
 
     def rows(self, archive: Optional[str] = None) -> List[Dict[str, Any]]:
         """All files of the catalogue, in an order that does not depend on it."""

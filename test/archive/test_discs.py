@@ -128,7 +128,7 @@ class Discs(WithArchive):
             check_remote("disc:A")
         shutil.rmtree(self.path("second"))
         os.unlink(self.image)
-        self.assertIn("is away, and known on no remote, but on the disc A", self.without_remotes())
+        self.assertIn("known on no remote, but on the disc A", self.without_remotes())
 
     def without_remotes(self) -> str:
         path = os.path.join(self.archive, "archive.toml")

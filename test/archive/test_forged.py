@@ -5,7 +5,7 @@ from __future__ import annotations
 import os
 import subprocess
 import sys
-from typing import Dict, List
+from typing import Dict, List, Set, Tuple
 
 from .support import PACKAGE, UDFBURN, WithArchive, digests, make_tree, write
 
@@ -25,7 +25,7 @@ class Forged(WithArchive):
         self.do("close")
         self.before = self.rows()
         folder = self.path("back")
-        self.id = self.read_id()
+        self.archive_id = self.read_id()
         self.assertFalse(os.path.exists(folder))
 
     def read_id(self) -> str:
@@ -36,7 +36,7 @@ class Forged(WithArchive):
         """A volume with a text about itself, and files at these stored paths."""
         image = self.path("archive", folder, name)
         subprocess.run([UDFBURN, "format", image, label, "1700000000000000", "3000"], check=True, stdout=subprocess.DEVNULL)
-        made = {("runs",), ("data",)}
+        made: "Set[Tuple[str, ...]]" = {("runs",), ("data",)}
         wanted = [Operation(Create, ("volume.txt",), 1, about.encode()), Operation(MakeDir, ("runs",), 1), Operation(MakeDir, ("data",), 1)]
         for path, data in files.items():
             names = tuple(path.split("/"))
@@ -51,7 +51,7 @@ class Forged(WithArchive):
         return image
 
     def about(self, number: object = 2, archive: str = "", label: str = "T") -> str:
-        return f"udfburn-archive 1\narchive: {archive or self.id}\nlabel: {label}\nvolume: {number}\nopened: x\n"
+        return f"udfburn-archive 1\narchive: {archive or self.archive_id}\nlabel: {label}\nvolume: {number}\nopened: x\n"
 
     def described(self, size: object = 2_000_000, first: object = 0, digest: str = "00" * 32) -> bytes:
         return f"size: {size}\nmodified: 1\nsha256: {digest}\nparts: 2\nfirst part: {first}\n".encode()

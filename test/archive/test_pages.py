@@ -11,7 +11,7 @@ from typing import Any, Dict, List
 
 from .support import LARGE, WithArchive, digests, make_tree, write
 
-SAMPLE = 8
+SAMPLE = 5
 """Damages that are tried without `--large`."""
 
 

@@ -5,13 +5,13 @@ from __future__ import annotations
 import os
 import socket
 from contextlib import closing, suppress
-from typing import Iterable, List, NamedTuple, Optional, Sequence, Tuple
+from typing import Dict, Iterable, List, NamedTuple, Optional, Sequence, Tuple
 
 from ..errors import SourceError
 from ..operations import now
 from ..protocol import Path
 from ..sources import Source, shown
-from .catalogue import Catalogue, Held, VolumeRow, image_of, is_whole
+from .catalogue import CLOSED, RETIRED, Catalogue, Held, VolumeRow, image_of, is_whole
 from .claims import claims_of
 from .config import Config
 from .contents import Contents
@@ -57,6 +57,7 @@ class Adder:
         self.config, self.catalogue, self.options, self.tell = config, catalogue, options, tell
         self.summary = Summary()
         self.deleter = Deleter(config, catalogue)
+        self._volumes: Dict[int, Optional[VolumeRow]] = {}
 
     def run(self, wanted: Sequence[Tuple[str, Path]]) -> Summary:
         """Stores local files and folders."""
@@ -138,7 +139,7 @@ class Adder:
         if not alike and not job.in_parts():
             return job
         job.digest = digest_of(source)
-        same = [row for row in alike if row.sha256 == job.digest]
+        same = [row for row in alike if row.sha256 == job.digest and self._counts(source, row)]
         if not same:
             return job
         if not is_whole(same):
@@ -148,6 +149,15 @@ class Adder:
         if self.options.delete_source:
             self.deleter.same(source, same)
         return None
+
+    def _counts(self, source: Source, row: Held) -> bool:
+        """Whether the archive has what a row says. A volume that was retired does not count. Of one that is damaged what can be seen does."""
+        if row.volume not in self._volumes:
+            self._volumes[row.volume] = self.catalogue.volume(row.volume)
+        volume = self._volumes[row.volume]
+        if volume is None or volume.state != CLOSED or volume.trouble is None:
+            return volume is None or volume.state != RETIRED
+        return self.deleter.places.has(source, row, volume)
 
     def _go_on(self, job: Job, rows: List[Held], filler: Filler) -> Job:
         """Goes on with a file of which an earlier run stored the first parts, as far as volumes at hand show them."""

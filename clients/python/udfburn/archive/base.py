@@ -9,6 +9,7 @@ from typing import Any, Dict, Iterable, Iterator, List, Optional, Sequence, Tupl
 
 from ..ledger_file import sync_folder
 from ..sources import shown
+from .config import without_password
 from .errors import CatalogueError, CatalogueLost
 
 Row = Tuple[Any, ...]
@@ -211,15 +212,22 @@ class PostgresBase(Base):
         self._base.close()
 
 
+PATIENCE: Dict[str, Any] = {
+    "target_session_attrs": "read-write", "connect_timeout": 10, "keepalives": 1, "keepalives_idle": 10, "keepalives_interval": 5, "keepalives_count": 4,
+    "tcp_user_timeout": 30_000,
+}
+"""How connections are made, where the URL does not say it otherwise: a server of which nothing comes ends a run within a minute."""
+
+
 def connect(url: str) -> Any:
     """A connection to a server. Its driver is asked for here alone."""
     try:
         import psycopg
     except ImportError as error:
         raise CatalogueError("a catalogue on PostgreSQL needs the driver psycopg 3 (Debian: python3-psycopg)") from error
-    words: Dict[str, Any] = {} if "target_session_attrs=" in url else {"target_session_attrs": "read-write"}
+    words = {name: value for name, value in PATIENCE.items() if f"{name}=" not in url}
     try:
-        connection = psycopg.connect(url, connect_timeout=10, application_name="udfburn-archive", **words)
+        connection = psycopg.connect(url, application_name="udfburn-archive", **words)
         # Whatever the server's default is: a claim is on a row that may have come after its transaction began.
         connection.isolation_level = psycopg.IsolationLevel.READ_COMMITTED
         return connection
@@ -231,7 +239,7 @@ def trouble(error: Exception) -> CatalogueError:
     """What an error of the server's means."""
     import psycopg
 
-    told = " ".join(str(error).split())
+    told = without_password(" ".join(str(error).split()))
     if isinstance(error, (psycopg.OperationalError, psycopg.InterfaceError)):
         return CatalogueLost(f"the catalogue cannot be reached or was lost: {told}: run the command again when it is there")
     return CatalogueError(f"the catalogue: {told}")

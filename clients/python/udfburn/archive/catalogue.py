@@ -234,6 +234,17 @@ class Catalogue:
         """Keeps nothing of the copies on a remote."""
         self.base.run("DELETE FROM copy WHERE remote = ?", (remote,))
 
+    def put_away(self) -> Dict[int, str]:
+        """Where the user has put images away, by the numbers of their volumes."""
+        return {int(number): str(place) for number, place in self.base.run("SELECT volume, place FROM put_away")}
+
+    def save_place(self, number: int, place: Optional[str], since: int) -> None:
+        """Keeps where the image of a volume is, or that nobody knows."""
+        with self.base.transaction():
+            self.base.run("DELETE FROM put_away WHERE volume = ?", (number,))
+            if place is not None:
+                self.base.run("INSERT INTO put_away (volume, place, since) VALUES (?, ?, ?)", (number, place, since))
+
     # ---- files
 
     def add(self, volume: VolumeRow, rows: Sequence[Held]) -> None:
@@ -400,7 +411,7 @@ def volume_row(row: Row) -> VolumeRow:
 
 def image_of(config: Config, row: VolumeRow) -> Optional[str]:
     """The image of a volume, where it is at hand."""
-    for folder in ("closed", "open") if row.state == CLOSED else ("open", "closed"):
+    for folder in ("closed", "open") if row.state in (CLOSED, RETIRED) else ("open", "closed"):
         image = config.path(folder, row.label + ".img")
         if os.path.isfile(image):
             return image

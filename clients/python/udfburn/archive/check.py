@@ -4,20 +4,24 @@ from __future__ import annotations
 
 import os
 import random
-from contextlib import closing
+from contextlib import closing, suppress
 from hashlib import sha256
+from tempfile import TemporaryDirectory
 from typing import Any, Dict, List, NamedTuple, Optional, Sequence, Tuple
 
-from ..ledger_file import sync_file, sync_folder
+from ..ledger_file import remove, sync_file, sync_folder
 from ..operations import now
+from ..protocol import Path
 from ..sources import shown
-from .catalogue import CLOSED, DISC, Catalogue, Copy, Held, VolumeRow, image_of, part_count
+from .assemble import assembled
+from .catalogue import CLOSED, DISC, RETIRED, Catalogue, Copy, Held, VolumeRow, image_of, part_count
 from .claims import Claims
 from .close import SIDECARS, beside, send
 from .config import Config
 from .contents import Contents, File
 from .errors import Claimed, CopyFailed, NotAtHand, VolumeDiffers
 from .remotes import Print, print_of_file, remote_of
+from .status import loss
 from .tell import Tell, plural, shown_path
 
 
@@ -39,6 +43,9 @@ def chosen(rows: Sequence[VolumeRow], names: Sequence[str], options: Options) ->
         missing = [name for name in names if name not in by_label]
         if missing:
             raise NotAtHand(f"{missing[0]}: is not a volume of this archive")
+        retired = [name for name in names if by_label[name].state == RETIRED]
+        if retired:
+            raise NotAtHand(f"{retired[0]}: was retired, and is not asked for any more")
         closed = [by_label[name] for name in dict.fromkeys(names)]
     if options.oldest:
         closed.sort(key=lambda row: (row.data_checked if options.data else row.checked) or 0)
@@ -55,7 +62,7 @@ class Checker:
         self.config, self.catalogue, self.tell, self.options = config, catalogue, tell, options
         self.volumes = self.files = self.copies = 0
         self.failures: List[str] = []
-        self.away: List[str] = []
+        self.away: List[VolumeRow] = []
         self._begun: Dict[object, Tuple[int, Any]] = {}
         """Files of which the first parts were read: how many, and their digest so far."""
 
@@ -64,7 +71,7 @@ class Checker:
         for row in rows:
             image = image_of(self.config, row)
             if image is None:
-                self.away.append(row.label)
+                self.away.append(row)
             else:
                 self._volume(row, image)
             if self.options.remotes:
@@ -112,32 +119,41 @@ class Checker:
         return f"{plural(len(bad), 'file is not as it was', 'files are not as they were')} stored, the first is {bad[0]}" if bad else None
 
     def _files(self, row: VolumeRow, contents: Contents) -> List[str]:
+        """The files that are not as they were stored, each once. Each byte of the payload is read once."""
+        manifest = contents.manifest()
+        known = {held.commit: held for held in self.catalogue.of_volume(row.number)}
+        self.files += len(known)
         bad: List[str] = []
-        for path, digest in contents.manifest().items():
+        for file in contents.files():
+            held = known.pop(file.commit, None)
+            same = self._is_as_stored(held, contents, file, manifest)
+            if not same or held is not None and (file.path, file.parts) != (held.path, held.parts):
+                bad.append(shown_path(file.path))
+        for held in known.values():
+            bad.append(shown_path(held.path))
+        for path, digest in manifest.items():
             node = contents.nodes.get(path)
             if node is None or sha256(contents.volume.read(node).data).digest() != digest:
                 bad.append("/".join(path))
-        files = {file.commit: file for file in contents.files()}
-        for held in self.catalogue.of_volume(row.number):
-            self.files += 1
-            file = files.get(held.commit)
-            if file is None or file.path != held.path or file.parts != held.parts or not self._is_as_stored(held, contents, file):
-                bad.append(shown_path(held.path))
         return list(dict.fromkeys(bad))
 
-    def _is_as_stored(self, held: Held, contents: Contents, file: File) -> bool:
-        """Whether a file has its digest. One with parts on several volumes is compared once the last of them is read, where they are
-        read in order of its parts."""
-        have, whole = self._begun.pop(held.version(), (0, sha256()))
-        if have != (held.first or 0):
-            return True
+    def _is_as_stored(self, held: Optional[Held], contents: Contents, file: File, manifest: Dict[Path, bytes]) -> bool:
+        """Whether a file has its digests, in the manifest, from which it is taken, and in the catalogue. One with parts on several volumes is
+        compared with the catalogue's once the last of them is read, where they are read in order of its parts."""
+        have, whole = (0, sha256()) if held is None else self._begun.pop(held.version(), (0, sha256()))
+        same = True
         for node in file.nodes:
-            whole.update(contents.volume.read(node).data)
+            data = contents.volume.read(node).data
+            whole.update(data)
+            wanted = manifest.pop(node.path, None)
+            same = same and wanted in (None, sha256(data).digest())
+        if held is None or have != (held.first or 0):
+            return same
         have += held.parts or 0
         if held.parts is not None and have < part_count(held.size):
             self._begun[held.version()] = have, whole
-            return True
-        return bool(whole.digest() == held.sha256)
+            return same
+        return same and bool(whole.digest() == held.sha256)
 
     def _copy(self, row: VolumeRow, copy: Copy) -> None:
         """Looks at a copy on a remote."""
@@ -186,6 +202,9 @@ class Repairer:
     def run(self, rows: Sequence[VolumeRow]) -> None:
         """Repairs volumes."""
         for row in rows:
+            if row.state != CLOSED and image_of(self.config, row) is None:
+                self.failures.append(f"{row.label}: {loss(row, [])}")
+                continue
             if row.state != CLOSED or row.sha256 is None:
                 self.failures.append(f"{row.label}: is not closed, so there is nothing to compare it with")
                 continue
@@ -231,11 +250,37 @@ class Repairer:
             return
         if os.path.lexists(new):
             os.unlink(new)
+        if self._assemble(row, image, wanted):
+            return
         told = "; ".join(f"{remote}: {text}" for remote, text in why.items())
         discs = [copy.disc() for copy in self.catalogue.copies(row.number) if copy.disc() is not None and copy.trouble is None]
         if discs:
             raise CopyFailed(f"no copy on a remote is good ({told or 'none is known'}): put the disc {discs[0]} in, and run 'repair {row.label} --disc {discs[0]}'")
-        raise CopyFailed(f"no copy is good ({told or 'none is known'}): 'udfburn-client salvage' copies out what is intact")
+        raise CopyFailed(
+            f"no copy is good ({told or 'none is known'}): 'add' stores the sources of what is damaged again, and 'udfburn-client salvage' copies out "
+            f"what is intact. Then 'retire {row.label}' takes the volume out of what is asked for"
+        )
+
+    def _assemble(self, row: VolumeRow, image: str, wanted: Print) -> bool:
+        """Makes the image of several that are damaged, each of which has blocks that others lack. Whether that was done."""
+        new, base = image + ".new", row.label + ".img"
+        with TemporaryDirectory(prefix=".repair-", dir=self.config.folder) as folder:
+            damaged = [image] if os.path.isfile(image) else []
+            for index, copy in enumerate(self.catalogue.on_remotes(row.number)):
+                remote = remote_of(self.catalogue, copy.remote)
+                path = remote.path_of(base)
+                if path is None:
+                    path = os.path.join(folder, str(index))
+                    with suppress(CopyFailed):
+                        remote.fetch(base, path)
+                damaged += [path] if os.path.isfile(path) else []
+            self.tell.working(f"comparing {plural(len(damaged), 'image', 'images')} of {row.label}")
+            if len(damaged) < 2 or not assembled(damaged, wanted, new):
+                remove(new)
+                return False
+        self._put(image, new)
+        self._did(row, "the image", f"{len(damaged)} damaged images together")
+        return True
 
     def _put(self, image: str, new: str) -> None:
         if os.path.lexists(image):

@@ -54,6 +54,7 @@ def add_writers(subs: "Subs") -> None:
     init = subs.add_parser("init", help="make an archive", description="Make an archive in a new or empty folder.")
     init.add_argument("dir", metavar="DIR", help="the folder of the archive; made if it is missing")
     init.add_argument("--catalogue", metavar="URL", default=None, help="a PostgreSQL database, postgresql://HOST/DATABASE (default: a SQLite file in the folder)")
+    init.add_argument("--catalogue-file", metavar="FILE", help="a file that has the URL, which may have a password (or set UDFBURN_CATALOGUE)")
     init.add_argument("--capacity", type=int, default=limits.CAPACITY[1], metavar="N", help="the size of a volume in blocks of 2,048 bytes, from 512 to 450,000 (default: 450,000)")
     init.add_argument("--label", default="ARCHIVE", help="the name of the archive; its volumes are called LABEL-000001, LABEL-000002, .. (default: ARCHIVE)")
     init.add_argument("--copies", nargs="+", default=[], metavar="REMOTE", help="where closed volumes are copied to: absolute paths of folders, or rclone remotes as NAME:PATH")
@@ -82,6 +83,13 @@ def add_writers(subs: "Subs") -> None:
     burn = command(subs, "burn", "burn a closed volume onto a blank disc, and compare every byte; run it again to finish what was interrupted")
     burn.add_argument("volume", metavar="VOLUME", help="the label of the volume")
     add_disc(burn, True)
+
+    away = command(subs, "put-away", "say where you keep the image of a closed volume, so that it does not count as lost")
+    away.add_argument("volume", metavar="VOLUME", help="the label of the volume")
+    away.add_argument("place", nargs="?", metavar="PLACE", help="where it is, in your words; without it the volume is not put away any more")
+
+    retire = command(subs, "retire", "take a volume that is damaged or lost out of what is asked for; 'add' stores its files again")
+    retire.add_argument("volume", metavar="VOLUME", help="the label of the volume")
 
     remote = command(subs, "remote", "list, add or remove the places for copies")
     remote.add_argument("action", choices=("list", "add", "remove"), metavar="list|add|remove", help="'add' also lets a folder that is in archive.toml already take copies")
@@ -144,7 +152,7 @@ def add_readers(subs: "Subs") -> None:
 COMMANDS: Dict[str, str] = {
     "init": "commands", "add": "commands", "rebuild": "commands", "ls": "lookups", "find": "lookups", "history": "lookups", "where": "lookups",
     "get": "queries", "status": "queries", "report": "queries", "adopt": "closing", "close": "closing", "burn": "discs", "check": "closing", "repair": "closing",
-    "remote": "remote_command",
+    "remote": "remote_command", "put-away": "closing", "retire": "closing",
 }
 
 
@@ -152,7 +160,7 @@ def function(name: str) -> Callable[[Any], int]:
     """What a command does."""
     from importlib import import_module
 
-    found: Callable[[Any], int] = getattr(import_module(f".{COMMANDS[name]}", __package__), name)
+    found: Callable[[Any], int] = getattr(import_module(f".{COMMANDS[name]}", __package__), name.replace("-", "_"))
     return found
 
 

@@ -6,12 +6,14 @@ import argparse
 from contextlib import closing
 from typing import List
 
-from .catalogue import CLOSED, CLOSING, FULL, Catalogue, VolumeRow
+from ..operations import now
+from .catalogue import CLOSED, CLOSING, FULL, RETIRED, Catalogue, VolumeRow, image_of
 from .check import Checker, Options, Repairer, chosen
 from .claims import claims_of
 from .close import Closer
 from .config import Config, config_of
 from .errors import ArchiveError, Claimed
+from .status import is_lost, loss
 from .tell import Tell, plural, tell_of
 
 
@@ -55,18 +57,24 @@ def check(arguments: argparse.Namespace) -> int:
     with Catalogue(config) as catalogue:
         checker = Checker(config, catalogue, tell, options)
         checker.run(chosen(catalogue.volumes(), arguments.volume, options))
-    for label in checker.away:
-        if arguments.volume:
-            checker.failures.append(f"{label}: is not at hand: put its image into the folder 'closed' of the archive")
-        else:
-            tell.note(f"{label}: is not at hand, and was not checked", did="away", volume=label)
+        places = catalogue.put_away()
+        for row in checker.away:
+            if is_lost(row, config, False, places.get(row.number)):
+                checker.failures.append(f"{row.label}: {loss(row, catalogue.copies(row.number))}")
+            elif arguments.volume:
+                checker.failures.append(f"{row.label}: is not at hand: put its image into the folder 'closed' of the archive")
+            else:
+                where = f" (put away at {places[row.number]})" if row.number in places else ""
+                tell.note(f"{row.label}: is not at hand{where}, and was not checked", did="away", volume=row.label, place=places.get(row.number))
+    whole = not (arguments.volume or checker.away or options.oldest or options.sample is not None)
     words = f"checked {plural(checker.volumes, 'volume', 'volumes')}"
     words += f" and {plural(checker.files, 'file', 'files')}" if options.data else ""
     words += f", {plural(checker.copies, 'copy', 'copies')}" if options.remotes else ""
     words += f"; {plural(len(checker.away), 'volume is', 'volumes are')} not at hand" if checker.away else ""
-    words += ": everything is intact" if not checker.failures and checker.volumes + checker.copies else ""
+    if not checker.failures and checker.volumes + checker.copies:
+        words += ": everything is intact" if whole else ": what was looked at is intact"
     return ended(
-        tell, words, checker.failures, volumes=checker.volumes, files=checker.files, copies=checker.copies, away=checker.away,
+        tell, words, checker.failures, volumes=checker.volumes, files=checker.files, copies=checker.copies, away=[row.label for row in checker.away],
     )
 
 
@@ -80,7 +88,13 @@ def repair(arguments: argparse.Namespace) -> int:
     with Catalogue(config) as catalogue, closing(claims_of(catalogue.base, config.path("locks"), config.catalogue)) as claims:
         rows = catalogue.volumes()
         copies = {copy.volume for copy in catalogue.copies() if copy.trouble}
-        found = chosen(rows, arguments.volume, Options()) if arguments.volume else [row for row in rows if row.trouble or row.number in copies]
+        places = catalogue.put_away()
+
+        def needs(row: VolumeRow) -> bool:
+            lost = is_lost(row, config, image_of(config, row) is not None, places.get(row.number))
+            return row.state != RETIRED and (bool(row.trouble) or row.number in copies or lost)
+
+        found = chosen(rows, arguments.volume, Options()) if arguments.volume else list(filter(needs, rows))
         repairer = Repairer(config, catalogue, claims, tell)
         repairer.run(found)
     words = f"repaired {plural(repairer.repaired, 'image or copy', 'images or copies')} of {plural(len(found), 'volume', 'volumes')}"
@@ -96,6 +110,35 @@ def adopt(arguments: argparse.Namespace) -> int:
         (row,) = chosen(catalogue.volumes(), [arguments.volume], Options())
         row = take(config, catalogue, claims, row, arguments.image)
     tell.result(f"took over {row.label} with {plural(row.files, 'file', 'files')}", volume=row.label, files=row.files, state=row.state)
+    return 0
+
+
+def put_away(arguments: argparse.Namespace) -> int:
+    """Keeps where the user has the image of a closed volume."""
+    config, tell = config_of(arguments), tell_of(arguments)
+    with Catalogue(config) as catalogue:
+        (row,) = chosen(catalogue.volumes(), [arguments.volume], Options())
+        if row.state != CLOSED:
+            raise ArchiveError(f"{row.label}: is not closed, and would be missed where it is filled: 'close {row.label}' first")
+        catalogue.save_place(row.number, arguments.place, now())
+    words = f"{row.label} is put away at {arguments.place}" if arguments.place is not None else f"{row.label} is not put away any more"
+    tell.result(words, volume=row.label, place=arguments.place)
+    return 0
+
+
+def retire(arguments: argparse.Namespace) -> int:
+    """Takes a closed volume out of what is asked for."""
+    config, tell = config_of(arguments), tell_of(arguments)
+    with Catalogue(config) as catalogue, closing(claims_of(catalogue.base, config.path("locks"), config.catalogue)) as claims:
+        (row,) = chosen(catalogue.volumes(), [arguments.volume], Options())
+        claims.volume(row.number, row.label)
+        row = catalogue.volume(row.number) or row
+        if row.state != CLOSED:
+            raise ArchiveError(f"{row.label}: is not closed, so it cannot be retired")
+        if not row.trouble and image_of(config, row) is not None:
+            raise ArchiveError(f"{row.label}: is at hand, and no damage is known: 'check --data {row.label}' looks for it")
+        catalogue.save(row._replace(state=RETIRED))
+    tell.result(f"retired {row.label}: 'add' stores its files again where their sources are there", volume=row.label, files=row.files)
     return 0
 
 

@@ -6,11 +6,12 @@ import argparse
 import os
 import uuid
 
+from ..errors import UsageError
 from ..ledger_file import make_folder
 from ..sources import shown
 from .add import Adder, Options
 from .catalogue import Catalogue
-from .config import FILE, LOCAL, check_label, check_remote, checked, config_of, is_url, strange, write
+from .config import FILE, LOCAL, check_label, check_remote, checked, config_of, has_password, is_url, strange, without_password, write
 from .errors import BadConfig, NoArchive
 from .markers import Owner, require_place, write_marker
 from .rebuild import Rebuilder
@@ -25,9 +26,7 @@ def init(arguments: argparse.Namespace) -> int:
     folder = os.path.realpath(arguments.dir)
     if os.path.exists(os.path.join(folder, FILE)):
         raise NoArchive(f"{shown(folder)}: is an archive already")
-    catalogue = arguments.catalogue or LOCAL
-    if arguments.catalogue and not is_url(arguments.catalogue):
-        raise BadConfig(f"{arguments.catalogue}: is not a PostgreSQL URL (postgresql://..)")
+    catalogue = catalogue_of(arguments)
     left = [name for name in strange(folder) if not name.startswith(LOCAL)]
     if left:
         raise NoArchive(f"{shown(folder)}: is not empty: it has {shown(left[0])}")
@@ -47,8 +46,25 @@ def init(arguments: argparse.Namespace) -> int:
             write_marker(owner_of(made), copy)
     write(config)
     line = f"made the archive {config.label} in {shown(folder)}"
-    tell_of(arguments).result(line, archive=folder, label=config.label, catalogue=config.catalogue)
+    tell_of(arguments).result(line, archive=folder, label=config.label, catalogue=without_password(config.catalogue))
     return 0
+
+
+def catalogue_of(arguments: argparse.Namespace) -> str:
+    """The catalogue that the words, a file or the environment name; a password among the words could be read by others."""
+    found = arguments.catalogue
+    if arguments.catalogue_file is not None:
+        if found is not None:
+            raise UsageError("name a catalogue by --catalogue or by --catalogue-file, and not by both")
+        with open(arguments.catalogue_file, encoding="utf-8") as file:
+            found = file.read(4096).strip()
+    elif found is not None and has_password(found):
+        raise UsageError("a password among the words can be read by everybody on this machine: use --catalogue-file, UDFBURN_CATALOGUE or ~/.pgpass")
+    else:
+        found = found or os.environ.get("UDFBURN_CATALOGUE")
+    if found and not is_url(found):
+        raise BadConfig("the catalogue is not a PostgreSQL URL (postgresql://..)")
+    return found or LOCAL
 
 
 def add(arguments: argparse.Namespace) -> int:

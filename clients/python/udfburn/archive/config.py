@@ -26,6 +26,9 @@ LOCAL = "catalogue.sqlite"
 LABEL = 30 - 7
 """Letters of an archive's label: a volume's label has a hyphen and six digits more, and at most 30 letters."""
 
+REMOTE = re.compile("[A-Za-z0-9_.+@][A-Za-z0-9_.+@ -]*")
+"""The names that rclone gives remotes. What else it takes before a colon would have it do other things."""
+
 DELETIONS = ("acknowledged", "copied")
 KEYS = {"format", "id", "label", "catalogue", "capacity", "copies", "copies_wanted", "delete", "same_device"}
 
@@ -62,6 +65,17 @@ def is_url(catalogue: str) -> bool:
     return catalogue.startswith(("postgresql://", "postgres://"))
 
 
+def without_password(text: str) -> str:
+    """A text in which no URL has its password."""
+    text = re.sub(r"(://[^/@\s:]*):[^/\s]*@", r"\1:***@", text)
+    return re.sub(r"(password=)[^&\s]*", r"\1***", text)
+
+
+def has_password(catalogue: str) -> bool:
+    """Whether the URL of a catalogue has a password in it."""
+    return without_password(catalogue) != catalogue
+
+
 def check_label(label: str) -> str:
     """The label itself, where volumes can have it with their number."""
     if name_fault(label) is not None or spelled_size(label) != len(label) + 1 or len(label) > LABEL or not label.isprintable():
@@ -83,7 +97,8 @@ def traces(config: Config) -> Set[int]:
         with suppress(OSError), os.scandir(folder) as entries:
             for entry in entries:
                 match = own.fullmatch(entry.name)
-                if match and entry.stat().st_size:
+                # Of a link it is the link itself: what it leads to may be away.
+                if match and entry.stat(follow_symlinks=False).st_size:
                     found.add(int(match.group(1)))
     return found
 
@@ -94,11 +109,11 @@ def check_remote(remote: str) -> str:
         raise BadConfig(f"{shown(remote)}: is not UTF-8, and archive.toml has nothing else: use a link whose path is")
     if os.path.isabs(remote):
         return os.path.normpath(remote)
-    name, colon, _ = remote.partition(":")
+    name, colon, place = remote.partition(":")
     if name + colon == "disc:":
         raise BadConfig(f"{remote}: is how the catalogue names discs: give the remote of rclone another name ('rclone config')")
-    if not colon or not name or "/" in name or remote.startswith("-"):
-        raise BadConfig(f"{remote}: is neither the absolute path of a folder nor an rclone remote, NAME:PATH")
+    if not colon or not REMOTE.fullmatch(name) or not place.isprintable():
+        raise BadConfig(f"{shown(remote)}: is neither the absolute path of a folder nor an rclone remote, NAME:PATH, with a plain NAME of rclone's configuration")
     return remote
 
 
@@ -233,7 +248,7 @@ def write(config: Config) -> None:
     """Makes the folder of an archive, and `archive.toml` in it, durable and whole."""
     for name in FOLDERS:
         make_folder(config.path(name))
-    write_file(config.path(FILE), text(config).encode())
+    write_file(config.path(FILE), text(config).encode(), 0o600 if has_password(config.catalogue) else 0o666)
 
 
 def write_file(path: str, data: bytes, mode: int = 0o666) -> None:

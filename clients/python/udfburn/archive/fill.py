@@ -2,9 +2,10 @@
 
 from __future__ import annotations
 
+from contextlib import suppress
 from typing import Callable, Dict, Iterator, List, Sequence
 
-from ..errors import Full
+from ..errors import Full, UdfburnError
 from ..operations import Operation, Outcome
 from ..protocol import Code, MakeDir, Path, limits
 from .catalogue import FULL, Catalogue, is_whole
@@ -171,9 +172,12 @@ class Filler:
                 self._take(volume, outcome, done)
         except Full:
             full = True
-        # Of a file that was cut the volume has its first parts, and the next run goes on after them.
-        cut = [job for job in jobs if job.in_parts() and job.commit and not job.stored()]
-        self._keep(volume, done, cut)
+        except Exception:
+            # What the volume has acknowledged is in the catalogue before the command ends, where that can be written.
+            with suppress(UdfburnError, OSError):
+                self._keep(volume, done, cut_short(jobs))
+            raise
+        self._keep(volume, done, cut_short(jobs))
         return self._after(volume, jobs, full)
 
     def _after(self, volume: OpenVolume, jobs: List[Job], full: bool) -> List[Job]:
@@ -232,6 +236,11 @@ class Filler:
         for job, count in zip(whole, sent):
             self.tell.step("stored", job.source.path, count, volume.row.label, job.commit)
         self.kept(whole, sum(sent))
+
+
+def cut_short(jobs: Sequence[Job]) -> List[Job]:
+    """Files of which a volume has only the first parts: what comes next goes on after them."""
+    return [job for job in jobs if job.in_parts() and job.commit and not job.stored()]
 
 
 def operations(volume: OpenVolume, jobs: Sequence[Job]) -> Iterator[Operation]:

@@ -12,10 +12,11 @@ from ..errors import DiskFull, SourceError, UdfburnError
 from ..protocol import Path
 from ..saving import Saver
 from ..sources import shown
-from .catalogue import Catalogue, Held, VolumeRow, as_of, image_of, versions
+from .catalogue import RETIRED, Catalogue, Held, VolumeRow, as_of, is_whole, versions
 from .config import Config
 from .contents import Contents, File
 from .errors import Lacking, VolumeDiffers
+from .places import readable
 from .remotes import Print, print_of
 from .tell import Tell, shown_path
 
@@ -25,6 +26,10 @@ class Wanted(NamedTuple):
 
     rows: List[Held]
     names: Names
+
+
+Way = List[Tuple[Held, str]]
+"""The rows of a version, each with the image that its bytes come from."""
 
 
 class Summary:
@@ -85,7 +90,8 @@ class Getter:
         self.summary = Summary()
         self._force = force
         self._rows: Dict[int, VolumeRow] = {row.number: row for row in catalogue.volumes()}
-        self._open: Dict[int, Tuple[Contents, Dict[int, File]]] = {}
+        self._at: Dict[int, List[str]] = {}
+        self._open: Dict[str, Tuple[Contents, Dict[int, File]]] = {}
 
     def run(self, files: Sequence[Wanted], folder: str) -> Summary:
         """Copies versions into a folder, volume by volume."""
@@ -103,8 +109,8 @@ class Getter:
 
     def _mode(self, files: Sequence[Wanted]) -> int:
         """The mode of the copies: nobody may read them who may not read the images."""
-        images = [image_of(self.config, self._rows[number]) for number in {row.volume for want in files for row in want.rows} if number in self._rows]
-        return mode_for(*(status_given(image) for image in images if image is not None))
+        numbers = {row.volume for want in files for row in want.rows}
+        return mode_for(*(status_given(image) for number in numbers for image in self._images(number)))
 
     def _one(self, want: Wanted, saver: Saver) -> None:
         held = want.rows[0]
@@ -114,19 +120,41 @@ class Getter:
             saver.folder(want.names[:-1])
             self.tell.step("same", held.path, held.size)
             return
-        missing = [row.volume for row in want.rows if not self._at_hand(row.volume)]
-        if missing:
-            for number in missing:
+        ways = self._ways(want.rows)
+        if not ways:
+            for number in sorted({row.volume for row in want.rows if not self._images(row.volume)}):
                 label = self._rows[number].label if number in self._rows else f"volume {number}"
                 self.summary.lacking[label] = self.summary.lacking.get(label, 0) + 1
             return
-        try:
-            saver.make_folder(want.names[:-1])
-            saver.save(want.names, self._checked(want.rows), held.moment, lambda count: self._got(held, count))
-        except DiskFull:
-            raise
-        except (UdfburnError, OSError) as error:
-            self.summary.failures.append(f"{shown_path(held.path)}: {error.strerror if isinstance(error, OSError) else error}")
+        why = ""
+        for way in ways:
+            try:
+                saver.make_folder(want.names[:-1])
+                saver.save(want.names, self._checked(way), held.moment, lambda count: self._got(held, count))
+                return
+            except DiskFull:
+                raise
+            except (VolumeDiffers, Lacking) as error:
+                # Another copy may have what this one has not.
+                why = why or str(error)
+            except (UdfburnError, OSError) as error:
+                why = str(error.strerror if isinstance(error, OSError) else error)
+                break
+        self.summary.failures.append(f"{shown_path(held.path)}: {why}")
+
+    def _ways(self, rows: Sequence[Held]) -> List[Way]:
+        """From which images the bytes of a version may come, the likeliest first. A file that is whole on a volume comes from any that has
+        it; one in parts from all of them together."""
+        at_hand = [row for row in rows if self._images(row.volume)]
+        sound = [row for row in at_hand if self._rows[row.volume].trouble is None and self._rows[row.volume].state != RETIRED]
+        if rows[0].parts is None:
+            return [[(row, image)] for row in dict.fromkeys(sound + at_hand) for image in self._images(row.volume)]
+        ways: List[Way] = []
+        for group in (sound, at_hand):
+            if group and is_whole(group):
+                for index in range(max(len(self._images(row.volume)) for row in group)):
+                    ways.append([(row, self._images(row.volume)[: index + 1][-1]) for row in group])
+        return ways
 
     def _got(self, held: Held, count: int) -> None:
         """A file has its name."""
@@ -134,29 +162,29 @@ class Getter:
         self.summary.bytes += count
         self.tell.step("got", held.path, count, self._rows[held.volume].label, held.commit)
 
-    def _at_hand(self, number: int) -> bool:
-        return number in self._open or (number in self._rows and image_of(self.config, self._rows[number]) is not None)
+    def _images(self, number: int) -> List[str]:
+        """Where a volume can be read now: its image, then its copies in folders."""
+        if number not in self._at and number in self._rows:
+            self._at[number] = readable(self.config, self.catalogue, self._rows[number])
+        return self._at.get(number, [])
 
-    def _volume(self, number: int) -> Tuple[Contents, Dict[int, File]]:
+    def _volume(self, image: str) -> Tuple[Contents, Dict[int, File]]:
         """A volume and its files by their commits. A few are kept open."""
-        if number not in self._open:
+        if image not in self._open:
             if len(self._open) >= 4:
                 first = next(iter(self._open))
                 self._open.pop(first)[0].close()
-            image = image_of(self.config, self._rows[number])
-            if image is None:
-                raise Lacking(f"{self._rows[number].label} is not at hand")
             contents = Contents(image)
-            self._open[number] = contents, {file.commit: file for file in contents.files()}
-        return self._open[number]
+            self._open[image] = contents, {file.commit: file for file in contents.files()}
+        return self._open[image]
 
-    def _checked(self, rows: Sequence[Held]) -> Iterator[bytes]:
+    def _checked(self, way: Way) -> Iterator[bytes]:
         """The bytes of a version. They are compared with their digest before the last of them is given, so no file gets its name
         that differs."""
         whole, count, last = sha256(), 0, b""
-        have = 0
-        for row in rows:
-            contents, files = self._volume(row.volume)
+        have, held = 0, way[0][0]
+        for row, image in way:
+            contents, files = self._volume(image)
             file = files.get(row.commit)
             if file is None or file.path != row.path:
                 raise VolumeDiffers(f"{contents.image}: does not have it as the catalogue says: run 'check' and 'rebuild'")
@@ -169,7 +197,7 @@ class Getter:
                 have += 1
                 yield last
                 last = piece
-        if count != rows[0].size or whole.digest() != rows[0].sha256:
+        if count != held.size or whole.digest() != held.sha256:
             raise VolumeDiffers("its bytes do not have the SHA-256 in the catalogue: run 'check --data', then 'repair'")
         yield last
 

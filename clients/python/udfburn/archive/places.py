@@ -10,7 +10,7 @@ from itertools import zip_longest
 from typing import Dict, Iterator, List, Optional, Sequence
 
 from ..sources import Source, read_parts, shown
-from .catalogue import CLOSED, Catalogue, Copy, Held, VolumeRow, image_of, part_count
+from .catalogue import CLOSED, RETIRED, Catalogue, Copy, Held, VolumeRow, image_of, part_count
 from .config import Config
 from .contents import Contents, File
 from .errors import CopyFailed, VolumeDiffers
@@ -76,6 +76,20 @@ def settle(image: str) -> None:
         raise VolumeDiffers(f"{shown(image)}: {error.strerror or error}") from error
 
 
+def readable(config: Config, catalogue: Catalogue, volume: VolumeRow) -> List[str]:
+    """The paths at which a volume can be read now: the image at hand, then copies in folders. Another machine may have named the folder
+    otherwise, so those of this one are looked at too."""
+    image, name = image_of(config, volume), volume.label + ".img"
+    found = [] if image is None else [image]
+    if volume.state in (CLOSED, RETIRED):
+        copies = sorted(catalogue.copies(volume.number), key=lambda copy: copy.trouble is not None)
+        for remote in filter(os.path.isabs, dict.fromkeys([copy.remote for copy in copies] + list(config.copies))):
+            path = remote_of(catalogue, remote).path_of(name)
+            if path is not None and os.path.isfile(path) and os.path.realpath(path) not in [os.path.realpath(other) for other in found]:
+                found.append(path)
+    return found
+
+
 class Places:
     """The places that have volumes, each looked at when it is first asked for."""
 
@@ -95,7 +109,7 @@ class Places:
         image = image_of(self.config, volume)
         if image is not None:
             return None if self._has(image, source, held) else f"since {volume.label} does not have them as they were stored: check it"
-        copies = [copy for copy in self.catalogue.copies(volume.number) if copy.trouble is None]
+        copies = [copy for copy in self.catalogue.on_remotes(volume.number) if copy.trouble is None]
         for copy in copies:
             path = self._in_folder(volume, copy)
             if path is not None:
@@ -103,11 +117,18 @@ class Places:
         why = self._why_not_remote(held, volume, [copy.remote for copy in copies if not os.path.isabs(copy.remote)])
         return why if why is not None or digest_of(source) == held.sha256 else f"since {volume.label} does not have them as they were stored: check it"
 
+    def has(self, source: Source, held: Held, volume: VolumeRow) -> bool:
+        """Whether some place shows now that a volume has the bytes of a source."""
+        if any(self._has(path, source, held) for path in readable(self.config, self.catalogue, volume)):
+            return True
+        remotes = [copy.remote for copy in self.catalogue.on_remotes(volume.number) if not os.path.isabs(copy.remote)]
+        return self._why_not_remote(held, volume, remotes) is None
+
     def _in_folder(self, volume: VolumeRow, copy: Copy) -> Optional[str]:
         """The path of a copy in a folder that is there now."""
-        remote = remote_of(self.catalogue, copy.remote)
-        path = remote.path_of(volume.label + ".img")
         try:
+            remote = remote_of(self.catalogue, copy.remote)
+            path = remote.path_of(volume.label + ".img")
             if path is not None and os.path.isfile(path):
                 remote.require_own()
                 return path
@@ -159,6 +180,8 @@ class Places:
     def why_not_copied(self, volume: VolumeRow) -> Optional[str]:
         """Why a volume does not count as copied: each copy that counts is asked now whether it is there, with its length."""
         wanted = self.config.wanted
+        if volume.state == RETIRED:
+            return f"since {volume.label} is retired"
         if volume.state != CLOSED:
             return f"until {volume.label} is closed and on {wanted} remotes"
         good = 0
@@ -188,4 +211,4 @@ class Places:
         return None
 
 
-__all__ = ["Places", "Reading", "same_bytes"]
+__all__ = ["Places", "Reading", "readable", "same_bytes"]

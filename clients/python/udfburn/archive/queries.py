@@ -35,12 +35,15 @@ def get(arguments: argparse.Namespace) -> int:
     config, tell = config_of(arguments), tell_of(arguments)
     require_folder(arguments.dir)
     with Catalogue(config) as catalogue:
+        known = {row.label: row.number for row in catalogue.volumes()}
         files = once(wanted(catalogue, [path_of(path) for path in arguments.path], moment_of(arguments.as_of)))
         summary = Getter(config, catalogue, tell, arguments.force).run(files, arguments.dir)
+        remotes = {label: [copy.remote for copy in catalogue.on_remotes(known[label])] for label in summary.lacking if label in known}
     for line in summary.failures:
         tell.fail(line)
     for label, count in sorted(summary.lacking.items()):
-        tell.fail(f"{label} is not at hand, and has {plural(count, 'file', 'files')} of these: put its image into the folder 'closed' of the archive")
+        how = f"'repair {label}' brings it back from {remotes[label][0]}" if remotes.get(label) else "put its image into the folder 'closed' of the archive"
+        tell.fail(f"{label} is not at hand, and has {plural(count, 'file', 'files')} of these: {how}")
     lacking = sum(summary.lacking.values())
     words = f"got {plural(summary.files, 'file', 'files')}, {size(summary.bytes)}"
     words += f"; {plural(summary.same, 'file is', 'files are')} there already" if summary.same else ""
@@ -79,7 +82,10 @@ def status(arguments: argparse.Namespace) -> int:
         words, label=config.label, archive=config.folder, volumes=len(found), files=files, left=left,
         attention=sum(len(line.attention) for line in found) + len(lacking),
     )
-    return 0
+    lost = [line.row.label for line in found if line.lost]
+    if lost:
+        tell.fail(f"{plural(len(lost), 'image is', 'images are')} lost: {', '.join(lost)}")
+    return 1 if lost else 0
 
 
 def status_line(line: Line, elsewhere: str) -> str:
@@ -88,6 +94,7 @@ def status_line(line: Line, elsewhere: str) -> str:
     full = " ".join(f"{name} {share:.0%}" for name, share in line.fullness.items())
     words = f"{row.label} {line.state}: {plural(row.files, 'file', 'files')}, {full}"
     words += f", checked {stamp(row.checked)[:10]}" if row.checked else ""
+    words += f", put away at {line.place}" if line.place is not None and not line.at_hand else ""
     remotes = [copy.remote for copy in line.copies if not copy.disc()]
     words += f", copies {', '.join(remotes)}" if remotes else ""
     words += "".join(f", disc {copy.disc()} of {stamp(copy.made)[:10]}" for copy in line.copies if copy.disc())
@@ -104,5 +111,5 @@ def status_fields(line: Line, holders: Dict[str, str]) -> Dict[str, object]:
         "sha256": row.sha256.hex() if row.sha256 else None, "length": row.length, "checked": row.checked, "data_checked": row.data_checked,
         "copies": [{"remote": copy.remote, "checked": copy.checked, "trouble": copy.trouble} for copy in line.copies if not copy.disc()],
         "discs": [{"disc": copy.disc(), "burned": copy.made, "checked": copy.checked, "trouble": copy.trouble} for copy in line.copies if copy.disc()],
-        "attention": line.attention,
+        "attention": line.attention, "lost": line.lost, "place": line.place,
     }

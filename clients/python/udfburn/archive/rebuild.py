@@ -325,7 +325,7 @@ class Rebuilder:
 
     def _is_older(self, old: VolumeRow, row: VolumeRow) -> bool:
         """Whether an open image is not the volume any more: that one was closed, or another folder has it and has filled it since."""
-        return old.state == CLOSED or old.holder != self.config.id and row.last_commit < old.last_commit
+        return old.state in (CLOSED, RETIRED) or old.holder != self.config.id and row.last_commit < old.last_commit
 
     def _is_ours(self, archive: str) -> bool:
         """Whether a volume is of this archive. A catalogue that was made anew takes the archive of its first volume."""
@@ -346,6 +346,7 @@ class Rebuilder:
         if old is None:
             return row
         state = row.state if closed or old.state not in (FULL, CLOSING) else old.state
+        state = RETIRED if old.state == RETIRED else state
         row = row._replace(state=state, holder=old.holder, checked=old.checked, data_checked=old.data_checked, trouble=old.trouble)
         return row._replace(closed=old.closed or row.closed) if closed else row._replace(length=old.length, sha256=old.sha256, closed=old.closed)
 

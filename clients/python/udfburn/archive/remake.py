@@ -17,9 +17,9 @@ from ..protocol import limits
 from ..sources import shown
 from .base import SqliteBase
 from .catalogue import CLOSED, CLOSING, FULL, NEW, OPEN, RETIRED, VOLUME, Catalogue, Copy, VolumeRow
-from .config import LOCAL, Config, check_remote, volume_label
+from .config import LOCAL, Config, volume_label
 from .contents import ARCHIVE, SIZE
-from .errors import BadConfig, CatalogueError
+from .errors import CatalogueError
 from .schema import NUMBERS, VERSION
 from .tell import Tell
 
@@ -71,10 +71,7 @@ def is_volume(config: Config, row: VolumeRow) -> bool:
 
 def is_copy(copy: Copy) -> bool:
     """Whether a row may be one of a copy."""
-    try:
-        named = isinstance(copy.remote, str) and check_remote(copy.remote) == copy.remote
-    except BadConfig:
-        named = False
+    named = isinstance(copy.remote, str) and copy.remote.isprintable() and 0 < len(copy.remote) <= 4096
     return is_count(copy.volume, NUMBERS) and named and is_count(copy.made, limits.MOMENT) and is_count(copy.checked, limits.MOMENT) and isinstance(copy.trouble or "", str)
 
 

@@ -7,6 +7,7 @@ import json
 import os
 import shutil
 import subprocess
+from contextlib import suppress
 from hashlib import sha256
 from tempfile import TemporaryFile
 from typing import IO, Any, Dict, List, NamedTuple, Optional
@@ -51,6 +52,17 @@ def print_of_file(path: str, fresh: bool = False, most: Optional[int] = None) ->
         if fresh:
             os.posix_fadvise(file.fileno(), 0, 0, os.POSIX_FADV_DONTNEED)
         return print_of(file, most)
+
+
+def is_full(error: OSError) -> bool:
+    """Whether a disk has no room."""
+    return error.errno in (errno.ENOSPC, errno.EDQUOT)
+
+
+def failed(path: str, error: OSError) -> CopyFailed:
+    """What is said of a copy that could not be made."""
+    told = "the disk has no room: make room on it, and run the same command again" if is_full(error) else error.strerror or error
+    return CopyFailed(f"{shown(path)}: {told}")
 
 
 class Remote:
@@ -135,13 +147,15 @@ class FolderRemote(Remote):
             os.replace(new, target)
             sync_folder(self.name)
         except OSError as error:
-            raise CopyFailed(f"{shown(target)}: {error.strerror or error}") from error
+            with suppress(OSError):
+                os.unlink(new)
+            raise failed(target, error) from error
 
     def fetch(self, name: str, local: str) -> None:
         try:
             shutil.copyfile(os.path.join(self.name, name), local)
         except OSError as error:
-            raise CopyFailed(f"{shown(os.path.join(self.name, name))}: {error.strerror or error}") from error
+            raise failed(local if is_full(error) else os.path.join(self.name, name), error) from error
 
     def look(self, name: str) -> Optional[Print]:
         path = os.path.join(self.name, name)
@@ -185,8 +199,13 @@ class RcloneRemote(Remote):
     def send(self, local: str, name: str) -> None:
         # A name of its own first: not every remote takes a file as a whole or not at all.
         new = self._path(name + ".new")
-        self._run(["copyto", "--ignore-times", local, new])
-        self._run(["moveto", new, self._path(name)])
+        try:
+            self._run(["copyto", "--ignore-times", local, new])
+            self._run(["moveto", new, self._path(name)])
+        except CopyFailed:
+            with suppress(CopyFailed):
+                self._run(["deletefile", new])
+            raise
 
     def fetch(self, name: str, local: str) -> None:
         self._run(["copyto", "--ignore-times", self._path(name), local])

@@ -3,14 +3,14 @@
 `find` takes no look-up for each hit: `by_name` and `by_ending` have names with the whole path of their folder. In SQLite they
 are tables that are their own index. In PostgreSQL, where a table and its index would be two copies, they are views over
 indexes that have all that is asked for; only the folder's path is looked up. The tables of the third version are those of
-trigrams.py.
+trigrams.py. The fourth has where users have put images away.
 """
 
 from __future__ import annotations
 
 from typing import List
 
-VERSION = 3
+VERSION = 4
 """The version of the tables that this program reads and writes."""
 
 COMMITS = 1 << 18
@@ -80,9 +80,13 @@ CREATE TABLE indexed_names (block BIGINT PRIMARY KEY, names {bytes} NOT NULL);
 CREATE TABLE trigram (letters {text} NOT NULL, segment BIGINT NOT NULL, entries {bytes} NOT NULL, PRIMARY KEY (letters, segment))
 """
 
+FOURTH = """
+CREATE TABLE put_away (volume BIGINT PRIMARY KEY, place {text} NOT NULL, since BIGINT NOT NULL)
+"""
+
 MIGRATIONS = {
-    "sqlite": [FIRST, SECOND_SQLITE, THIRD.rstrip() + " WITHOUT ROWID"],
-    "postgresql": [FIRST, SECOND_POSTGRESQL, THIRD],
+    "sqlite": [FIRST, SECOND_SQLITE, THIRD.rstrip() + " WITHOUT ROWID", FOURTH],
+    "postgresql": [FIRST, SECOND_POSTGRESQL, THIRD, FOURTH],
 }
 """The statements of an engine that make version n + 1 of version n, from the empty one on."""
 

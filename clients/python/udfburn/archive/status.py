@@ -4,11 +4,11 @@ from __future__ import annotations
 
 import os
 import time
-from typing import Dict, List, NamedTuple, Tuple
+from typing import Dict, List, NamedTuple, Optional, Tuple
 
 from ..protocol import limits
 from .batch import sound_length
-from .catalogue import CLOSED, CLOSING, FILE, FULL, NEW, Catalogue, Copy, Held, VolumeRow, folder_back, held_row, image_of, is_whole
+from .catalogue import CLOSED, CLOSING, FILE, FULL, NEW, RETIRED, Catalogue, Copy, Held, VolumeRow, folder_back, held_row, image_of, is_whole
 from .config import Config
 from .errors import LOST, VolumeDiffers
 from .tell import shown_path
@@ -28,6 +28,9 @@ class Line(NamedTuple):
     fullness: Dict[str, float]
     copies: List[Copy]
     attention: List[str]
+    lost: bool
+    place: Optional[str]
+    """Where the user has put the image."""
 
 
 def fullness(row: VolumeRow) -> Dict[str, float]:
@@ -43,9 +46,28 @@ def good(copies: List[Copy], config: Config) -> int:
     return sum(1 for copy in copies if copy.trouble is None and copy.remote in config.copies)
 
 
+def is_lost(row: VolumeRow, config: Config, at_hand: bool, place: Optional[str]) -> bool:
+    """Whether the image of a volume of this folder is gone, and the user has not put it away."""
+    return row.holder == config.id and not at_hand and place is None and row.state not in (NEW, RETIRED) and (row.files > 0 or row.state == CLOSED)
+
+
+def loss(row: VolumeRow, copies: List[Copy]) -> str:
+    """What is said of an image that is lost."""
+    if row.state != CLOSED:
+        return "its image is lost, and it was never closed: bring the image back"
+    remotes = [copy.remote for copy in copies if copy.trouble is None and not copy.disc()]
+    discs = [copy.disc() for copy in copies if copy.trouble is None and copy.disc()]
+    how = "no copy is known: bring it back"
+    if remotes:
+        how = f"'repair {row.label}' brings it back from {remotes[0]}"
+    elif discs:
+        how = f"known on no remote, but on the disc {discs[0]}: 'repair {row.label} --disc {discs[0]}'"
+    return f"its image is lost: {how}. If you have put it away: 'put-away {row.label} PLACE'"
+
+
 def state_of(row: VolumeRow, at_hand: bool, copies: int, config: Config, own: bool) -> str:
     """The state as users see it."""
-    if own and not at_hand and row.state != NEW:
+    if own and not at_hand and row.state not in (NEW, RETIRED):
         return "away"
     if row.state == CLOSED and config.copies and copies == len(config.copies):
         return "copied"
@@ -54,16 +76,13 @@ def state_of(row: VolumeRow, at_hand: bool, copies: int, config: Config, own: bo
 
 def attention(row: VolumeRow, at_hand: bool, copies: List[Copy], config: Config, own: bool, now: int) -> List[str]:
     """What needs somebody."""
-    found = []
+    found: List[str] = []
+    if row.state == RETIRED:
+        return found
     if row.trouble:
         found.append(f"{row.trouble}: 'repair {row.label}'")
     found += [f"the copy on {copy.remote}: {copy.trouble}: 'repair {row.label}'" for copy in copies if copy.trouble and not copy.disc()]
     found += [f"the disc {copy.disc()}: {copy.trouble}: 'burn {row.label}' onto another one" for copy in copies if copy.trouble and copy.disc()]
-    if own and not at_hand and row.state not in (NEW, CLOSED):
-        found.append("is not closed, and its image is not at hand: bring it back")
-    if own and not at_hand and row.state == CLOSED and not good(copies, config):
-        discs = [f"the disc {copy.disc()}" for copy in copies if copy.disc() and not copy.trouble]
-        found.append(f"is away, and known on no remote, but on {', '.join(discs)}" if discs else "is away, and no copy is known")
     if row.state in (FULL, CLOSING):
         found.append(f"is {row.state}: 'close {row.label}'")
     if row.state == CLOSED and at_hand and good(copies, config) < len(config.copies):
@@ -104,14 +123,16 @@ def lines(config: Config, catalogue: Catalogue) -> List[Line]:
     copies: Dict[int, List[Copy]] = {}
     for copy in catalogue.copies():
         copies.setdefault(copy.volume, []).append(copy)
-    now = time.time_ns() // 1000
+    now, places = time.time_ns() // 1000, catalogue.put_away()
     found = []
     for row in catalogue.volumes():
         own, at_hand = row.holder == config.id, image_of(config, row) is not None
         have = copies.get(row.number, [])
         state = state_of(row, at_hand, good(have, config), config, own)
-        needed = attention(row, at_hand, have, config, own, now) + (cut_short(config, row) or damaged(config, row))
-        found.append(Line(row, state, at_hand, fullness(row), have, needed))
+        lost = is_lost(row, config, at_hand, places.get(row.number))
+        needed = [loss(row, have)] if lost else []
+        needed += attention(row, at_hand, have, config, own, now) + (cut_short(config, row) or damaged(config, row))
+        found.append(Line(row, state, at_hand, fullness(row), have, needed, lost, places.get(row.number)))
     return sorted(found, key=lambda line: (not line.attention, line.row.number))
 
 
