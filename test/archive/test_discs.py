@@ -10,7 +10,8 @@ from unittest import mock
 from .support import COMMANDS, Done, WithArchive, digests, environment, make_tree, write
 
 from udfburn.archive import remotes  # noqa: E402
-from udfburn.archive.config import check_remote  # noqa: E402
+from udfburn.archive.catalogue import Catalogue  # noqa: E402
+from udfburn.archive.config import check_remote, read  # noqa: E402
 from udfburn.archive.errors import BadConfig, CopyFailed  # noqa: E402
 
 BLOCK = 2048
@@ -23,7 +24,7 @@ class Discs(WithArchive):
     def setUp(self) -> None:
         super().setUp()
         os.mkdir(self.path("second"))
-        self.run_in(self.archive, "init", self.archive, "--label", "TAPES", "--capacity", "4000", "--copies", self.path("second"))
+        self.run_in(self.archive, "init", self.archive, "--label", "TAPES", "--capacity", "4000", "--copies", self.path("second"), "--same-device")
         make_tree(self.source, 30, 1)
         self.run_in(self.archive, "add", self.source, "--at", "/tapes")
         self.run_in(self.archive, "close")
@@ -122,8 +123,8 @@ class Discs(WithArchive):
             self.run_in(self.archive, "report", self.path("page.html"))
         self.assertFalse(os.path.exists(self.path("asked")))
         self.assertEqual(self.names(), ["A"])
-        with self.assertRaisesRegex(CopyFailed, "is a disc"):
-            remotes.remote_of("disc:A")
+        with Catalogue(read(self.archive)) as catalogue, self.assertRaisesRegex(CopyFailed, "is a disc"):
+            remotes.remote_of(catalogue, "disc:A")
         with self.assertRaisesRegex(BadConfig, "how the catalogue names discs"):
             check_remote("disc:A")
         shutil.rmtree(self.path("second"))
@@ -134,7 +135,8 @@ class Discs(WithArchive):
         path = os.path.join(self.archive, "archive.toml")
         text = self.bytes(path).decode().replace(f'"{self.path("second")}"', "").replace("copies_wanted = 1", "copies_wanted = 0").replace('"copied"\n', '"acknowledged"\n')
         write(path, text.encode())
-        return self.say("status")
+        # The image is lost.
+        return self.say("status", status=1)
 
     def refused(self, why: str, name: str, label: str = LABEL, place: str = "") -> None:
         """A plain line, and nothing changes: no row, no byte of a disc."""

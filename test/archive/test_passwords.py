@@ -18,6 +18,9 @@ from udfburn.archive.config import has_password, without_password  # noqa: E402
 
 SECRET = "s3cret"
 
+TCP_USER_TIMEOUT = 18
+"""An option of Linux (tcp(7)), which not every Python names."""
+
 
 class Passwords(WithArchive):
     def setUp(self) -> None:
@@ -76,7 +79,7 @@ class Passwords(WithArchive):
             try:
                 found = socket.socket(fileno=os.dup(connection.fileno()))
                 with found:
-                    options: List[int] = [found.getsockopt(socket.IPPROTO_TCP, name) for name in (socket.TCP_USER_TIMEOUT, socket.TCP_KEEPIDLE, socket.TCP_KEEPINTVL, socket.TCP_KEEPCNT)]
+                    options: List[int] = [found.getsockopt(socket.IPPROTO_TCP, name) for name in (TCP_USER_TIMEOUT, socket.TCP_KEEPIDLE, socket.TCP_KEEPINTVL, socket.TCP_KEEPCNT)]
                     alive = found.getsockopt(socket.SOL_SOCKET, socket.SO_KEEPALIVE)
                 self.assertEqual((options[0], bool(alive)), (30_000, True))
                 self.assertLessEqual(options[1] + options[2] * options[3], 60)
