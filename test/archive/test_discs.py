@@ -43,7 +43,7 @@ class Discs(WithArchive):
 
     def discs(self) -> List[Dict[str, Any]]:
         """The discs as `status` has them."""
-        found = self.run_in(self.archive, "status").objects()
+        found = self.run_in(self.archive, "status", status=None).objects()
         return [{"volume": one["volume"], **disc} for one in found if one["did"] == "volume" for disc in one["discs"]]
 
     def names(self) -> List[str]:

@@ -6,6 +6,7 @@ import os
 import socket
 import sys
 import threading
+from contextlib import suppress
 from typing import List
 
 from .servers import Server
@@ -94,9 +95,9 @@ def forward(listener: socket.socket, path: str) -> None:
     server.connect(path)
 
     def pass_on(source: socket.socket, target: socket.socket) -> None:
-        for data in iter(lambda: source.recv(65536), b""):
-            target.sendall(data)
-        target.close()
+        with suppress(OSError), source, target:
+            for data in iter(lambda: source.recv(65536), b""):
+                target.sendall(data)
 
     threading.Thread(target=pass_on, args=(client, server), daemon=True).start()
     pass_on(server, client)

@@ -203,7 +203,7 @@ class Repairer:
         """Repairs volumes."""
         for row in rows:
             if row.state != CLOSED and image_of(self.config, row) is None:
-                self.failures.append(f"{row.label}: {loss(row, [])}")
+                self.failures.append(f"{row.label}: {loss(row, [], self.config)}")
                 continue
             if row.state != CLOSED or row.sha256 is None:
                 self.failures.append(f"{row.label}: is not closed, so there is nothing to compare it with")

@@ -3,12 +3,13 @@
 from __future__ import annotations
 
 import argparse
+import errno
 import sys
 from typing import TYPE_CHECKING, Any, Callable, Dict, List, Optional
 
 from .. import __version__
 from ..errors import OutputFailed, UdfburnError, UsageError
-from ..protocol import limits
+from ..protocol import limits, shown
 from ..streams import drop_output, parsed, take_any_name, take_descriptors
 from .tell import Tell
 
@@ -213,7 +214,11 @@ def run(arguments: argparse.Namespace, tell: Tell) -> int:
         return tell.fail(INTERRUPTED, 130)
     except UsageError as error:
         return tell.fail(error, 2)
-    except (UdfburnError, ValueError, OSError) as error:
+    except OSError as error:
+        if error.errno in (errno.ENOSPC, errno.EDQUOT):
+            return tell.fail(f"{shown(error.filename) if isinstance(error.filename, str) else 'a disk'}: has no room: make room, and run the same command again")
+        return tell.fail(error)
+    except (UdfburnError, ValueError) as error:
         return tell.fail(error)
 
 

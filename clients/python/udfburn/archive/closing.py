@@ -60,7 +60,7 @@ def check(arguments: argparse.Namespace) -> int:
         places = catalogue.put_away()
         for row in checker.away:
             if is_lost(row, config, False, places.get(row.number)):
-                checker.failures.append(f"{row.label}: {loss(row, catalogue.copies(row.number))}")
+                checker.failures.append(f"{row.label}: {loss(row, catalogue.copies(row.number), config)}")
             elif arguments.volume:
                 checker.failures.append(f"{row.label}: is not at hand: put its image into the folder 'closed' of the archive")
             else:

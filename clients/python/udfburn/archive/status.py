@@ -51,11 +51,11 @@ def is_lost(row: VolumeRow, config: Config, at_hand: bool, place: Optional[str])
     return row.holder == config.id and not at_hand and place is None and row.state not in (NEW, RETIRED) and (row.files > 0 or row.state == CLOSED)
 
 
-def loss(row: VolumeRow, copies: List[Copy]) -> str:
+def loss(row: VolumeRow, copies: List[Copy], config: Config) -> str:
     """What is said of an image that is lost."""
     if row.state != CLOSED:
         return "its image is lost, and it was never closed: bring the image back"
-    remotes = [copy.remote for copy in copies if copy.trouble is None and not copy.disc()]
+    remotes = [copy.remote for copy in copies if copy.trouble is None and copy.remote in config.copies]
     discs = [copy.disc() for copy in copies if copy.trouble is None and copy.disc()]
     how = "no copy is known: bring it back"
     if remotes:
@@ -130,7 +130,7 @@ def lines(config: Config, catalogue: Catalogue) -> List[Line]:
         have = copies.get(row.number, [])
         state = state_of(row, at_hand, good(have, config), config, own)
         lost = is_lost(row, config, at_hand, places.get(row.number))
-        needed = [loss(row, have)] if lost else []
+        needed = [loss(row, have, config)] if lost else []
         needed += attention(row, at_hand, have, config, own, now) + (cut_short(config, row) or damaged(config, row))
         found.append(Line(row, state, at_hand, fullness(row), have, needed, lost, places.get(row.number)))
     return sorted(found, key=lambda line: (not line.attention, line.row.number))
