@@ -4,6 +4,7 @@ from __future__ import annotations
 
 import os
 import shutil
+import sqlite3
 from typing import Any, Dict, List
 from unittest import mock
 
@@ -207,3 +208,33 @@ class Discs(WithArchive):
         sizes = [os.path.getsize(os.path.join(archive, "closed", name)) // BLOCK for name in os.listdir(os.path.join(archive, "closed")) if name.endswith(".img")]
         self.assertGreater(len(sizes), 1)
         self.assertLessEqual(max(sizes) + 34, 700)
+
+    def test_a_disc_lets_no_source_go(self) -> None:
+        """What is on a disc alone is not seen in the run, and so is no reason to delete."""
+        self.burn("A")
+        shutil.rmtree(self.path("second"))
+        os.rename(self.image, self.path("away"))
+        before = digests(self.source)
+        self.run_in(self.archive, "add", self.source, "--at", "/tapes", "--delete-source", status=None)
+        self.assertEqual(digests(self.source), before)
+
+    def test_a_catalogue_that_is_damaged(self) -> None:
+        """Its discs are known only to the catalogue, so what can be read of them is kept. One with discs is not taken for a damaged one."""
+        self.burn("A")
+        self.burn("B")
+        catalogue = os.path.join(self.archive, "catalogue.sqlite")
+        self.run_in(self.archive, "rebuild")
+        self.assertEqual([name for name in os.listdir(self.archive) if ".damaged-" in name], [])
+        base = sqlite3.connect(catalogue)
+        base.execute("UPDATE volume SET length = 'none'")
+        base.commit()
+        base.close()
+        self.run_in(self.archive, "rebuild")
+        self.assertNotEqual([name for name in os.listdir(self.archive) if ".damaged-" in name], [])
+        self.assertEqual(self.names(), ["A", "B"])
+
+    def test_only_remotes_are_repaired_unasked(self) -> None:
+        self.burn("A")
+        self.damage(self.disc("A"), 500 * BLOCK)
+        self.run_in(self.archive, "check", "--disc", "A", "--device", "stdio:" + self.disc("A"), status=1)
+        self.assertEqual(self.run_in(self.archive, "repair").last()["volumes"], 0)

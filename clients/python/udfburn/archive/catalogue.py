@@ -78,6 +78,14 @@ class VolumeRow(NamedTuple):
 DISC = "disc:"
 """How the catalogue's word for a disc begins, before its name."""
 
+DISC_NAME = 40
+"""Letters of a disc's name: it is written by hand."""
+
+
+def is_disc_name(name: str) -> bool:
+    """Whether a disc can have a name."""
+    return 0 < len(name) <= DISC_NAME and name.isprintable() and name == name.strip()
+
 
 class Copy(NamedTuple):
     """A copy of a closed volume, on a remote or on a disc, and what was wrong with it when it was last looked at."""
@@ -459,6 +467,6 @@ def is_whole(group: Sequence[Held]) -> bool:
 
 
 __all__ = [
-    "CLOSED", "CLOSING", "Catalogue", "Copy", "DISC", "FULL", "Held", "NEW", "OPEN", "RETIRED", "VolumeRow", "as_of", "image_of", "is_whole",
+    "CLOSED", "CLOSING", "Catalogue", "Copy", "DISC", "DISC_NAME", "FULL", "Held", "NEW", "OPEN", "RETIRED", "VolumeRow", "as_of", "image_of", "is_disc_name", "is_whole",
     "part_count", "versions",
 ]

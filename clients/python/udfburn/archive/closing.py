@@ -87,7 +87,7 @@ def repair(arguments: argparse.Namespace) -> int:
     config, tell = config_of(arguments), tell_of(arguments)
     with Catalogue(config) as catalogue, closing(claims_of(catalogue.base, config.path("locks"), config.catalogue)) as claims:
         rows = catalogue.volumes()
-        copies = {copy.volume for copy in catalogue.copies() if copy.trouble}
+        copies = {copy.volume for copy in catalogue.copies() if copy.trouble and copy.disc() is None}
         places = catalogue.put_away()
 
         def needs(row: VolumeRow) -> bool:

@@ -19,7 +19,7 @@ from ..operations import now
 from ..progress import printable
 from ..protocol import limits
 from ..sources import shown
-from .catalogue import CLOSED, DISC, Catalogue, Copy, VolumeRow, image_of
+from .catalogue import CLOSED, DISC, DISC_NAME, Catalogue, Copy, VolumeRow, image_of, is_disc_name
 from .check import Options, Repairer, chosen, has_print
 from .claims import Claims, claims_of
 from .config import Config, config_of
@@ -28,9 +28,6 @@ from .remotes import Print, print_of_file
 from .tell import Tell, plural, tell_of
 
 DEVICE = "/dev/sr0"
-
-NAME = 40
-"""Letters of a disc's name: it is written by hand."""
 
 
 def disc_of(arguments: argparse.Namespace) -> Tuple[str, str]:
@@ -43,14 +40,14 @@ def disc_of(arguments: argparse.Namespace) -> Tuple[str, str]:
 
 def check_name(name: str) -> str:
     """The name itself, where a disc can have it."""
-    if not name.strip() or len(name) > NAME or not name.isprintable() or name != name.strip():
-        raise UsageError(f"{printable(name)!r}: is not a name for a disc: use 1 to {NAME} letters, as you write them on it")
+    if not is_disc_name(name):
+        raise UsageError(f"{printable(name)!r}: is not a name for a disc: use 1 to {DISC_NAME} letters, as you write them on it")
     return name
 
 
 def print_of_row(row: VolumeRow) -> Print:
     """What a volume was when it was closed."""
-    if row.state != CLOSED or row.length is None or row.sha256 is None:
+    if row.length is None or row.sha256 is None:
         raise VolumeDiffers(f"{row.label}: is {row.state}: close it first, with 'close {row.label}'")
     return Print(row.length, row.sha256)
 
@@ -72,6 +69,8 @@ class Burner:
     def run(self, row: VolumeRow) -> None:
         """Burns a volume onto a blank disc; or compares a disc that has it already."""
         wanted = print_of_row(row)
+        if row.state != CLOSED:
+            raise VolumeDiffers(f"{row.label}: is {row.state}, and only a closed volume is burned")
         self._require_free(row)
         disc = look_at(self.device)
         if disc.blank:

@@ -186,7 +186,7 @@ class Places:
             return f"until {volume.label} is closed and on {wanted} remotes"
         good = 0
         told: List[str] = []
-        for copy in self.catalogue.copies(volume.number):
+        for copy in self.catalogue.on_remotes(volume.number):
             if good < wanted and copy.trouble is None and copy.remote in self.config.copies:
                 why = self._why_no_copy(volume, copy)
                 if why is None:

@@ -16,10 +16,10 @@ from ..ledger_file import sync_folder
 from ..protocol import limits
 from ..sources import shown
 from .base import SqliteBase
-from .catalogue import CLOSED, CLOSING, FULL, NEW, OPEN, RETIRED, VOLUME, Catalogue, Copy, VolumeRow
-from .config import LOCAL, Config, volume_label
+from .catalogue import CLOSED, CLOSING, FULL, NEW, OPEN, RETIRED, VOLUME, Catalogue, Copy, VolumeRow, is_disc_name
+from .config import LOCAL, Config, check_remote, volume_label
 from .contents import ARCHIVE, SIZE
-from .errors import CatalogueError
+from .errors import BadConfig, CatalogueError
 from .schema import NUMBERS, VERSION
 from .tell import Tell
 
@@ -71,7 +71,11 @@ def is_volume(config: Config, row: VolumeRow) -> bool:
 
 def is_copy(copy: Copy) -> bool:
     """Whether a row may be one of a copy."""
-    named = isinstance(copy.remote, str) and copy.remote.isprintable() and 0 < len(copy.remote) <= 4096
+    disc = copy.disc() if isinstance(copy.remote, str) else None
+    try:
+        named = isinstance(copy.remote, str) and (is_disc_name(disc) if disc is not None else check_remote(copy.remote) == copy.remote)
+    except BadConfig:
+        named = False
     return is_count(copy.volume, NUMBERS) and named and is_count(copy.made, limits.MOMENT) and is_count(copy.checked, limits.MOMENT) and isinstance(copy.trouble or "", str)
 
 
