@@ -184,14 +184,14 @@ def refused(device: str, text: str) -> None:
         raise AssertionError("a row changed")
 
 
-def repaired(device: str) -> None:
-    """The image comes back from a disc, byte by byte."""
+def repaired(device: str, blank: str) -> None:
+    """An image that is damaged is not burned, and comes back from a disc byte by byte."""
     image = bytes_of(CLOSED, os.path.getsize(CLOSED))
     os.chmod(CLOSED, 0o600)
     with open(CLOSED, "r+b") as file:
         file.seek(300 * BLOCK)
         file.write(b"damage")
-    expect(burn(device, "--disc", "DAMAGED"), 1, "repair")
+    expect(burn(blank, "--disc", "DAMAGED"), 1, "and was not burned")
     expect(archive("repair", LABEL, "--disc", "DVDR", "--device", device), 0, "repaired 1 image")
     if bytes_of(CLOSED, len(image) + 1) != image:
         raise AssertionError("it is not the image that was closed")
@@ -234,7 +234,7 @@ def tests(found: Dict[str, str]) -> List[Tuple[str, Callable[[], None]]]:
         ("copies past the partition", lambda: past_the_partition(found["PAST"])),
         *((f"a good {name}", partial(a_good_disc, found[name], name)) for name in ("CDR", "DVDR", "DVD+R", "BDR")),
         ("names and other discs", lambda: other_words(found)),
-        ("repaired", lambda: repaired(found["DVDR"])),
+        ("repaired", lambda: repaired(found["DVDR"], found["BLANK"])),
         ("a disc burned by hand", lambda: burned_by_hand(found["RAW"])),
         ("track at once", lambda: track_at_once(found["TAO"])),
     ]
