@@ -210,12 +210,16 @@ class Discs(WithArchive):
         self.assertLessEqual(max(sizes) + 34, 700)
 
     def test_a_disc_lets_no_source_go(self) -> None:
-        """What is on a disc alone is not seen in the run, and so is no reason to delete."""
+        """What is on a disc alone is not seen in the run, and so is no reason to delete; nor is it one to stop."""
+        self.archive = self.path("acknowledged")
+        self.run_in(self.archive, "init", self.archive, "--label", "TAPES", "--capacity", "4000", "--delete", "acknowledged")
+        self.run_in(self.archive, "add", self.source, "--at", "/tapes")
+        self.run_in(self.archive, "close")
         self.burn("A")
-        shutil.rmtree(self.path("second"))
-        os.rename(self.image, self.path("away"))
+        os.rename(os.path.join(self.archive, "closed", LABEL + ".img"), self.path("away"))
         before = digests(self.source)
-        self.run_in(self.archive, "add", self.source, "--at", "/tapes", "--delete-source", status=None)
+        told = self.run_in(self.archive, "add", self.source, "--at", "/tapes", "--delete-source").last()
+        self.assertEqual((told["deleted"], told["kept"]), (0, 30))
         self.assertEqual(digests(self.source), before)
 
     def test_a_catalogue_that_is_damaged(self) -> None:
