@@ -50,7 +50,7 @@ trap 'rm -rf "$output" "$room"' EXIT
 PACKAGE=$room/python
 export PACKAGE
 client=$home/../clients/python
-mkdir -p "$PACKAGE/tests" && cp -R "$client/udfburn" "$PACKAGE" && cp "$client/tests/__init__.py" "$client/tests/forked.py" "$PACKAGE/tests" &&
+mkdir -p "$PACKAGE/tests" && cp -R "$client/udfburn" "$PACKAGE" && cp "$client/tests/__init__.py" "$client/tests/forked.py" "$client/tests/swaps.py" "$PACKAGE/tests" &&
     "$python" -m compileall -q "$PACKAGE" || exit 1
 kernel() {
     ./packages.sh --lists > "$room/apt.log" 2>&1

@@ -26,6 +26,8 @@ NEW = os.O_RDWR | os.O_CREAT | os.O_EXCL | os.O_NOFOLLOW | os.O_CLOEXEC
 NO_ACCESS_TIME: int = getattr(os, "O_NOATIME", 0)
 PATH_ALONE: int = getattr(os, "O_PATH", 0)
 
+PIECE = 1 << 20
+
 KEPT = 32
 """Folders of one path that stay open, at most."""
 
@@ -381,6 +383,47 @@ def remove_empty(path: str) -> None:
             root.unlink(names, check)
 
 
+def is_own(path: str) -> bool:
+    """Whether a path is that of a regular file, and of no link to one."""
+    try:
+        return stat.S_ISREG(os.lstat(path).st_mode)
+    except OSError:
+        return False
+
+
+def set_own_mode(path: str, mode: int) -> None:
+    """Sets the mode of a regular file of a folder that the user named, which may be no link."""
+    descriptor = open_own(path)
+    try:
+        os.fchmod(descriptor, mode)
+    finally:
+        os.close(descriptor)
+
+
+def copy_own(source: str, target: str, most: Optional[int] = None) -> None:
+    """Copies a regular file, or so many of its bytes, to a new one, in the place of what has its name. Nobody may read that who may not
+    read the first."""
+    with open(open_own(source), "rb") as old:
+        root, names = place_of(target)
+        with root:
+            with suppress(FileNotFoundError):
+                root.unlink(names)
+            with open(root.new_file(names, mode_for(os.fstat(old.fileno()))), "wb") as new:
+                copy_bytes(old.fileno(), new.fileno(), most)
+
+
+def copy_bytes(old: int, new: int, most: Optional[int] = None) -> None:
+    """Copies the bytes of an open file, or so many of them at most, to another one."""
+    left = os.fstat(old).st_size if most is None else most
+    while left:
+        piece = os.read(old, min(left, PIECE))
+        if not piece:
+            return
+        left -= len(piece)
+        while piece:
+            piece = piece[os.write(new, piece) :]
+
+
 # ---- permissions
 
 def mode_for(*statuses: Optional[os.stat_result]) -> int:
@@ -405,5 +448,5 @@ def folder_mode(mode: int) -> int:
 
 
 __all__ = [
-    "Names", "NotFollowed", "Place", "Root", "folder_mode", "mode_for", "new_given", "open_from_top", "open_given", "open_medium", "open_own", "place_of", "remove_empty", "status_given",
+    "Names", "NotFollowed", "Place", "Root", "copy_bytes", "copy_own", "folder_mode", "is_own", "mode_for", "new_given", "open_from_top", "open_given", "open_medium", "open_own", "place_of", "remove_empty", "set_own_mode", "status_given",
 ]

@@ -6,6 +6,7 @@ import argparse
 import os
 from typing import TYPE_CHECKING, Iterator
 
+from .beneath import mode_for, status_given
 from .commands import progress_of
 from .errors import Damaged, Differs, DiscFailed, SourceError
 from .progress import Progress, plural, printable, size
@@ -63,7 +64,7 @@ def finish_image(arguments: argparse.Namespace) -> int:
     require_sound(arguments, progress)
     track = track_of(arguments.image_path, arguments.medium)
     sent = Sum()
-    save(arguments.out, sent.through(track), None, False)
+    save(arguments.out, sent.through(track), None, False, mode_for(status_given(arguments.image_path)))
     if check_of(arguments.out) != sent.check() or opinion_of(arguments.out).notes:
         raise Differs(f"{shown(arguments.out)}: what the disk has is not what was written: its disk fails")
     copies = track.total - track.blocks

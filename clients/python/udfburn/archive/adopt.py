@@ -3,10 +3,10 @@
 from __future__ import annotations
 
 import os
-import shutil
 from contextlib import closing, contextmanager
 from typing import Iterator, List, Optional, Tuple
 
+from ..beneath import copy_own, is_own, set_own_mode
 from ..ledger_file import remove, sync_file, sync_folder
 from ..operations import now
 from ..sources import shown
@@ -76,7 +76,7 @@ def adopt(config: Config, catalogue: Catalogue, claims: Claims, row: VolumeRow, 
         return go_on(config, catalogue, row)
     try:
         with undone(target):
-            copy_to(image, target, row.state == CLOSED)
+            copy_to(config, image, target, row.state == CLOSED)
             return go_on(config, catalogue, row)
     except VolumeDiffers as error:
         raise VolumeDiffers(f"{shown(image)}: was not taken over, and all is as before: {error}") from error
@@ -122,7 +122,7 @@ def undone(target: str) -> Iterator[None]:
     copied, moved = files_of(target)
     there = [path for path in copied + moved if os.path.lexists(path)]
     for path in (path for path in copied if path in there):
-        shutil.copy2(path, path + BEFORE)
+        copy_own(path, path + BEFORE)
     # At no moment an image is in place without its tail's length, or with that of another.
     for path in (path for path in reversed(moved) if path in there):
         os.replace(path, path + BEFORE)
@@ -138,22 +138,19 @@ def undone(target: str) -> Iterator[None]:
         remove(path + BEFORE)
 
 
-def copy_to(image: str, target: str, closed: bool) -> None:
+def copy_to(config: Config, image: str, target: str, closed: bool) -> None:
     """Copies an image, and what belongs to a closed one. It gets its name once it is whole and on the disk."""
-    new = target + ".new"
-    shutil.copyfile(image, new)
-    length = sound_length(image)
-    if length is not None:
-        # The machine died while it wrote a tail.
-        os.truncate(new, min(length, os.path.getsize(new)))
+    new, length = target + ".new", sound_length(image)
+    # Where the machine died while it wrote a tail, that is left out.
+    copy_own(image, new, length)
     sync_file(new)
     if print_of_file(new, fresh=True) != print_of_file(image, most=length):
         raise VolumeDiffers(f"{shown(new)}: differs from {shown(image)}: it was written meanwhile, or a disk is failing")
     if closed:
         for end in SIDECARS:
-            if os.path.isfile(beside(image, end)):
-                shutil.copyfile(beside(image, end), beside(target, end))
+            if is_own(beside(image, end)):
+                copy_own(beside(image, end), beside(target, end))
                 sync_file(beside(target, end))
-        os.chmod(new, 0o444)
+        set_own_mode(new, config.mode & 0o444)
     os.replace(new, target)
     sync_folder(os.path.dirname(target))

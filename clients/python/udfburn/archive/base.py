@@ -7,6 +7,7 @@ import sqlite3
 from contextlib import contextmanager
 from typing import Any, Dict, Iterable, Iterator, List, Optional, Sequence, Tuple
 
+from ..beneath import new_given
 from ..ledger_file import sync_folder
 from ..sources import shown
 from .config import without_password
@@ -75,11 +76,14 @@ class SqliteBase(Base):
     engine, text, blob, serial = "sqlite", "TEXT", "BLOB", "INTEGER PRIMARY KEY"
     in_process = has_names = True
 
-    def __init__(self, path: str, make: bool):
+    def __init__(self, path: str, make: bool, mode: int = 0o600):
         self.path = path
         there = os.path.lexists(path)
         if not there and not make:
             raise CatalogueError(f"{shown(path)}: the catalogue is missing: 'udfburn-archive rebuild' makes a new one from the volumes")
+        if not there:
+            # Its log and its index get the same permissions.
+            new_given(path, mode)
         try:
             self._base = sqlite3.connect(path, isolation_level=None, timeout=60)
             self._base.execute("PRAGMA journal_mode = WAL")
@@ -245,9 +249,9 @@ def trouble(error: Exception) -> CatalogueError:
     return CatalogueError(f"the catalogue: {told}")
 
 
-def open_base(sqlite: Optional[str], url: str, make: bool) -> Base:
+def open_base(sqlite: Optional[str], url: str, make: bool, mode: int = 0o600) -> Base:
     """The engine of a catalogue."""
-    return PostgresBase(url) if sqlite is None else SqliteBase(sqlite, make)
+    return PostgresBase(url) if sqlite is None else SqliteBase(sqlite, make, mode)
 
 
 __all__ = ["Base", "Iterable", "PostgresBase", "Row", "SqliteBase", "connect", "open_base", "trouble"]

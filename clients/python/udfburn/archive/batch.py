@@ -17,6 +17,7 @@ from functools import lru_cache
 from shutil import rmtree
 from typing import IO, Optional, Type
 
+from ..beneath import open_own
 from ..disk import room_left
 from ..ledger_file import remove, sync_folder
 from ..protocol import limits
@@ -56,7 +57,7 @@ def sound_length(image: str) -> Optional[int]:
     if not image.endswith(".img"):
         return None
     try:
-        with open(tail_note(image), "rb") as file:
+        with open(open_own(tail_note(image)), "rb") as file:
             text = file.read(32)
         if not text.strip().isdigit():
             raise ValueError("no number")
@@ -90,7 +91,7 @@ def forget_tail(image: str) -> None:
 
 def locked(image: str) -> int:
     """A descriptor of an image that no other process writes meanwhile."""
-    descriptor = os.open(image, os.O_RDWR | os.O_CLOEXEC)
+    descriptor = open_own(image, os.O_RDWR)
     try:
         fcntl.flock(descriptor, fcntl.LOCK_EX | fcntl.LOCK_NB)
     except BlockingIOError as error:

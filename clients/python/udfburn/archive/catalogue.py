@@ -6,11 +6,11 @@ volumes. A row's id is `volume * COMMITS + commit`, by the commit that wrote the
 
 from __future__ import annotations
 
-import os
 import socket
 import uuid
 from typing import Dict, Iterable, Iterator, List, NamedTuple, Optional, Sequence, Tuple
 
+from ..beneath import is_own
 from ..protocol import Path, limits
 from .base import Base, Row, open_base
 from .config import Config
@@ -125,7 +125,7 @@ class Catalogue:
 
     def __init__(self, config: Config, make: bool = False):
         self.config = config
-        self.base: Base = open_base(config.sqlite(), config.catalogue, make)
+        self.base: Base = open_base(config.sqlite(), config.catalogue, make, config.mode)
         self.names = NameIndex(self.base)
         self._folders: Dict[str, int] = {}
         try:
@@ -421,7 +421,7 @@ def image_of(config: Config, row: VolumeRow) -> Optional[str]:
     """The image of a volume, where it is at hand."""
     for folder in ("closed", "open") if row.state in (CLOSED, RETIRED) else ("open", "closed"):
         image = config.path(folder, row.label + ".img")
-        if os.path.isfile(image):
+        if is_own(image):
             return image
     return None
 

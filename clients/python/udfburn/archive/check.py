@@ -9,6 +9,7 @@ from hashlib import sha256
 from tempfile import TemporaryDirectory
 from typing import Any, Dict, List, NamedTuple, Optional, Sequence, Tuple
 
+from ..beneath import is_own, set_own_mode
 from ..ledger_file import remove, sync_file, sync_folder
 from ..operations import now
 from ..protocol import Path
@@ -186,7 +187,7 @@ class Checker:
 def has_print(image: str, wanted: Print) -> bool:
     """Whether an image is there, with this length and digest. One that cannot be read has another."""
     try:
-        return os.path.isfile(image) and print_of_file(image, fresh=True) == wanted
+        return is_own(image) and print_of_file(image, fresh=True) == wanted
     except OSError:
         return False
 
@@ -285,7 +286,7 @@ class Repairer:
     def _put(self, image: str, new: str) -> None:
         if os.path.lexists(image):
             os.replace(image, f"{image}.damaged-{now()}")
-        os.chmod(new, 0o444)
+        set_own_mode(new, self.config.mode & 0o444)
         os.rename(new, image)
         sync_folder(os.path.dirname(image))
 

@@ -7,13 +7,13 @@ from __future__ import annotations
 
 import fcntl
 import os
-import stat
 import time
 from contextlib import closing
 from hashlib import sha256
 from tempfile import TemporaryDirectory
 from typing import Dict, List, Mapping, NamedTuple, Optional, Sequence, Tuple
 
+from ..beneath import is_own, open_own
 from ..connection import find_program, run_program
 from ..ledger_file import sync_file, sync_folder
 from ..manifest import BAG_DECLARATION, BAG_INFO, DECLARATION, MANIFEST, PAYLOAD, TAG_MANIFEST, Line, bag_manifest
@@ -42,7 +42,7 @@ def beside(image: str, end: str) -> str:
 def sidecar(image: str) -> Tuple[int, bytes]:
     """The length and the digest that an image had when it was closed; of one that has none kept, those that it has now."""
     try:
-        with open(beside(image, ".info"), "rb") as file:
+        with open(open_own(beside(image, ".info")), "rb") as file:
             fields = read_fields(file.read(limits.FILE))
         digest = bytes.fromhex(fields["sha256"])
         if len(digest) != sha256().digest_size:
@@ -189,12 +189,12 @@ class Closer:
     def _end(self, image: str, contents: Contents) -> None:
         """Ends the image after its last VAT ICB, looks at all of it, and makes it read-only."""
         end = (contents.last_address + 1) * limits.BLOCK
-        descriptor = os.open(image, os.O_RDWR | os.O_CLOEXEC)
+        descriptor = open_own(image, os.O_RDWR)
         try:
             fcntl.flock(descriptor, fcntl.LOCK_EX | fcntl.LOCK_NB)
             if os.fstat(descriptor).st_size > end:
                 os.ftruncate(descriptor, end)
-            os.fchmod(descriptor, stat.S_IRUSR | stat.S_IRGRP | stat.S_IROTH)
+            os.fchmod(descriptor, os.fstat(descriptor).st_mode & 0o444)
             os.fsync(descriptor)
         finally:
             os.close(descriptor)
@@ -211,10 +211,11 @@ class Closer:
             f"archive: {about.archive}\nlabel: {about.label}\nvolume: {about.number}\nclosed: {stamp(closed or 0)}\ncommits: {commits}\n"
             f"length: {found.length}\nsha256: {found.sha256.hex()}\n"
         )
-        write_file(beside(target, ".sha256"), f"{found.sha256.hex()}  {name}\n".encode())
-        write_file(beside(target, ".log"), run_program(self.program, ["log", image]))
-        write_file(beside(target, ".svg"), draw_map(image, self.program).encode())
-        write_file(beside(target, ".info"), text.encode())
+        mode = self.config.mode
+        write_file(beside(target, ".sha256"), f"{found.sha256.hex()}  {name}\n".encode(), mode)
+        write_file(beside(target, ".log"), run_program(self.program, ["log", image]), mode)
+        write_file(beside(target, ".svg"), draw_map(image, self.program).encode(), mode)
+        write_file(beside(target, ".info"), text.encode(), mode)
         sync_file(beside(target, ".info"))
 
     def _forget_ledger(self, row: VolumeRow) -> None:
@@ -300,7 +301,7 @@ def send(catalogue: Catalogue, row: VolumeRow, image: str, name: str) -> None:
         if found != wanted:
             raise CopyFailed(f"what arrived is not what was sent, by its {'SHA-256' if found and found.length == wanted.length else 'length'}")
     for end in SIDECARS:
-        if os.path.isfile(beside(image, end)):
+        if is_own(beside(image, end)):
             remote.send(beside(image, end), os.path.basename(beside(image, end)))
 
 

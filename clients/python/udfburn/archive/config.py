@@ -5,14 +5,15 @@ from __future__ import annotations
 import argparse
 import os
 import re
-import stat
 from contextlib import suppress
 from importlib import import_module
 from typing import Any, Dict, Iterable, List, NamedTuple, Optional, Set, Tuple
 
-from ..ledger_file import make_folder, sync_file, sync_folder
+from ..beneath import open_given
+from ..ledger_file import make_folder
 from ..protocol import is_bytes, limits
 from ..protocol.names import name_fault, spelled_size
+from ..saving import save
 from ..sources import shown
 from .errors import BadConfig, NoArchive
 
@@ -30,7 +31,7 @@ REMOTE = re.compile("[A-Za-z0-9_.+@][A-Za-z0-9_.+@ -]*")
 """The names that rclone gives remotes. What else it takes before a colon would have it do other things."""
 
 DELETIONS = ("acknowledged", "copied")
-KEYS = {"format", "id", "label", "catalogue", "capacity", "copies", "copies_wanted", "delete", "same_device"}
+KEYS = {"format", "id", "label", "catalogue", "capacity", "copies", "copies_wanted", "delete", "mode", "same_device"}
 
 
 class Config(NamedTuple):
@@ -50,6 +51,8 @@ class Config(NamedTuple):
     wanted: int
     delete: str
     same_device: bool = False
+    mode: int = 0o600
+    """The permissions of new images, and of what is known of them."""
 
     def path(self, *names: str) -> str:
         """A path in the archive's folder."""
@@ -142,7 +145,7 @@ def read(folder: str) -> Config:
     # Python has it from 3.11 on.
     tomllib: Any = import_module("tomllib")
     try:
-        with open(where, "rb") as file:
+        with open(open_given(where), "rb") as file:
             table: Dict[str, Any] = tomllib.load(file)
     except FileNotFoundError as error:
         raise NoArchive(f"{shown(folder)}: is not an archive: name one with --archive or UDFBURN_ARCHIVE, or make one with 'udfburn-archive init'") from error
@@ -173,7 +176,7 @@ def checked(folder: str, table: Dict[str, Any], where: str) -> Config:
     found = Config(
         folder, field(table, "id", str, where), check_label(field(table, "label", str, where)), field(table, "catalogue", str, where),
         field(table, "capacity", int, where), tuple(check_remote(copy) for copy in copies), field(table, "copies_wanted", int, where),
-        field(table, "delete", str, where), same_device,
+        field(table, "delete", str, where), same_device, mode_of(table.get("mode", "600"), where),
     )
     check_different(found.copies, where)
     if not limits.CAPACITY[0] <= found.capacity <= limits.CAPACITY[1]:
@@ -185,10 +188,17 @@ def checked(folder: str, table: Dict[str, Any], where: str) -> Config:
     return found
 
 
+def mode_of(value: object, where: str) -> int:
+    """The permissions that `archive.toml` names, in octal."""
+    if not isinstance(value, str) or not re.fullmatch("0?6[0246][0246]", value):
+        raise BadConfig(f"{where}: mode must be a string from \"600\" to \"666\", such as \"640\"")
+    return int(value, 8)
+
+
 def text(config: Config) -> str:
     """`archive.toml` of an archive."""
     same_device = "\n# Folders for copies may be on the disk of the archive itself.\nsame_device = true" if config.same_device else ""
-    return f"""# An archive of udfburn-archive(1). `copies_wanted`, `delete` and `capacity` may be changed. 'remote' changes `copies`.
+    return f"""# An archive of udfburn-archive(1). `copies_wanted`, `delete`, `capacity` and `mode` may be changed. 'remote' changes `copies`.
 format = {FORMAT}
 id = {quoted(config.id)}
 label = {quoted(config.label)}
@@ -200,7 +210,9 @@ copies = {quoted_list(config.copies)}
 # How many of them have to have a volume before a source is deleted, where delete is "copied".
 copies_wanted = {config.wanted}
 # When --delete-source deletes: "acknowledged" (the volume has the file) or "copied".
-delete = {quoted(config.delete)}{same_device}
+delete = {quoted(config.delete)}
+# The permissions of new images and of the catalogue, in octal.
+mode = {quoted(f"{config.mode:o}")}{same_device}
 """
 
 
@@ -224,7 +236,7 @@ def with_field(text: str, key: str, value: str) -> str:
 def change(config: Config, **values: str) -> Config:
     """Changes fields of an archive's `archive.toml`, whose values are those of TOML."""
     where = config.path(FILE)
-    with open(where, encoding="utf-8") as file:
+    with open(open_given(where), encoding="utf-8") as file:
         new = file.read()
         mode = os.fstat(file.fileno()).st_mode & 0o777
     for key, value in values.items():
@@ -252,14 +264,8 @@ def write(config: Config) -> None:
 
 
 def write_file(path: str, data: bytes, mode: int = 0o666) -> None:
-    """Writes a file that has its name once it is whole and on the disk. It never has more permissions than the mode."""
-    new = path + ".new"
-    with open(new, "wb", opener=lambda name, flags: os.open(name, flags | os.O_CLOEXEC, mode)) as file:
-        os.fchmod(file.fileno(), stat.S_IMODE(os.fstat(file.fileno()).st_mode) & mode)
-        file.write(data)
-    sync_file(new)
-    os.replace(new, path)
-    sync_folder(os.path.dirname(path))
+    """Writes a file that has its name once it is whole and on the disk. It has at most the permissions of the mode."""
+    save(path, [data], None, True, mode)
 
 
 def strange(folder: str) -> List[str]:

@@ -5,13 +5,13 @@ from __future__ import annotations
 import errno
 import json
 import os
-import shutil
 import subprocess
 from contextlib import suppress
 from hashlib import sha256
 from tempfile import TemporaryFile
 from typing import IO, Any, Dict, List, NamedTuple, Optional
 
+from ..beneath import copy_own, open_own
 from ..ledger_file import sync_file, sync_folder
 from ..sources import shown
 from .catalogue import Catalogue, DISC
@@ -48,7 +48,7 @@ def print_of(stream: IO[bytes], most: Optional[int] = None) -> Print:
 
 def print_of_file(path: str, fresh: bool = False, most: Optional[int] = None) -> Print:
     """The length and the digest of a file, or of its first bytes; `fresh` reads it from the disk, and not what the system has in memory."""
-    with open(path, "rb") as file:
+    with open(open_own(path), "rb") as file:
         if fresh:
             os.posix_fadvise(file.fileno(), 0, 0, os.POSIX_FADV_DONTNEED)
         return print_of(file, most)
@@ -123,7 +123,7 @@ class FolderRemote(Remote):
     def names(self) -> List[str]:
         try:
             with os.scandir(self.name) as entries:
-                return [entry.name for entry in entries if entry.is_file()]
+                return [entry.name for entry in entries if entry.is_file(follow_symlinks=False)]
         except OSError as error:
             raise CopyFailed(f"{shown(self.name)}: {error.strerror or error}") from error
 
@@ -142,7 +142,7 @@ class FolderRemote(Remote):
         new = target + ".new"
         self.require_own()
         try:
-            shutil.copyfile(local, new)
+            copy_own(local, new)
             sync_file(new)
             os.replace(new, target)
             sync_folder(self.name)
@@ -153,7 +153,7 @@ class FolderRemote(Remote):
 
     def fetch(self, name: str, local: str) -> None:
         try:
-            shutil.copyfile(os.path.join(self.name, name), local)
+            copy_own(os.path.join(self.name, name), local)
         except OSError as error:
             raise failed(local if is_full(error) else os.path.join(self.name, name), error) from error
 
@@ -166,8 +166,8 @@ class FolderRemote(Remote):
             self.require_own()
             return None
         except OSError as error:
-            if error.errno == errno.EIO:
-                # It is there, and none of a good copy.
+            if error.errno in (errno.EIO, errno.ELOOP, errno.EINVAL):
+                # It is there, and none of a good copy; as a link or a named pipe is none.
                 return UNREADABLE
             raise CopyFailed(f"{shown(path)}: {error.strerror or error}") from error
 

@@ -2,18 +2,17 @@
 
 from __future__ import annotations
 
-import os
 import time
 from contextlib import closing
 from importlib.resources import files
 from json import dumps
 from typing import Any, Dict, List
 
-from ..errors import SourceError
-from ..sources import shown
+from ..beneath import open_own
+from ..saving import require_own, save
 from .catalogue import Catalogue, image_of
 from .close import beside
-from .config import Config, write_file
+from .config import Config
 from .contents import Contents
 from .errors import VolumeDiffers
 from .status import Line, lines
@@ -41,7 +40,7 @@ def ends(config: Config, line: Line) -> List[int]:
 def logged(log: str) -> List[int]:
     """The addresses in the log of a closed volume; none where it is not there, or is damaged."""
     try:
-        with open(log, encoding="ascii") as file:
+        with open(open_own(log), encoding="ascii") as file:
             return [int(words.split()[1]) for words in reversed(file.read().splitlines())]
     except (OSError, ValueError, IndexError):
         return []
@@ -76,13 +75,7 @@ def page(config: Config, catalogue: Catalogue) -> str:
 
 def write_report(config: Config, catalogue: Catalogue, path: str) -> int:
     """Writes the page, and gives its bytes. A file that is no page of this command is left alone."""
-    path = os.path.abspath(path)
-    if os.path.lexists(path):
-        if not os.path.isfile(path) or os.path.islink(path):
-            raise SourceError(f"{shown(path)}: already exists, and is not a page of this command")
-        with open(path, "rb") as file:
-            if file.read(len(BEGIN)) not in (b"", BEGIN):
-                raise SourceError(f"{shown(path)}: already exists, and is not a page of this command")
+    require_own(path, (BEGIN,), "a page")
     data = page(config, catalogue).encode()
-    write_file(path, data)
+    save(path, [data], None, True, config.mode)
     return len(data)

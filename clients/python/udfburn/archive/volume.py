@@ -7,6 +7,7 @@ import time
 from contextlib import closing
 from typing import Callable, Dict, Iterable, Iterator, List, NamedTuple, Optional, Tuple
 
+from ..beneath import new_given
 from ..blocks import Space
 from ..client import Client
 from ..connection import find_program, run_program
@@ -86,6 +87,7 @@ class OpenVolume:
         for left in (new, self.ledger):
             if os.path.lexists(left):
                 os.unlink(left)
+        new_given(new, self.config.mode)
         run_program(self.program, ["format", new, self.row.label, str(self.row.formatted), str(self.row.capacity)])
         os.rename(new, self.image)
         sync_folder(os.path.dirname(self.image))
