@@ -148,6 +148,9 @@ class Commands(WithArchive):
         for pattern, paths in expected.items():
             found = [line["path"] for line in self.do("find", pattern).objects()[:-1]]
             self.assertEqual(sorted(found), paths, pattern)
+        for pattern, paths in {"Img*": [*expected["IMG*"], "/s/img.jpg"], "/S/A/*": expected["/s/a/*"], "[N]OTE.*": ["/s/b/note.txt"]}.items():
+            found = [line["path"] for line in self.do("find", "-i", pattern).objects()[:-1]]
+            self.assertEqual(sorted(found), paths, pattern)
         self.assertEqual(self.do("find", "nothing", status=1).last()["files"], 0)
         (where,) = self.do("where", "/s/b/note.txt").objects()[:-1]
         self.assertEqual((where["volume"], where["state"]), ("T-000001", "open"))

@@ -13,6 +13,8 @@ from unittest import mock
 from udfburn import Client, cli, errors as e
 from udfburn import protocol as p
 from udfburn.progress import Progress
+from udfburn.protocol import escaped
+from udfburn.tree import Importer, Options
 
 from .programs import PATIENCE
 from .server import request_of
@@ -115,6 +117,46 @@ class Commands(Local):
             client.create([name], b"")
         client.close()
         self.assertEqual(self.words("ls", "/"), ["f a\\nb", "f \\x1b[2J", "f \\u202eabc", "f é"])
+
+    def test_no_two_names_look_alike(self) -> None:
+        """Each is printed with escapes that no other name has, once, in lists, steps and messages."""
+        names = ["a\nb", "a\\nb", "a\\\\nb", "\x85", "\\x85", "\\u0085", "\udc85", "\\udc85", "\u202e", "\\u202e", "\x1b", "\\x1b", "\U000e0001", "\\U000e0001", "\xa0", " "]
+        self.assertEqual(len(set(map(escaped, names))), len(names))
+        self.assertEqual(escaped("a\nb\\c\udcff\u202e\x1bé"), "a\\nb\\\\c\\xff\\u202e\\x1bé")
+        local = self.write("back\\slash")
+        self.assertEqual(self.words("put", local, "/back\\slash"), ["stored /back\\\\slash (4 bytes)", "stored 1 file, 4 B"])
+        self.assertEqual(self.words("ls", "/"), ["f back\\\\slash"])
+        self.assertEqual(self.words("mkdir", "/back\\slash", status=1), ["udfburn-client: /back\\\\slash: already exists"])
+        self.assertIn("/no\\\\way: No such file", self.words("put", os.path.join(self.room, "no\\way"), "/x", status=1)[0])
+        self.assertEqual(json.loads(self.words("ls", "--json", "/")[0])["path"], "/back\\slash")
+
+    def test_what_is_there_is_named_if_asked_for(self) -> None:
+        self.write("a", b"hello")
+        self.words("put", "-r", self.folder, "/x")
+        for words in (("put", "-r", self.folder, "/x"), ("verify", self.folder, "/x")):
+            self.assertNotIn("same /x/a", self.words(*words))
+        self.assertIn("same /x/a", self.words("put", "--verbose", "-r", self.folder, "/x"))
+        self.assertEqual(json.loads(self.words("put", "--json", "-r", self.folder, "/x")[0])["did"], "same")
+
+    def test_files_and_not_parts_are_counted(self) -> None:
+        """Also where some parts are there already."""
+        class Terminal(StringIO):
+            def isatty(self) -> bool:
+                return True
+
+        local = self.write("large", bytes(3 << 20))
+        self.write("small", b"x")
+        for _ in range(2):
+            terminal = Terminal()
+            bar = Progress(False, False, StringIO(), terminal)
+            with self.client() as client:
+                importer = Importer(client, Options(recursive=True, split=True), bar.told, bar.stored)
+                planned = importer.plan([(self.folder, ("x",))])
+                bar.begin(2, (3 << 20) + 1)
+                importer.run(planned)
+            self.assertEqual(bar.done_files, 2)
+            with open(local, "r+b") as file:
+                file.write(b"y")
 
     def test_failures_before_an_early_end(self) -> None:
         """A file that was not stored is named where the import goes no further than the next one, by a name that breaks no line."""

@@ -12,7 +12,7 @@ from .commands import progress_of
 from .connection import find_program, run_program
 from .errors import Damaged, ProgramFailed, UsageError
 from .progress import Progress, plural
-from .protocol import shown
+from .protocol import as_text, shown
 from .second_opinion import opinion_of, tell
 from .words import command, commit_number
 
@@ -77,7 +77,7 @@ def check(arguments: argparse.Namespace) -> int:
     if arguments.expect is not None and count < arguments.expect:
         status = progress.fail(missing_commits(image, count, arguments.expect, "was expected"))
     words += [data_words(result)] if result is not None else []
-    progress.result(f"{shown(image)}: {'; '.join(words) or 'is damaged'}", path=shown(image), commits=count, data=vars(result) if result is not None else None)
+    progress.result(f"{shown(image)}: {'; '.join(words) or 'is damaged'}", path=as_text(image), commits=count, data=vars(result) if result is not None else None)
     return 1 if result is not None and result.damaged else status
 
 

@@ -51,7 +51,7 @@ def main(words: Optional[List[str]] = None) -> int:
     try:
         closed = take_descriptors()
         arguments = parsed(parser(), words, closed)
-        progress = arguments.progress = Progress(arguments.quiet, arguments.json, closed=closed)
+        progress = arguments.progress = Progress(arguments.quiet, arguments.json, closed=closed, verbose=arguments.verbose)
         return printed(arguments, progress)
     except KeyboardInterrupt:
         # Before the command began, or after it.

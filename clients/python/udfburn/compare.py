@@ -3,11 +3,11 @@
 from __future__ import annotations
 
 from contextlib import closing
-from typing import TYPE_CHECKING, Dict, List, Optional, Tuple
+from typing import TYPE_CHECKING, Callable, Dict, List, Optional, Tuple
 
 from .errors import IsDirectory, NotFound, SourceError
 from .jobs import same_bytes
-from .protocol import Get, NodeKind, Path, show
+from .protocol import Get, NodeKind, Path, printed, show
 from .sources import Scan, Source, scan
 from .split import base_of, part_folders, stored_paths
 from .stored import find_file
@@ -29,6 +29,7 @@ class Comparison:
 
 def verify_tree(
     client: Client, local: str, path: Path, split: bool = False, skip_odd: bool = False, told: Told = quiet, escape: bool = False,
+    begin: Callable[[int, int], None] = lambda files, size: None,
 ) -> Comparison:
     """Compares a local file or folder with what is stored: that all that is here is there, with the same bytes."""
     found = Scan()
@@ -46,6 +47,7 @@ def verify_tree(
             wanted.update(paths, part_folders(source.path, source.identity.size, split))
             if all([compare_kind(show(part), kinds.get(part), NodeKind.FILE, result) for part in paths]):
                 there.append(source)
+        begin(len(there), sum(source.identity.size for source in there))
         same = compare_files(client, there, split, result, told)
         for source in same if split else []:
             compare_parts(client, source, result)
@@ -91,7 +93,7 @@ def compare_parts(client: Client, source: Source, result: Comparison) -> None:
         result.differences.append((show(source.path), "is there in parts, but with --split they are not read as one file"))
         return
     if others:
-        result.differences.append((show(source.path), f"is there, but with --split {show(others[0])} is read as a part of it"))
+        result.differences.append((show(source.path), f"is there, but with --split {printed(others[0])} is read as a part of it"))
 
 
 def compare_files(client: Client, sources: List[Source], split: bool, result: Comparison, told: Told) -> List[Source]:

@@ -4,7 +4,7 @@ from __future__ import annotations
 
 from typing import Dict, Optional, Type
 
-from .protocol import AnswerCode, BadAnswer, Code, Committed, InvalidName, InvalidPath
+from .protocol import AnswerCode, BadAnswer, Code, Committed, InvalidName, InvalidPath, escaped
 
 
 DAMAGE = "the image holds no volume or a damaged one: see 'udfburn check IMAGE', and docs/DAMAGE.md"
@@ -23,7 +23,7 @@ class Refused(UdfburnError):
     text = "is refused"
 
     def __init__(self, path: str, commit: int = 0):
-        super().__init__(f"{path}: {self.text}")
+        super().__init__(f"{escaped(path)}: {self.text}")
         self.path = path
         self.commit = commit
 

@@ -5,7 +5,7 @@ from __future__ import annotations
 import os
 import stat
 from contextlib import closing, contextmanager
-from typing import TYPE_CHECKING, Dict, Iterator, List, NamedTuple, Sequence, Tuple
+from typing import TYPE_CHECKING, Callable, Dict, Iterator, List, NamedTuple, Sequence, Tuple
 
 from .beneath import Names, NotFollowed, Root, folder_mode, mode_for, place_of
 from .compare import Comparison, verify_tree
@@ -54,8 +54,11 @@ class Fetched:
 class Fetcher:
     """Copies directories into local folders, and files."""
 
-    def __init__(self, client: Client, split: bool = False, force: bool = False, told: Told = quiet):
-        self.client, self.split, self.force, self.told = client, split, force, told
+    def __init__(
+        self, client: Client, split: bool = False, force: bool = False, told: Told = quiet, begin: Callable[[int, int], None] = lambda files, size: None,
+    ):
+        """`begin` is called with how many files and bytes are to come."""
+        self.client, self.split, self.force, self.told, self.begin = client, split, force, told, begin
         self.summary = Fetched()
         # Nobody may read a copy who may not read the volume.
         self._mode = mode_for(client.endpoint.status())
@@ -85,6 +88,7 @@ class Fetcher:
 
     def _copy(self, root: Root, folders: List[Names], targets: List[Target]) -> None:
         """Makes folders and files, all of which are on the disk then."""
+        self.begin(len(targets), sum(target.file.size for target in targets))
         with Saver(root, self.force, self._mode) as saver:
             try:
                 self._make_folders(folders, targets, saver)

@@ -7,7 +7,7 @@ from typing import Any, Dict, List, Mapping, NamedTuple, Optional, Sequence, Tup
 
 from .errors import TooLarge
 from .protocol import (
-    NOT_FOUND, Answer, AnyRequest, Code, Create, Kind, MakeDir, Node, NodeKind, Path, Rename, Replace, encode_answer, limits, show,
+    NOT_FOUND, Answer, AnyRequest, Code, Create, Kind, MakeDir, Node, NodeKind, Path, Rename, Replace, encode_answer, limits, printed,
 )
 
 
@@ -60,7 +60,7 @@ class Operation(NamedTuple):
     def request(self, client: int, number: int) -> AnyRequest:
         """The request of a client under a number."""
         if len(self.data) > limits.FILE:
-            raise TooLarge(f"{show(self.path)}: {len(self.data)} bytes, and a file has at most {limits.FILE}")
+            raise TooLarge(f"{printed(self.path)}: {len(self.data)} bytes, and a file has at most {limits.FILE}")
         kind: Any = self.kind
         if kind is Create or kind is Replace:
             return kind(client, number, self.moment, self.path, self.data)  # type: ignore[no-any-return]

@@ -5,7 +5,7 @@ from __future__ import annotations
 from collections import Counter
 from typing import TYPE_CHECKING, Dict, List, Optional, Set, Tuple
 
-from .protocol import NodeKind, Path, limits, show
+from .protocol import NodeKind, Path, limits, printed
 from .sources import Folder, Scan, Source, shown, why_not
 from .split import base_of, has_form, next_part, own_paths, part_count, part_folders, stored_paths
 
@@ -46,7 +46,7 @@ def plan(scan: Scan, present: Present, split: bool, space: Optional[Space], stal
     planned.kept, planned.stale = scan.kept, stale or {}
     for folder in scan.folders:
         if present.kinds.get(folder.path) is NodeKind.FILE:
-            planned.faults.append(f"{show(folder.path)}: is a file, and is to be a directory")
+            planned.faults.append(f"{printed(folder.path)}: is a file, and is to be a directory")
         elif folder.path not in present.kinds:
             planned.folders.append(folder)
     planned.files = [(source, stored_paths(source.path, source.identity.size, split)) for source in scan.files]
@@ -89,14 +89,14 @@ def add_part_folders(planned: Plan, present: Present, source: Source, split: boo
     base = base_of(source.path)
     for path in part_folders(source.path, source.identity.size, split):
         if path in taken:
-            planned.faults.append(f"{show(path)}: a folder has this path, and so would the parts of {shown(source.local)}")
+            planned.faults.append(f"{printed(path)}: a folder has this path, and so would the parts of {shown(source.local)}")
             break
         elif present.kinds.get(path) is NodeKind.FILE:
-            planned.faults.append(f"{show(path)}: is a file, and the parts of {shown(source.local)} take a directory there")
+            planned.faults.append(f"{printed(path)}: is a file, and the parts of {shown(source.local)} take a directory there")
         elif path not in present.kinds:
             planned.part_folders.append(Folder(source.local, path, source.identity.modified))
         elif path == base and present.names.get(base) and not has_form(base, present.names, present.kinds):
-            planned.faults.append(f"{show(path)}: has other names than those of parts, and would have the parts of {shown(source.local)}")
+            planned.faults.append(f"{printed(path)}: has other names than those of parts, and would have the parts of {shown(source.local)}")
 
 
 def check_shared(planned: Plan, taken: List[Path]) -> None:
@@ -104,7 +104,7 @@ def check_shared(planned: Plan, taken: List[Path]) -> None:
     and its source may be gone by then."""
     for path, count in Counter(taken + [folder.path for folder in planned.folders]).items():
         if count > 1:
-            planned.faults.append(f"{show(path)}: more than one of the files and folders would have this path")
+            planned.faults.append(f"{printed(path)}: more than one of the files and folders would have this path")
 
 
 def check_next_parts(planned: Plan, present: Present, same: List[Source]) -> None:
@@ -115,7 +115,7 @@ def check_next_parts(planned: Plan, present: Present, same: List[Source]) -> Non
     for source in sources:
         path = next_part(source.path, source.identity.size)
         if path is not None and (path in stored or (present.kinds.get(path) is NodeKind.FILE and path not in stale)):
-            planned.faults.append(f"{show(path)}: would be read as a part of {shown(source.local)}, which has no more parts: give one of them another name")
+            planned.faults.append(f"{printed(path)}: would be read as a part of {shown(source.local)}, which has no more parts: give one of them another name")
 
 
 def check_paths(planned: Plan, present: Present) -> None:
@@ -126,13 +126,13 @@ def check_paths(planned: Plan, present: Present) -> None:
     for source, paths in planned.files:
         for path in dict.fromkeys([source.path, *paths]):
             if present.kinds.get(path) is NodeKind.DIRECTORY:
-                planned.faults.append(f"{show(path)}: is a directory, and {shown(source.local)} is a file")
+                planned.faults.append(f"{printed(path)}: is a directory, and {shown(source.local)} is a file")
     for path in targets + sorted(made):
         if len(path) > limits.DEPTH:
-            planned.faults.append(f"{show(path)}: has {len(path)} names, and a path has at most {limits.DEPTH}")
+            planned.faults.append(f"{printed(path)}: has {len(path)} names, and a path has at most {limits.DEPTH}")
         parent = path[:-1]
         if path and parent not in made and present.kinds.get(parent, NodeKind.DIRECTORY if not parent else None) is not NodeKind.DIRECTORY:
-            planned.faults.append(f"{show(parent)}: is not a directory of the volume (-p makes missing ones)")
+            planned.faults.append(f"{printed(parent)}: is not a directory of the volume (-p makes missing ones)")
     planned.faults[:] = list(dict.fromkeys(planned.faults))
 
 
@@ -148,7 +148,7 @@ def check_counts(planned: Plan, present: Present) -> None:
     for parent, count in Counter(path[:-1] for path in added if path).items():
         names = len(present.names.get(parent, ())) + count
         if names > limits.NAMES:
-            planned.faults.append(f"{show(parent)}: would have {names} names, and a directory has at most {limits.NAMES}")
+            planned.faults.append(f"{printed(parent)}: would have {names} names, and a directory has at most {limits.NAMES}")
     nodes = 1 + sum(len(names) for names in present.names.values()) + len(added)
     if present.whole and nodes > limits.NODES:
         planned.faults.append(f"the volume would have {nodes} files and directories, and has at most {limits.NODES}")

@@ -2,12 +2,13 @@
 
 from __future__ import annotations
 
+import os
 import sys
 import time
 from typing import TYPE_CHECKING, Any, Dict, List, Optional, TextIO
 
 from .errors import OutputFailed, UsageError
-from .protocol import Path, show
+from .protocol import Path, printed, show
 
 if TYPE_CHECKING:
     from .operations import Outcome
@@ -61,8 +62,9 @@ class Progress:
 
     def __init__(
         self, quiet: bool, as_json: bool, output: Optional[TextIO] = None, errors: Optional[TextIO] = None, closed: bool = False,
+        verbose: bool = False,
     ):
-        self.quiet, self.as_json, self.closed = quiet, as_json, closed
+        self.quiet, self.as_json, self.closed, self.verbose = quiet, as_json, closed, verbose
         self.output = output or sys.stdout
         self.errors = errors or sys.stderr
         self.bar = not quiet and not as_json and self.errors.isatty()
@@ -107,13 +109,17 @@ class Progress:
                 self._print_json(step)
         elif self.bar:
             self._draw(count)
-        elif not self.quiet:
-            words = [what, show(path)] + ([of_bytes(count)] if what in ("stored", "got", "would store", "would replace") else [])
+        elif not self.quiet and (what != "same" or self.verbose):
+            words = [what, printed(path)] + ([of_bytes(count)] if what in ("stored", "got", "would store", "would replace") else [])
             self._print(printable(" ".join(words)))
 
     def stored(self, outcome: Outcome) -> None:
         """A file or a part was stored; programs get its SHA-256, and with a last part that of the whole file."""
         operation = outcome.operation
+        job, index = operation.tag
+        # The last part of a file is stored whatever parts of it were there.
+        last = index + 1 == len(job.paths)
+        self.done_files += last - 1
         if not self.as_json or self.quiet:
             self.told("stored", operation.path, len(operation.data), outcome.commit)
             return
@@ -135,7 +141,15 @@ class Progress:
         if now - self.shown < 0.1:
             return
         self.shown = now
-        self.errors.write("\r\x1b[K" + self.line(now))
+        self.redraw(self.line(now))
+
+    def redraw(self, line: str) -> None:
+        """Has a line in the place of the last one: a part of it where the terminal is narrow, since the cursor comes back to one line alone."""
+        try:
+            columns = os.get_terminal_size(self.errors.fileno()).columns
+        except (OSError, ValueError):
+            columns = 0
+        self.errors.write("\r\x1b[K" + (line[: columns - 1] if columns else line))
         self.errors.flush()
 
     def line(self, now: float) -> str:

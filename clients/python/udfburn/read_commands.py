@@ -14,7 +14,7 @@ from .connection import find_program
 from .errors import UsageError
 from .escape import decode
 from .progress import Progress, moment, plural, size
-from .protocol import Name, Node, NodeKind, Path, Stat, path_of, show, shown
+from .protocol import Name, Node, NodeKind, Path, Stat, as_text, escaped, path_of, printed, show, shown
 from .refusals import expected
 from .tree import walk
 from .words import command, commit_number
@@ -85,7 +85,7 @@ def get(arguments: argparse.Namespace) -> int:
                 for part in next(files)[1]:
                     progress.write(part)
             return 0
-        fetcher = Fetcher(client, arguments.split, arguments.force, progress.told)
+        fetcher = Fetcher(client, arguments.split, arguments.force, progress.told, progress.begin)
         try:
             if arguments.recursive:
                 fetcher.tree(path, arguments.local)
@@ -125,7 +125,7 @@ def ls(arguments: argparse.Namespace) -> int:
             return 0
         for at, names in walk(client, path) if arguments.recursive else [(path, client.list(path))]:
             if arguments.recursive and not arguments.json:
-                progress.say(f"{show(at)}:")
+                progress.say(f"{printed(at)}:")
             list_names(client, at, names, arguments, progress)
     return 0
 
@@ -138,11 +138,11 @@ def list_names(client: Client, at: Path, names: Tuple[Name, ...], arguments: arg
             letter = "d" if name.kind is NodeKind.DIRECTORY else "f"
             answer = next(nodes, None)
             if answer is None:
-                progress.say(f"{letter} {name.name}")
+                progress.say(f"{letter} {escaped(name.name)}")
                 continue
             node = expected(Node, Stat(path), answer)
             progress.say(
-                f"{letter} {node.size:>9} {moment(node.moment)} {name.name}",
+                f"{letter} {node.size:>9} {moment(node.moment)} {escaped(name.name)}",
                 path=show(path), kind=node.kind.name.lower(), size=node.size, moment=node.moment,
             )
 
@@ -154,14 +154,14 @@ def verify(arguments: argparse.Namespace) -> int:
     progress = progress_of(arguments)
     progress.quiet, quiet = True, progress.quiet
     with reader(arguments) as client:
-        result = verify_tree(client, arguments.local, path_of(arguments.path), arguments.split, arguments.skip_odd, progress.told, arguments.escape)
+        result = verify_tree(client, arguments.local, path_of(arguments.path), arguments.split, arguments.skip_odd, progress.told, arguments.escape, progress.begin)
     progress.end()
     progress.quiet = quiet
     for line in result.skipped:
         progress.left_out(line)
     differences = result.differences + [(path, "is only on the volume") for path in result.extra if arguments.exact]
     for path, how in differences:
-        progress.say(f"{path}: {how}", did="differs", path=path, how=how)
+        progress.say(f"{escaped(path)}: {how}", did="differs", path=path, how=how)
     found = "all are there" if not differences else plural(len(differences), "difference", "differences")
     words = f"{plural(result.files, 'file', 'files')}, {size(result.bytes)}: {found}"
     if result.extra and not arguments.exact:
@@ -178,7 +178,7 @@ def draw(arguments: argparse.Namespace) -> int:
     require_own(arguments.output, (b"<svg",), "a picture")
     picture = draw_map(arguments.image_path, find_program(arguments.program))
     save(arguments.output, [picture.encode()], None, True, mode_for(status_given(arguments.image_path)))
-    progress_of(arguments).result(f"drew {shown(arguments.output)}", path=shown(arguments.output))
+    progress_of(arguments).result(f"drew {shown(arguments.output)}", path=as_text(arguments.output))
     return 0
 
 

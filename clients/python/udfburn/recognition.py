@@ -19,7 +19,7 @@ from .ledger_records import Sent, Volume
 from .operations import Deed, Expected, after_all
 from .protocol import (
     DAMAGED, FAULT, MEMORY, Answer, BadAnswer, Code, Committed, Gap, Message, Node, Path, Remove, Stale, Stat, encode_message, frame,
-    limits, show, shown,
+    limits, printed, shown,
 )
 
 FORGET = "If this volume is meant, 'resume --forget' goes on with it; then 'verify' what is there"
@@ -179,8 +179,8 @@ class Recognizer:
         wrong = [(path, answer) for path, answer in zip(wanted, answers) if not wanted[path].agrees(answer)]
         if not wrong:
             return None
-        expected = "; ".join(f"{show(path)}: {wanted[path].text()}" for path, _ in wrong)
-        found = "; ".join(f"{show(path)}: {node_text(answer)}" for path, answer in wrong)
+        expected = "; ".join(f"{printed(path)}: {wanted[path].text()}" for path, _ in wrong)
+        found = "; ".join(f"{printed(path)}: {node_text(answer)}" for path, answer in wrong)
         what = "another volume or a copy that went on by itself, or another client has changed these paths since (then use --shared)"
         return self.error(OtherVolume if len(wrong) == len(wanted) else CopyWentOn, what, expected, found)
 

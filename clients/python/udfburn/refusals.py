@@ -6,7 +6,7 @@ from typing import Type, TypeVar
 
 from .errors import MISSES, REFUSALS, Refused
 from .operations import Outcome
-from .protocol import Answer, BadAnswer, Bare, Code, Data, Names, Node, Query, Rename, show
+from .protocol import Answer, BadAnswer, Bare, Code, Data, Names, Node, Query, Rename, printed, show
 
 Answered = TypeVar("Answered", Data, Names, Node)
 
@@ -37,7 +37,7 @@ def expected(kind: Type[Answered], query: Query, answer: Answer) -> Answered:
     """The answer to a query, of this kind; or the exception that its refusal is."""
     answer = met(query, answer)
     if not isinstance(answer, kind):
-        raise BadAnswer(f"{answer!r} is no answer to the query of {show(query.path)}")
+        raise BadAnswer(f"{answer!r} is no answer to the query of {printed(query.path)}")
     return answer
 
 

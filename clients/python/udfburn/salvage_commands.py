@@ -11,7 +11,7 @@ from .beneath import mode_for
 from .disk import is_full
 from .errors import DiskFull, UsageError
 from .progress import Progress, of_bytes, plural, size
-from .protocol import shown
+from .protocol import as_text, escaped, shown
 from .words import add_output, commit_number
 
 if TYPE_CHECKING:
@@ -167,7 +167,7 @@ class Report:
         name = f"volume {volume.label!r}" if volume.label is not None else "volume without a label"
         self.progress.result(
             f"{name}, commit {link.numbers}: {plural(files, 'file', 'files')}, {size(self.bytes)}: {words}; {plural(notes, 'structure is', 'structures are')} not as it must be",
-            path=shown(self.found.medium.path), label=volume.label, moment=volume.moment, capacity=volume.capacity, **said_of(link.numbers),
+            path=as_text(self.found.medium.path), label=volume.label, moment=volume.moment, capacity=volume.capacity, **said_of(link.numbers),
             files=files, bytes=self.bytes, structures=notes, unfinished=unfinished, **{state: self.counts[state] for state in STATES},
         )
         return status
@@ -175,13 +175,13 @@ class Report:
 
 def line_of(outcome: "Outcome", path: str, writes: bool) -> str:
     """A line for people: how a file was had, its path, its missing bytes, and where it was written."""
-    words = [outcome.state, path, of_bytes(outcome.size)]
+    words = [outcome.state, escaped(path), of_bytes(outcome.size)]
     if outcome.ranges:
         words.append("without " + ", ".join(f"{count} bytes from {begin} on" for begin, count in outcome.ranges))
     if outcome.why:
         words.append(f"- {outcome.why}")
     if writes and outcome.written is not None and outcome.written != path[1:]:
-        words.append(f"- written as {outcome.written}")
+        words.append(f"- written as {escaped(outcome.written)}")
     return " ".join(words)
 
 
@@ -209,7 +209,7 @@ def log(arguments: argparse.Namespace) -> int:
                 tell_link(progress, link)
             lost += tell_gap(progress, group, chain.links)
     newest = chain.links[0].numbers
-    progress.outcome = {"path": shown(arguments.image_path), "commits": newest.commit, "broken": broken, "lost": lost}
+    progress.outcome = {"path": as_text(arguments.image_path), "commits": newest.commit, "broken": broken, "lost": lost}
     if broken or lost:
         return progress.fail(f"{plural(broken, 'table is', 'tables are')} broken, {lost} lost")
     return 0

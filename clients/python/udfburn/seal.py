@@ -16,7 +16,7 @@ from .client import Client
 from .digests import Known
 from .errors import Differs, NotDirectory, TooLarge, UsageError
 from .operations import Operation, now
-from .protocol import AnyRequest, Code, Create, Data, Get, Node, NodeKind, Path, Query, Replace, Stat, limits, show
+from .protocol import AnyRequest, Code, Create, Data, Get, Node, NodeKind, Path, Query, Replace, Stat, limits, printed, show
 from .refusals import expected, refusal
 from .walk import Told, quiet, walk
 
@@ -76,11 +76,11 @@ def require_directory(client: Client, path: Path, top: Path) -> None:
     if client.stat(path).kind is not NodeKind.DIRECTORY:
         raise NotDirectory(show(path))
     if top == path and client.find(path + (m.BAG_DECLARATION,)) is not None:
-        raise UsageError(f"{show(path)}: is a bag, whose manifest is another one: seal it without --manifest-only")
+        raise UsageError(f"{printed(path)}: is a bag, whose manifest is another one: seal it without --manifest-only")
     node = client.find(top)
     if node is None or node.kind is not NodeKind.DIRECTORY:
         raise UsageError(
-            f"{show(path)}: has no directory {m.PAYLOAD}, in which a bag has its payload: store it at {show(top)} ('put --seal' does), or"
+            f"{printed(path)}: has no directory {m.PAYLOAD}, in which a bag has its payload: store it at {printed(top)} ('put --seal' does), or"
             " use --manifest-only"
         )
 
@@ -103,7 +103,7 @@ def read_back(client: Client, paths: List[Path], sent: Dict[Path, Known]) -> Fou
         found[path] = Read(path, len(data), sha256(data).digest(), known, data if path[-1] in KEPT else b"")
         if expected is not None and known and expected.sha256 != found[path].sha256:
             faults.append(
-                f"{show(path)}: has other bytes than were sent (commit {expected.commit}): SHA-256 {expected.sha256.hex()} was sent,"
+                f"{printed(path)}: has other bytes than were sent (commit {expected.commit}): SHA-256 {expected.sha256.hex()} was sent,"
                 f" {found[path].sha256.hex()} is there"
             )
     if faults:
@@ -134,7 +134,7 @@ def require_agreement(found: Found) -> None:
             file = found.get(above + line.path)
             if file is not None and not file.proved and file.sha256 != line.sha256:
                 faults.append(
-                    f"{show(file.path)}: has other bytes than {show(manifest.path)} says, and this ledger did not store them. Nothing was"
+                    f"{printed(file.path)}: has other bytes than {printed(manifest.path)} says, and this ledger did not store them. Nothing was"
                     " written. If these bytes are right, remove that manifest and seal again"
                 )
     if faults:
@@ -165,7 +165,7 @@ def bag_files(path: Path, found: Found, payload: List[Read]) -> Dict[Path, bytes
     manifest = m.bag_manifest(lines_of(path, payload))
     if len(manifest) > limits.FILE:
         raise TooLarge(
-            f"{show(path + (m.MANIFEST,))}: would have {len(manifest)} bytes, and a file has at most {limits.FILE}: seal the directories below"
+            f"{printed(path + (m.MANIFEST,))}: would have {len(manifest)} bytes, and a file has at most {limits.FILE}: seal the directories below"
             " by themselves, or use --manifest-only, which then writes one in each directory"
         )
     info, old = path + (m.BAG_INFO,), path + (m.MANIFEST,)
@@ -229,7 +229,7 @@ def store(client: Client, operation: Operation, told: Told) -> None:
     if outcome.code is not Code.DONE:
         raise refusal(outcome)
     if client.get(operation.path) != operation.data:
-        raise Differs(f"{show(operation.path)}: has other bytes than were sent (commit {outcome.commit})")
+        raise Differs(f"{printed(operation.path)}: has other bytes than were sent (commit {outcome.commit})")
     told("stored", operation.path, len(operation.data), outcome.commit)
 
 
@@ -237,7 +237,7 @@ def seal_words(sealed: Sealed, path: Optional[Path] = None) -> str:
     """What was sealed, in a line."""
     from .progress import plural, size
 
-    where = f" at {show(path)}" if path is not None else ""
+    where = f" at {printed(path)}" if path is not None else ""
     words = f"sealed {plural(sealed.files, 'file', 'files')}, {size(sealed.bytes)}{where}: {sealed.known} compared with what was sent"
     rest = sealed.files - sealed.known
     words += f", {rest} only with themselves as they were read" if rest else ""

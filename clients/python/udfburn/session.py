@@ -21,7 +21,7 @@ from .retrying import RetryingConnection
 from .operations import Deed, Operation, Outcome, after_all, confirmed, deed_of, paths_of, surely
 from .protocol import (
     CLIENTS_FULL, DAMAGED, FAULT, FULL, MEMORY, Answer, BadAnswer, Code, Committed, Gap, Malformed, Path, Remove, Stale, Stat,
-    decode_answer, decode_message, encode_answer, encode_message, frame, limits, prefix, show,
+    decode_answer, decode_message, encode_answer, encode_message, frame, limits, prefix, printed, show,
 )
 from .recognition import Meeting, Recognizer, see
 from .sources import data_again
@@ -315,7 +315,7 @@ class Session:
 
     def _foreign(self, path: Path, answer: Answer) -> ForeignReply:
         return ForeignReply(
-            f"{show(path)}: a reply says what the tree does not have ({answer!r}): it is the reply of another ledger with"
+            f"{printed(path)}: a reply says what the tree does not have ({answer!r}): it is the reply of another ledger with"
             f" client {self.ledger.client}, or somebody else has changed the path since. Nothing local was deleted because of it."
             " Compare with 'verify'; if another ledger has this client, use a new one (--ledger FILE)"
         )

@@ -5,7 +5,7 @@ from __future__ import annotations
 from typing import TYPE_CHECKING, Dict, List, Sequence, Set, Tuple
 
 from .preflight import Present
-from .protocol import Node, NodeKind, Path, Stat, limits, show
+from .protocol import Node, NodeKind, Path, Stat, limits, printed
 from .sources import Scan, Source
 from .split import base_of, flat_others, folder_others, index_of, own_paths, part_count, part_path, stored_paths
 
@@ -42,8 +42,8 @@ def sure_parts(client: Client, path: Path, parts: List[Path]) -> Tuple[List[Path
     # The first of the parts has as many before it as its number says.
     count = max(full - index_of(parts[0][-1]) + 1, 0) if full else 0
     doubtful = parts[count:] if full else []
-    why = f"stays, since it may be a file of its own as well as what an earlier {show(path)} left"
-    return parts[:count], [f"{show(part)}: {why}" for part in doubtful]
+    why = f"stays, since it may be a file of its own as well as what an earlier {printed(path)} left"
+    return parts[:count], [f"{printed(part)}: {why}" for part in doubtful]
 
 
 def full_parts(client: Client, path: Path, last: int) -> int:

@@ -12,7 +12,7 @@ from .errors import Differs, DoesNotFit, SourceError, UsageError
 from .jobs import Job, Options, Summary, reads_back, same_parts
 from .operations import Operation, Outcome, now
 from .preflight import Plan, Present, plan, refuse_sizes
-from .protocol import AnyRequest, Code, Create, Get, MakeDir, Node, NodeKind, Path, Replace, Stat, limits, show
+from .protocol import AnyRequest, Code, Create, Get, MakeDir, Node, NodeKind, Path, Replace, Stat, limits, printed
 from .refusals import refusal
 from .sources import Folder, Scan, delete, origin_of, scan, shown
 from .split import stored_paths
@@ -171,7 +171,7 @@ class Importer:
                 self.summary.files += 1
                 self.summary.bytes += job.source.identity.size
             else:
-                self.summary.failures.append(job.failure or f"{show(job.source.path)}: was not stored")
+                self.summary.failures.append(job.failure or f"{printed(job.source.path)}: was not stored")
         stored = [job for job in chunk if job.stored()]
         self._remove_stale([job.source.path for job in stored], planned)
         if self.options.verify:
@@ -206,7 +206,7 @@ class Importer:
                 return
             outcomes = self.client.run(list(again))
         for operation in again:
-            operation.tag[0].fail(f"{show(operation.path)}: another client makes and removes it all the time")
+            operation.tag[0].fail(f"{printed(operation.path)}: another client makes and removes it all the time")
 
     def _take(self, outcome: Outcome, again: Deque[Operation]) -> None:
         operation = outcome.operation
@@ -280,7 +280,7 @@ class Importer:
                     verified.append(job)
                     self.summary.verified += 1
                 else:
-                    self.summary.failures.append(f"{show(job.source.path)}: the volume has other bytes than were stored")
+                    self.summary.failures.append(f"{printed(job.source.path)}: the volume has other bytes than were stored")
         return verified
 
     def delete_kept(self) -> None:

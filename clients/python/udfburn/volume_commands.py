@@ -14,7 +14,8 @@ from .connection import check_word, find_program, run_program
 from .errors import ProgramFailed, SourceError, UsageError
 from .operations import now
 from .progress import Progress, moment, plural, size
-from .protocol import limits, shown, spelled_size
+from .protocol import as_text, limits, shown, spelled_size
+from .sizes import capacity
 from .words import add_library, add_volume, command
 
 if TYPE_CHECKING:
@@ -23,10 +24,6 @@ if TYPE_CHECKING:
 
 CAPACITY = 359_844
 """Blocks of a volume where none are said: those of a CD-R of 80 minutes."""
-
-UNITS = {"KIB": 10, "MIB": 20, "GIB": 30, "K": 10, "M": 20, "G": 30}
-"""The units in which a capacity may be given, as powers of 2."""
-
 
 def add(subs: Subs) -> None:
     """The words of these commands."""
@@ -49,20 +46,6 @@ def add(subs: Subs) -> None:
 
 
 # ---- format
-
-def capacity(text: str) -> int:
-    """Blocks of a word: a count, or bytes with a unit."""
-    letters = text.lstrip("0123456789")
-    digits = text[: len(text) - len(letters)]
-    power = UNITS.get(letters.upper(), 11 if not letters else None)
-    if not digits.isascii() or not digits or power is None or len(digits) > 12:
-        raise argparse.ArgumentTypeError(f"{text!r} is not a valid capacity: give a number of blocks, or a size such as 700MiB")
-    blocks = (int(digits) << power) // limits.BLOCK
-    least, most = limits.CAPACITY
-    if not least <= blocks <= most:
-        raise argparse.ArgumentTypeError(f"{text!r} is {blocks:,} blocks, and a volume has {least} to {most:,} ({size(most * limits.BLOCK)})")
-    return blocks
-
 
 def mode_of(text: str) -> int:
     """The permissions of a word, in octal: the user's own to read and write, and no others than these two."""
@@ -127,7 +110,7 @@ def format_image(arguments: argparse.Namespace) -> int:
         raise
     progress_of(arguments).result(
         f"formatted {shown(image)}: {label}, {moment(when)}, {arguments.capacity:,} blocks ({size(arguments.capacity * limits.BLOCK)})",
-        path=shown(image), label=label, moment=when, capacity=arguments.capacity,
+        path=as_text(image), label=label, moment=when, capacity=arguments.capacity,
     )
     return 0
 

@@ -52,6 +52,7 @@ def add_output(sub: argparse.ArgumentParser) -> None:
     """The options of what a command prints."""
     sub.add_argument("--json", action="store_true", help="print a line of JSON for each step and each failure, and one with the result at the end")
     sub.add_argument("--quiet", action="store_true", help="print nothing but errors")
+    sub.add_argument("--verbose", action="store_true", help="also print a line for each file that is there already")
 
 
 def command(

@@ -13,7 +13,7 @@ from .errors import Exists, IntoItself, IsRoot, NoParent, NotDirectory, NotEmpty
 from .escape import encode
 from .manifest import MANIFEST, PAYLOAD
 from .progress import Progress, plural, size
-from .protocol import NodeKind, Path, path_of, show, shown
+from .protocol import NodeKind, Path, path_of, printed, show, shown
 from .seal_command import add_manifest_only
 from .sources import Source, why_not
 from .stored import find_file
@@ -152,7 +152,7 @@ def seal_stored(client: Client, importer: Importer, arguments: argparse.Namespac
         progress.told("would seal", path, 0, 0)
         return ""
     if importer.summary.failures:
-        importer.summary.failures.append(f"{show(path)}: is not sealed, because not everything was stored; no source was deleted")
+        importer.summary.failures.append(f"{printed(path)}: is not sealed, because not everything was stored; no source was deleted")
         return ""
     words = seal_words(seal(client, path, arguments.manifest_only, told=progress.told))
     importer.delete_kept()
@@ -223,9 +223,9 @@ def mv(arguments: argparse.Namespace) -> int:
             if to[: len(path)] == path != to:
                 raise IntoItself(show(path))
             would_make(client, to, False, set())
-            progress.told(f"would move {show(path)} to", to, 0, 0)
+            progress.told(f"would move {printed(path)} to", to, 0, 0)
         else:
-            progress.told(f"moved {show(path)} to", to, 0, client.rename(path, to))
+            progress.told(f"moved {printed(path)} to", to, 0, client.rename(path, to))
     return 0
 
 

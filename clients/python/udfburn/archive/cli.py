@@ -10,6 +10,7 @@ from typing import TYPE_CHECKING, Any, Callable, Dict, List, Optional
 from .. import __version__
 from ..errors import OutputFailed, UdfburnError, UsageError
 from ..protocol import limits, shown
+from ..sizes import capacity
 from ..streams import drop_output, parsed, take_any_name, take_descriptors
 from .tell import Tell
 
@@ -47,6 +48,7 @@ def command(subs: "Subs", name: str, words: str) -> argparse.ArgumentParser:
     found.add_argument("--archive", metavar="DIR", help="the archive's folder (default: $UDFBURN_ARCHIVE, or the current folder)")
     found.add_argument("--json", action="store_true", help="print a line of JSON for each step, and one with the result at the end")
     found.add_argument("--quiet", action="store_true", help="print nothing but errors")
+    found.add_argument("--verbose", action="store_true", help="also print a line for each file that is there already")
     return found
 
 
@@ -56,7 +58,7 @@ def add_writers(subs: "Subs") -> None:
     init.add_argument("dir", metavar="DIR", help="the folder of the archive; made if it is missing")
     init.add_argument("--catalogue", metavar="URL", default=None, help="a PostgreSQL database, postgresql://HOST/DATABASE (default: a SQLite file in the folder)")
     init.add_argument("--catalogue-file", metavar="FILE", help="a file that has the URL, which may have a password (or set UDFBURN_CATALOGUE)")
-    init.add_argument("--capacity", type=int, default=limits.CAPACITY[1], metavar="N", help="the size of a volume in blocks of 2,048 bytes, from 512 to 450,000 (default: 450,000)")
+    init.add_argument("--capacity", type=capacity, default=limits.CAPACITY[1], metavar="N", help="the size of a volume: blocks of 2,048 bytes, from 512 to 450,000, or a size such as 700MiB (default: 450,000 blocks)")
     init.add_argument("--label", default="ARCHIVE", help="the name of the archive; its volumes are called LABEL-000001, LABEL-000002, .. (default: ARCHIVE)")
     init.add_argument("--copies", nargs="+", default=[], metavar="REMOTE", help="where closed volumes are copied to: absolute paths of folders, or rclone remotes as NAME:PATH")
     init.add_argument("--copies-wanted", type=int, metavar="N", help="how many remotes must have a volume before its sources are deleted (default: all)")
@@ -64,6 +66,7 @@ def add_writers(subs: "Subs") -> None:
     init.add_argument("--same-device", action="store_true", help="allow folders for copies on the disk of the archive itself: copies there are lost with it")
     init.add_argument("--json", action="store_true", help="print a line of JSON with the result")
     init.add_argument("--quiet", action="store_true", help="print nothing but errors")
+    init.set_defaults(verbose=False)
 
     add = command(subs, "add", "store folders and files; run it again to finish what was interrupted")
     add.add_argument("folder", nargs="+", metavar="FOLDER", help="a local folder or file")
@@ -121,6 +124,7 @@ def add_readers(subs: "Subs") -> None:
 
     find = command(subs, "find", "find files by name; if the pattern begins with a slash, by path")
     find.add_argument("pattern", metavar="PATTERN", help="* stands for any text, ? for one character, [..] for one of those listed; quote it for the shell")
+    find.add_argument("-i", "--ignore-case", action="store_true", help="take capital and small letters as the same; every name of the archive is compared")
     find.add_argument("-l", "--long", action="store_true", help="also show size, time, SHA-256, volume and commit")
 
     history = command(subs, "history", "show all versions of a file, the newest first")
@@ -176,7 +180,7 @@ def main(words: Optional[List[str]] = None) -> int:
     try:
         closed = take_descriptors()
         arguments = parsed(parser(), words, closed)
-        return printed(arguments, Tell(arguments.quiet, arguments.json, closed=closed))
+        return printed(arguments, Tell(arguments.quiet, arguments.json, closed=closed, verbose=arguments.verbose))
     except SystemExit as end:
         return int(end.code or 0)
     except KeyboardInterrupt:

@@ -71,18 +71,26 @@ def like(pattern: str) -> str:
     return "".join(words.get(letter, letter) for letter in pattern)
 
 
-def find(catalogue: Catalogue, pattern: str) -> Iterator[Path]:
+def find(catalogue: Catalogue, pattern: str, any_case: bool = False) -> Iterator[Path]:
     """The paths that a pattern matches and that have a whole version: a whole path where it begins with a slash, else a name.
 
-    `*` is any text, slashes among it, `?` a character, `[..]` one of some.
+    `*` is any text, slashes among it, `?` a character, `[..]` one of some. With `any_case` capital and small letters are the same.
     """
     kept = kept_name(pattern)
-    rows = by_path(catalogue, kept) if kept.startswith("/") else by_name(catalogue, kept)
+    rows = in_any_case(catalogue, kept) if any_case else by_path(catalogue, kept) if kept.startswith("/") else by_name(catalogue, kept)
     for (folder, name), group in groupby(rows, key=lambda row: row[:2]):
         path = folder_back(str(folder)) + (name_back(str(name)),)
         # Of a file in parts the archive may lack some.
         if any(parts is None for *_, parts in group) or versions(catalogue.of_path(path)):
             yield path
+
+
+def in_any_case(catalogue: Catalogue, pattern: str) -> Iterator[Row]:
+    """Folder, name and count of parts of each row whose name, or path, a pattern matches in small letters. No index has these."""
+    wanted, whole = pattern.casefold(), pattern.startswith("/")
+    for path, name, parts in catalogue.base.stream("SELECT path, name, part_count FROM by_name ORDER BY name, path"):
+        if fnmatchcase((f"{path}/{name}" if whole else str(name)).casefold(), wanted):
+            yield path, name, parts
 
 
 def by_path(catalogue: Catalogue, pattern: str) -> Iterator[Row]:

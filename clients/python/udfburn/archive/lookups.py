@@ -11,7 +11,7 @@ from .config import config_of
 from .errors import Lacking
 from .find import find as found_by
 from .names import path_of
-from .tell import Tell, shown_path, stamp, tell_of
+from .tell import Tell, printed_path, shown_path, stamp, tell_of
 
 
 def fields(group: List[Held], labels: Dict[int, str]) -> Dict[str, object]:
@@ -50,7 +50,7 @@ def ls(arguments: argparse.Namespace) -> int:
         count = 0
         if file is not None:
             count += 1
-            list_file(tell, arguments, file, labels, path[-1])
+            list_file(tell, arguments, file, labels, printed_path(path[-1:])[1:])
         if arguments.recursive:
             for folder in catalogue.folders_below(path):
                 count += list_folder(tell, arguments, catalogue, folder, labels, True)
@@ -61,8 +61,7 @@ def ls(arguments: argparse.Namespace) -> int:
     return 0
 
 
-def list_file(tell: Tell, arguments: argparse.Namespace, group: List[Held], labels: Dict[int, str], name: str) -> None:
-    text = shown_path((name,))[1:]
+def list_file(tell: Tell, arguments: argparse.Namespace, group: List[Held], labels: Dict[int, str], text: str) -> None:
     tell.say(long_line(group, labels, text) if arguments.long else f"f {text}", kind="file", **fields(group, labels))
 
 
@@ -73,7 +72,7 @@ def list_folder(tell: Tell, arguments: argparse.Namespace, catalogue: Catalogue,
         group = as_of(versions(rows), None)
         if group is not None:
             count += 1
-            list_file(tell, arguments, group, labels, shown_path(folder + (name,)) if whole else name)
+            list_file(tell, arguments, group, labels, printed_path(folder + (name,)) if whole else printed_path((name,))[1:])
     return count
 
 
@@ -82,7 +81,7 @@ def list_folders(tell: Tell, catalogue: Catalogue, path: Path) -> int:
     count = 0
     for name in sorted(catalogue.children(path)):
         count += 1
-        tell.say(f"d {shown_path((name,))[1:]}", kind="folder", path=shown_path(path + (name,)))
+        tell.say(f"d {printed_path((name,))[1:]}", kind="folder", path=shown_path(path + (name,)))
     return count
 
 
@@ -92,7 +91,7 @@ def find(arguments: argparse.Namespace) -> int:
     count = 0
     with Catalogue(config) as catalogue:
         labels = Labels(catalogue)
-        for path in found_by(catalogue, arguments.pattern):
+        for path in found_by(catalogue, arguments.pattern, arguments.ignore_case):
             count += 1
             show_found(tell, arguments.long, catalogue, path, labels)
     tell.outcome = {"files": count}
@@ -102,10 +101,10 @@ def find(arguments: argparse.Namespace) -> int:
 def show_found(tell: Tell, long: bool, catalogue: Catalogue, path: Path, labels: Dict[int, str]) -> None:
     """A file that was found: its path, or its newest version, which takes a look-up."""
     if not long and not tell.as_json:
-        tell.say(shown_path(path))
+        tell.say(printed_path(path))
         return
     for group in versions(catalogue.of_path(path))[:1]:
-        tell.say(long_line(group, labels, shown_path(path)), **fields(group, labels))
+        tell.say(long_line(group, labels, printed_path(path)), **fields(group, labels))
 
 
 def groups_of(catalogue: Catalogue, path: Path) -> List[List[Held]]:

@@ -7,13 +7,18 @@ import time
 from datetime import datetime, timezone
 
 from ..progress import Progress, plural, printable, size
-from ..protocol import Path
+from ..protocol import Path, escaped
 from .names import text_of
 
 
 def shown_path(path: Path) -> str:
     """A path that can be printed whatever bytes it has."""
     return text_of(path).encode(errors="surrogateescape").decode(errors="backslashreplace")
+
+
+def printed_path(path: Path) -> str:
+    """A path as it is printed in messages."""
+    return escaped(text_of(path))
 
 
 def stamp(moment: int) -> str:
@@ -34,9 +39,9 @@ class Tell(Progress):
             self._print_json({"did": what, "path": shown_path(path), "bytes": count, "volume": volume or None, "commit": commit or None})
         elif self.bar:
             self._count(what)
-        else:
+        elif what != "same" or self.verbose:
             where = f" {volume}" if volume else ""
-            self._print(printable(f"{what} {shown_path(path)}{where}"))
+            self._print(printable(f"{what} {printed_path(path)}{where}"))
 
     def _count(self, what: str) -> None:
         now = time.monotonic()
@@ -44,14 +49,12 @@ class Tell(Progress):
             self.shown = now
             seconds = max(now - self.began, 1e-6)
             line = f"{what}: {plural(self.done_files, 'file', 'files')}, {size(self.done_bytes)}, {size(self.done_bytes / seconds)}/s"
-            self.errors.write("\r\x1b[K" + line)
-            self.errors.flush()
+            self.redraw(line)
 
     def working(self, what: str) -> None:
         """What is being done now, on a terminal: the next line takes its place."""
         if self.bar:
-            self.errors.write("\r\x1b[K" + printable(what))
-            self.errors.flush()
+            self.redraw(printable(what))
 
     def say_step(self, line: str, **fields: object) -> None:
         """A step that is no file's."""
@@ -70,4 +73,4 @@ def tell_of(arguments: argparse.Namespace) -> Tell:
     return tell
 
 
-__all__ = ["Tell", "plural", "shown_path", "size", "stamp", "tell_of"]
+__all__ = ["Tell", "plural", "printed_path", "shown_path", "size", "stamp", "tell_of"]

@@ -17,7 +17,7 @@ from .messages import (
     decode_message, encode_message,
 )
 from .names import (
-    InvalidName, InvalidPath, NameFault, Path, PathLike, has_spelling, is_bytes, name_fault, path_of, show, shown, spelled_size,
+    InvalidName, InvalidPath, NameFault, Path, PathLike, as_text, escaped, has_spelling, is_bytes, name_fault, path_of, printed, show, shown, spelled_size,
 )
 
 __all__ = [
@@ -25,6 +25,6 @@ __all__ = [
     "Create", "DAMAGED", "Data", "FAULT", "FULL", "Fault", "Frames", "Gap", "Get", "IS_DIRECTORY", "InvalidName",
     "InvalidPath", "Kind", "LENGTH", "List", "MEMORY", "MakeDir", "Malformed", "Message", "NOT_DIRECTORY",
     "NOT_FOUND", "Name", "NameFault", "Names", "Node", "NodeKind", "Path", "PathLike", "Query", "Remove", "Rename",
-    "Replace", "Request", "Stale", "Stat", "decode_answer", "decode_message", "encode_answer", "encode_message",
-    "frame", "has_spelling", "is_bytes", "limits", "name_fault", "path_of", "prefix", "show", "shown", "spelled_size",
+    "Replace", "Request", "Stale", "Stat", "as_text", "decode_answer", "decode_message", "encode_answer", "encode_message",
+    "escaped", "frame", "has_spelling", "is_bytes", "limits", "name_fault", "path_of", "prefix", "printed", "show", "shown", "spelled_size",
 ]

@@ -32,8 +32,30 @@ def is_bytes(name: str) -> bool:
     return not name.isascii() and any("\udc80" <= character <= "\udcff" for character in name)
 
 
+def escaped(text: str) -> str:
+    """A name as it is printed: it breaks no line, moves no cursor, and is that of no other name. A backslash is printed twice, so that
+    one alone begins an escape; a byte that is not UTF-8 is `\\xNN`, other characters from U+0080 on are `\\uNNNN`."""
+    if text.isprintable() and "\\" not in text:
+        return text
+    return "".join(letter if letter.isprintable() and letter != "\\" else escape_of(letter) for letter in text)
+
+
+def escape_of(letter: str) -> str:
+    """The escape of a character."""
+    if letter.isascii():
+        return letter.encode("unicode_escape").decode()
+    if is_bytes(letter):
+        return f"\\x{ord(letter) - 0xDC00:02x}"
+    return f"\\u{ord(letter):04x}" if ord(letter) < 0x10000 else f"\\U{ord(letter):08x}"
+
+
 def shown(local: str) -> str:
-    """A path of the system that can be printed whatever bytes it has."""
+    """A path of the system as it is printed in messages."""
+    return escaped(local)
+
+
+def as_text(local: str) -> str:
+    """A path of the system for programs: as it is, but for bytes that are not UTF-8."""
     return os.fsencode(local).decode(errors="backslashreplace")
 
 
@@ -117,3 +139,8 @@ class InvalidPath(ValueError):
 def show(path: Path) -> str:
     """A path as users write it."""
     return "/" + "/".join(path)
+
+
+def printed(path: Path) -> str:
+    """A path as it is printed in messages."""
+    return escaped(show(path))
