@@ -12,6 +12,7 @@ from unittest import mock
 
 from udfburn import Client, cli, errors as e
 from udfburn import protocol as p
+from udfburn.archive.tell import Tell
 from udfburn.progress import Progress
 from udfburn.protocol import escaped
 from udfburn.tree import Importer, Options
@@ -71,6 +72,25 @@ class Commands(Local):
             self.assertIn("0:30 left", bar.line(10.0))
             bar.say("done")
             self.assertEqual((output.getvalue(), terminal.getvalue()[-4:]), ("done\n", "\r\x1b[K"))
+
+    def test_progress_of_the_archive(self) -> None:
+        """Where the whole is known its part is shown, else what was done; and no line is longer than the terminal."""
+        class Terminal(StringIO):
+            def isatty(self) -> bool:
+                return True
+
+            def fileno(self) -> int:
+                return 0
+
+        for total, columns, shown in ((2048, 200, r"50%  1 of 2 files  1.0 KiB of 2.0 KiB  .*/s  \d+:\d\d left$"), (0, 200, "got: 1 file, 1.0 KiB, .*/s$"), (2048, 10, r"\x1b\[K\[########$")):
+            terminal = Terminal()
+            size = os.terminal_size((columns, 24))
+            with mock.patch.dict("sys.modules", {"tqdm": None}), mock.patch("udfburn.progress.os.get_terminal_size", lambda _, size=size: size):
+                tell = Tell(False, False, StringIO(), terminal)
+                tell.begin(2, total)
+                tell.shown -= 1.0
+                tell.step("got", ("a",), 1024)
+            self.assertRegex(terminal.getvalue(), shown)
 
     def test_progress_by_tqdm(self) -> None:
         module = mock.Mock()

@@ -9,7 +9,7 @@ from typing import TYPE_CHECKING, Iterator, NamedTuple, Optional
 from .endpoint import image_key
 from .errors import Damaged, FileDiffers, LedgerBusy, LedgerError
 from .progress import Progress, plural, printable, size
-from .protocol import path_of, shown
+from .protocol import escaped, path_of, shown
 
 if TYPE_CHECKING:
     from .check_data import Result
@@ -83,7 +83,7 @@ def data_of(coverage: Coverage, arguments: argparse.Namespace, progress: Progres
     from .check_data import check_data
 
     def found(path: str, how: str, commit: Optional[int]) -> None:
-        text = f"{printable(path)}: {printable(how)}" + (f" (commit {commit})" if commit is not None else "")
+        text = f"{escaped(path)}: {printable(how)}" + (f" (commit {commit})" if commit is not None else "")
         progress.fail(FileDiffers(text, path, commit))
 
     return check_data(coverage, path_of(arguments.path or "/"), found)

@@ -10,7 +10,7 @@ import tempfile
 from contextlib import contextmanager
 from typing import Iterator, List, NamedTuple, Optional
 
-from .beneath import Root, open_medium
+from .beneath import Root, mode_for, open_medium, status_given
 from .connection import run_program
 from .errors import ProgramFailed, UsageError
 from .protocol import limits
@@ -86,7 +86,7 @@ def front(image: str, program: str, commit: Optional[int]) -> Iterator[str]:
     folder, lock = own_folder(above, PREFIX)
     try:
         with Root.open(folder) as root:
-            copy_front(image, root.new_file(("front.img",), 0o600), size)
+            copy_front(image, root.new_file(("front.img",), mode_for(status_given(image))), size)
         yield os.path.join(folder, "front.img")
     finally:
         shutil.rmtree(folder, ignore_errors=True)

@@ -6,6 +6,7 @@ import hashlib
 from typing import Dict, FrozenSet, Iterator, List, NamedTuple, Optional, Set, Tuple
 
 from .errors import UdfburnError
+from .protocol import escaped
 from .reader import Kind, Medium, Note, Volume
 from .reader.audit import audit
 from .reader.basics import BLOCK, PARTITION, blocks_of, crc
@@ -355,7 +356,7 @@ def settled(waiting: Dict[int, Outcome], done: List[Written]) -> Iterator[Outcom
         if error is None:
             yield outcome._replace(written=path)
         else:
-            yield outcome._replace(why=f"{outcome.why}; {path} {error}".lstrip("; "))
+            yield outcome._replace(why=f"{outcome.why}; {escaped(path)} {error}".lstrip("; "))
 
 
 def joined(ranges: List[Tuple[int, int]]) -> Tuple[Tuple[int, int], ...]:

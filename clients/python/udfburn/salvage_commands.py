@@ -103,7 +103,7 @@ class Report:
         paths = self.found.paths()
         for note in notes:
             path = paths.get(note.block)
-            of = f" (of {path})" if path is not None else ""
+            of = f" (of {escaped(path)})" if path is not None else ""
             self._told(f"{note}{of}", True, did="structure", block=note.block, cause=int(note.cause), message=note.text, path=path)
         self._missing()
         return self._end(len(notes))
@@ -115,7 +115,7 @@ class Report:
             return
         self.missing = len(missing)
         stored = self.found.stored(missing[0])
-        what = f", which stored /{'/'.join(stored.path)}" if stored is not None else ""
+        what = f", which stored {escaped('/' + '/'.join(stored.path))}" if stored is not None else ""
         more = f", and {plural(self.missing - 1, 'later one', 'later ones')}" if self.missing > 1 else ""
         self._told(
             f"commit {missing[0]}{what}{more}: acknowledged to the ledger, and not in this copy, whose newest commit is {self.found.link.numbers}",

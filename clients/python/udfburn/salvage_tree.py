@@ -5,6 +5,7 @@ from __future__ import annotations
 from itertools import islice
 from typing import Dict, Iterator, List, NamedTuple, Optional, Set, Tuple
 
+from .protocol import escaped
 from .reader.basics import BLOCK, FILE_BYTES, PARTITION, PATH_NAMES, UNUSED, blocks_of
 from .reader.chain import Chain, Span
 from .reader.directory import IS_PARENT, Directory, Identifier, Known, piece_at, read_directory, said_by
@@ -247,7 +248,7 @@ class Tree:
             return None
         run = self.medium.run(entry.first + PARTITION, blocks_of(entry.size))
         for at in run.missing:
-            self.notes.add(at, Cause.MISSING, f"a block of the directory {show(path)} cannot be read")
+            self.notes.add(at, Cause.MISSING, f"a block of the directory {escaped(show(path))} cannot be read")
         directory, faults = read_directory(run.data, entry.size, entry.first, self._known)
         self.notes.extend(entry.first + PARTITION, faults)
         return directory
@@ -268,13 +269,13 @@ class Tree:
         kind = Kind.DIRECTORY if name.is_directory else Kind.FILE
         if name.virtual in self._reached:
             if listed is None and name.proved:
-                self.notes.add(above.version.address if above.version else self.link.start, Cause.REACHED_TWICE, f"{show(path)} leads to a node that has a name already")
+                self.notes.add(above.version.address if above.version else self.link.start, Cause.REACHED_TWICE, f"{escaped(show(path))} leads to a node that has a name already")
             return
         version = self.resolve(name.virtual, name.unique, kind, listed)
         if version is None and (listed is not None or not name.proved or above.commit is not None):
             return
         if len(path) > PATH_NAMES:
-            self.notes.add(version.address if version else self.link.start, Cause.TOO_DEEP, f"{show(path)} has more than {PATH_NAMES} names")
+            self.notes.add(version.address if version else self.link.start, Cause.TOO_DEEP, f"{escaped(show(path))} has more than {PATH_NAMES} names")
         if len(path) > DEPTH:
             return
         self._reached.add(name.virtual)

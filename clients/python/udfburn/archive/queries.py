@@ -37,6 +37,7 @@ def get(arguments: argparse.Namespace) -> int:
     with Catalogue(config) as catalogue:
         known = {row.label: row.number for row in catalogue.volumes()}
         files = once(wanted(catalogue, [path_of(path) for path in arguments.path], moment_of(arguments.as_of)))
+        tell.begin(len(files), sum(want.rows[0].size for want in files))
         summary = Getter(config, catalogue, tell, arguments.force).run(files, arguments.dir)
         remotes = {label: [copy.remote for copy in catalogue.on_remotes(known[label])] for label in summary.lacking if label in known}
     for line in summary.failures:

@@ -27,7 +27,7 @@ def stamp(moment: int) -> str:
 
 
 class Tell(Progress):
-    """Steps, with the volume of each; and on a terminal one line that counts, since nobody knows the whole ahead."""
+    """Steps, with the volume of each; and on a terminal one line that counts, with how much is left where the whole is known ahead."""
 
     def step(self, what: str, path: Path, count: int, volume: str = "", commit: int = 0) -> None:
         """A step was done."""
@@ -37,6 +37,8 @@ class Tell(Progress):
             return
         if self.as_json:
             self._print_json({"did": what, "path": shown_path(path), "bytes": count, "volume": volume or None, "commit": commit or None})
+        elif self.bar and self.bytes:
+            self._draw(count)
         elif self.bar:
             self._count(what)
         elif what != "same" or self.verbose:
