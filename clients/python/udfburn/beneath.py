@@ -391,6 +391,11 @@ def is_own(path: str) -> bool:
         return False
 
 
+def is_there(path: str) -> bool:
+    """Whether anything has a path, a link that leads nowhere too."""
+    return os.path.lexists(path)
+
+
 def set_own_mode(path: str, mode: int) -> None:
     """Sets the mode of a regular file of a folder that the user named, which may be no link."""
     descriptor = open_own(path)
@@ -402,7 +407,7 @@ def set_own_mode(path: str, mode: int) -> None:
 
 def copy_own(source: str, target: str, most: Optional[int] = None) -> None:
     """Copies a regular file, or so many of its bytes, to a new one, in the place of what has its name. Nobody may read that who may not
-    read the first."""
+    read the first, and it has the same times."""
     with open(open_own(source), "rb") as old:
         root, names = place_of(target)
         with root:
@@ -410,6 +415,8 @@ def copy_own(source: str, target: str, most: Optional[int] = None) -> None:
                 root.unlink(names)
             with open(root.new_file(names, mode_for(os.fstat(old.fileno()))), "wb") as new:
                 copy_bytes(old.fileno(), new.fileno(), most)
+                status = os.fstat(old.fileno())
+                os.utime(new.fileno(), ns=(status.st_atime_ns, status.st_mtime_ns))
 
 
 def copy_bytes(old: int, new: int, most: Optional[int] = None) -> None:
@@ -448,5 +455,5 @@ def folder_mode(mode: int) -> int:
 
 
 __all__ = [
-    "Names", "NotFollowed", "Place", "Root", "copy_bytes", "copy_own", "folder_mode", "is_own", "mode_for", "new_given", "open_from_top", "open_given", "open_medium", "open_own", "place_of", "remove_empty", "set_own_mode", "status_given",
+    "Names", "NotFollowed", "Place", "Root", "copy_bytes", "copy_own", "folder_mode", "is_own", "is_there", "mode_for", "new_given", "open_from_top", "open_given", "open_medium", "open_own", "place_of", "remove_empty", "set_own_mode", "status_given",
 ]

@@ -10,7 +10,7 @@ import socket
 import uuid
 from typing import Dict, Iterable, Iterator, List, NamedTuple, Optional, Sequence, Tuple
 
-from ..beneath import is_own
+from ..beneath import is_own, is_there
 from ..protocol import Path, limits
 from .base import Base, Row, open_base
 from .config import Config
@@ -426,6 +426,12 @@ def image_of(config: Config, row: VolumeRow) -> Optional[str]:
     return None
 
 
+def odd_image(config: Config, row: VolumeRow) -> Optional[str]:
+    """What has the name of a closed image and is no regular file, as a link or a named pipe: it is not read."""
+    image = config.path("closed", row.label + ".img")
+    return image if row.state == CLOSED and is_there(image) and not is_own(image) else None
+
+
 def order(held: Held) -> Tuple[int, int]:
     """By which rows of one path are older or newer: when they were added, then by volume and commit."""
     return held.added, held.id()
@@ -468,5 +474,6 @@ def is_whole(group: Sequence[Held]) -> bool:
 
 __all__ = [
     "CLOSED", "CLOSING", "Catalogue", "Copy", "DISC", "DISC_NAME", "FULL", "Held", "NEW", "OPEN", "RETIRED", "VolumeRow", "as_of", "image_of", "is_disc_name", "is_whole",
+    "odd_image",
     "part_count", "versions",
 ]

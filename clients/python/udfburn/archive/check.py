@@ -15,7 +15,7 @@ from ..operations import now
 from ..protocol import Path
 from ..sources import shown
 from .assemble import assembled
-from .catalogue import CLOSED, DISC, RETIRED, Catalogue, Copy, Held, VolumeRow, image_of, part_count
+from .catalogue import CLOSED, DISC, RETIRED, Catalogue, Copy, Held, VolumeRow, image_of, odd_image, part_count
 from .claims import Claims
 from .close import SIDECARS, beside, send
 from .config import Config
@@ -70,7 +70,7 @@ class Checker:
     def run(self, rows: Sequence[VolumeRow]) -> None:
         """Looks at volumes."""
         for row in rows:
-            image = image_of(self.config, row)
+            image = image_of(self.config, row) or odd_image(self.config, row)
             if image is None:
                 self.away.append(row)
             else:
