@@ -124,7 +124,7 @@ class Killed(WithPrograms):
                 fetch.get_tree(self.on_image(), ("x",), self.back)
             count = len(calls)
         else:
-            count = len([line for line in self.read("calls").splitlines() if b"sync" in line])
+            count = len([line for line in self.read("calls").splitlines() if b"sync" in line and b"resumed" not in line])
         # A batch, the folder with its three and the one above, and the image's own.
         self.assertTrue(1 <= count <= 12, count)
 
