@@ -36,10 +36,13 @@ DEVICE = "the user named a drive, of which no folder has others' files"
 ALLOWED: Dict[str, Dict[str, str]] = {
     "beneath": {"*": "this is the module"},
     "streams": {"os.open": SYSTEM, "open": SYSTEM},
+    "archive.assemble": {"os.open": "it makes a new file, and follows no link"},
     "archive.adopt": {"os.path.isfile": KIND, "os.path.lexists": FOLDER, "os.rename": FOLDER, "os.unlink": FOLDER, "os.replace": FOLDER},
     "archive.base": {"os.path.lexists": FOLDER, "sqlite3.connect": OWN},
     "archive.batch": {"os.unlink": FOLDER, "os.mkdir": OURS, "os.lstat": OURS, "shutil.rmtree": OURS, "open": OURS, "os.open": OURS},
-    "archive.check": {"os.path.lexists": FOLDER, "os.unlink": FOLDER, "os.replace": FOLDER, "os.rename": FOLDER},
+    "archive.check": {
+        "os.path.lexists": FOLDER, "os.unlink": FOLDER, "os.replace": FOLDER, "os.rename": FOLDER, "tempfile.TemporaryDirectory": OURS,
+    },
     "archive.claims": {"os.open": "it opens no link and waits for no pipe, and reads and writes nothing: the file is a lock"},
     "archive.close": {
         "os.path.isfile": KIND, "os.path.lexists": FOLDER, "os.rename": FOLDER, "os.unlink": FOLDER, "tempfile.TemporaryDirectory": OURS, "open": OURS,
@@ -55,7 +58,7 @@ ALLOWED: Dict[str, Dict[str, str]] = {
         "os.access": KIND, "os.path.isfile": KIND, "os.path.lexists": FOLDER, "os.rename": FOLDER, "tempfile.mkdtemp": OURS, "shutil.rmtree": OURS, "sqlite3.connect": OWN,
     },
     "archive.remotes": {
-        "os.replace": FOLDER, "os.scandir": KIND, "os.stat": KIND, "os.path.samefile": KIND, "tempfile.TemporaryFile": OURS,
+        "os.replace": FOLDER, "os.scandir": KIND, "os.stat": KIND, "os.path.samefile": KIND, "os.unlink": FOLDER, "tempfile.TemporaryFile": OURS,
     },
     "archive.scan": {"os.stat": KIND, "os.path.isdir": KIND},
     "archive.status": {"os.path.isfile": KIND},

@@ -13,6 +13,7 @@ from hashlib import sha256
 from itertools import product
 from typing import List, Optional, Sequence
 
+from ..beneath import NEW, open_own
 from ..ledger_file import sync_file
 from ..protocol import limits
 from .contents import Contents
@@ -112,10 +113,10 @@ def badness(path: str) -> int:
 def assembled(images: Sequence[str], wanted: Print, target: str) -> bool:
     """Makes the image that has this length and digest, if the images together have its blocks. Whether it is there."""
     with ExitStack() as stack:
-        descriptors = [os.open(image, os.O_RDONLY | os.O_CLOEXEC) for image in images]
+        descriptors = [open_own(image) for image in images]
         for descriptor in descriptors:
             stack.callback(os.close, descriptor)
-        new = os.open(target, os.O_RDWR | os.O_CREAT | os.O_TRUNC | os.O_NOFOLLOW | os.O_CLOEXEC, 0o600)
+        new = os.open(target, NEW, 0o600)
         stack.callback(os.close, new)
         runs = compared(descriptors, wanted.length, new)
         if runs is None:

@@ -266,7 +266,7 @@ class Repairer:
         """Makes the image of several that are damaged, each of which has blocks that others lack. Whether that was done."""
         new, base = image + ".new", row.label + ".img"
         with TemporaryDirectory(prefix=".repair-", dir=self.config.folder) as folder:
-            damaged = [image] if os.path.isfile(image) else []
+            damaged = [image] if is_own(image) else []
             for index, copy in enumerate(self.catalogue.on_remotes(row.number)):
                 remote = remote_of(self.catalogue, copy.remote)
                 path = remote.path_of(base)
@@ -274,7 +274,7 @@ class Repairer:
                     path = os.path.join(folder, str(index))
                     with suppress(CopyFailed):
                         remote.fetch(base, path)
-                damaged += [path] if os.path.isfile(path) else []
+                damaged += [path] if is_own(path) else []
             self.tell.working(f"comparing {plural(len(damaged), 'image', 'images')} of {row.label}")
             if len(damaged) < 2 or not assembled(damaged, wanted, new):
                 remove(new)

@@ -6,6 +6,7 @@ import argparse
 import os
 import uuid
 
+from ..beneath import open_given
 from ..errors import UsageError
 from ..ledger_file import make_folder
 from ..sources import shown
@@ -56,7 +57,7 @@ def catalogue_of(arguments: argparse.Namespace) -> str:
     if arguments.catalogue_file is not None:
         if found is not None:
             raise UsageError("name a catalogue by --catalogue or by --catalogue-file, and not by both")
-        with open(arguments.catalogue_file, encoding="utf-8") as file:
+        with open(open_given(arguments.catalogue_file), encoding="utf-8") as file:
             found = file.read(4096).strip()
     elif found is not None and has_password(found):
         raise UsageError("a password among the words can be read by everybody on this machine: use --catalogue-file, UDFBURN_CATALOGUE or ~/.pgpass")
