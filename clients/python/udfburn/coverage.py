@@ -70,7 +70,7 @@ class Coverage:
     def _commits_of(self, node: Node) -> Span:
         """The commits that may have written a node's entry. Where the chain of tables is broken, all tables are looked for."""
         if self._last.commit and self._chain is None:
-            self._chain = Chain(self.volume, Survey(self.volume.medium))
+            self._chain = Chain(self.volume, Survey(self.volume))
         if self._chain is not None:
             return self._chain.commit_of(node.address) or Span(0, self._tables[-1].commit)
         commit = self._tables[bisect_left(self._ends, node.address)].commit

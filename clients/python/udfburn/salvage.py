@@ -10,6 +10,7 @@ from .protocol import escaped
 from .reader import Kind, Medium, Note, Volume
 from .reader.audit import audit
 from .reader.basics import BLOCK, PARTITION, blocks_of, crc
+from .reader.budget import Work
 from .reader.chain import Chain, Link, Span
 from .reader.entry import Entry
 from .reader.notes import Cause
@@ -70,7 +71,7 @@ class Salvage:
     def __init__(self, medium: Medium, commit: Optional[int] = None, ledger: Optional[str] = None):
         self.medium = medium
         self.volume = Volume(medium)
-        self.chain = Chain(self.volume, Survey(medium))
+        self.chain = Chain(self.volume, Survey(self.volume))
         self.index = self._index(commit)
         self.digests = Digests()
         audit(self.chain, self.index)
@@ -247,6 +248,8 @@ class Salvage:
     def _mended(self, item: Item, entry: Entry, data: bytes) -> bytes:
         """The bytes of a file inside an entry with a wrong byte, where one bit leads to the digest that is kept; else as read."""
         if entry.proved or entry.inside is None or self.agrees(item, data)[0] is None:
+            return data
+        if not self.volume.budget.take(Work.FLIPS):
             return data
         for other in flips(self.medium, item, entry):
             if self.agrees(item, other)[0]:

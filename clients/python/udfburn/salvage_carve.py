@@ -6,7 +6,9 @@ import hashlib
 from typing import Callable, Optional
 
 from .reader.basics import BLOCK, FILE_BYTES, blocks_of
+from .reader.budget import Work
 from .reader.chain import Chain
+from .reader.notes import Cause
 
 STARTS = 20_000
 """How many beginnings of files are tried in all."""
@@ -24,14 +26,20 @@ class Carver:
 
     def find(self, address: int, is_kept: IsKept) -> Optional[bytes]:
         """The bytes of the file whose entry was at an address, where some that it may have had have a digest that is kept."""
+        volume = self.chain.volume
         low = max(self.chain.floor(address), address - blocks_of(FILE_BYTES))
-        run = self.chain.volume.medium.run(low, max(address - low, 0))
+        run = volume.medium.run(low, max(address - low, 0))
         # What is missing is not hashed, so the file begins after it.
         begin = run.missing[-1] + 1 - low if run.missing else 0
+        # The last block is hashed for each of its bytes that may be the file's last one.
+        ends = BLOCK * min(len(run.data) - len(run.data.rstrip(b"\0")) + 1, BLOCK)
         for start in range(begin, address - low):
             if self._left == 0:
                 return None
             self._left -= 1
+            if not volume.budget.take(Work.HASHED, len(run.data) - start * BLOCK + ends):
+                volume.notes.add(address, Cause.COUNTS, Work.HASHED.text)
+                return None
             found = with_digest(run.data[start * BLOCK :], is_kept)
             if found is not None:
                 return found

@@ -199,7 +199,8 @@ def log(arguments: argparse.Namespace) -> int:
     except MapError as error:
         raise UsageError(str(error)) from error
     with medium:
-        chain = Chain(Volume(medium), Survey(medium))
+        volume = Volume(medium)
+        chain = Chain(volume, Survey(volume))
         if not chain.links:
             return progress.fail(f"{shown(arguments.image_path)}: no table of a volume can be read")
         broken = lost = 0

@@ -8,6 +8,9 @@ from typing import Collection, Dict, FrozenSet, Iterator, List, NamedTuple, Opti
 from .reader.volume import Path
 
 MANIFEST, TAG_MANIFEST, DECLARATION = "manifest-sha256.txt", "tagmanifest-sha256.txt", "bagit.txt"
+TRIED = 1_000_000
+"""How often it is asked, at most, whether a line of a manifest without a name is that of a file."""
+
 LINE = re.compile(r"(\\?)([0-9A-Fa-f]{64})[ \t]+\*?(.+)", re.DOTALL)
 ESCAPES = {"n": "\n", "r": "\r", "\\": "\\"}
 
@@ -139,6 +142,7 @@ def folder_of(data: bytes, paths: Collection[Path]) -> Optional[Path]:
         return None
     first = [line.path for line in listed[:20]]
     folders = {path[: len(path) - len(end)] for end in first for path in paths if path[len(path) - len(end) :] == end}
-    there = {folder: sum(folder + line.path in paths for line in listed) for folder in folders}
+    tried = listed[:: 1 + len(listed) * len(folders) // TRIED]
+    there = {folder: sum(folder + line.path in paths for line in tried) for folder in folders}
     best = max(there, key=lambda folder: there[folder], default=())
-    return best if 2 * there.get(best, 0) > len(listed) else None
+    return best if 2 * there.get(best, 0) > len(tried) else None

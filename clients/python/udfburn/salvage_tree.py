@@ -7,6 +7,7 @@ from typing import Dict, Iterator, List, NamedTuple, Optional, Set, Tuple
 
 from .protocol import escaped
 from .reader.basics import BLOCK, FILE_BYTES, PARTITION, PATH_NAMES, UNUSED, blocks_of
+from .reader.budget import Work
 from .reader.chain import Chain, Span
 from .reader.directory import IS_PARENT, Directory, Identifier, Known, piece_at, read_directory, said_by
 from .reader.entry import Entry, Kind, read_entry
@@ -64,7 +65,7 @@ class Tree:
         self.link = chain.links[index]
         self.entries, self.unknown = chain.entries(index)
         self.items: List[Item] = []
-        self._known = Known()
+        self._known = Known(self.volume.budget)
         self._reached: Set[int] = {0}
         self._hurt: List[Item] = []
         self._loose: List[Tuple[Item, Identifier]] = []
@@ -121,7 +122,7 @@ class Tree:
     ) -> Optional[Entry]:
         """The entry at an address, where it is that of this node. What is wrong there is noted where a table leads to it."""
         block = self.medium.block(address)
-        entry = mend_entry(block, Hint(address - PARTITION, virtual, unique, kind)) if block is not None else None
+        entry = mend_entry(block, Hint(address - PARTITION, virtual, unique, kind), self.volume.budget) if block is not None else None
         if is_told and block is None:
             self.notes.add(address, Cause.MISSING, "an entry cannot be read")
         elif is_told and block is not None:
@@ -197,6 +198,8 @@ class Tree:
     def versions(self, virtual: int, after: int) -> Iterator[Tuple[int, Span]]:
         """The entries that were committed for a virtual address below an address, the newest first, and until which commit each was valid."""
         for at in self.survey.nodes(virtual, min(after, self.link.start)):
+            if not self._takes(Work.VERSIONS):
+                return
             place, replaced = self.chain.place_of(at), self.chain.place_of(after)
             if place is None or replaced is None or place < self.index:
                 continue
@@ -244,7 +247,7 @@ class Tree:
         return version is not None and version.entry.location == name.virtual
 
     def _read(self, entry: Entry, path: Path) -> Optional[Directory]:
-        if entry.first is None:
+        if entry.first is None or not self._takes(Work.DIRECTORIES, blocks_of(entry.size)):
             return None
         run = self.medium.run(entry.first + PARTITION, blocks_of(entry.size))
         for at in run.missing:
@@ -265,6 +268,8 @@ class Tree:
 
     def _take(self, above: Item, name: Identifier, listed: Optional[Span], is_marked: bool = False) -> None:
         """Takes a node that a directory names, in this state or in an earlier one; its path has the commit then, where it is marked."""
+        if not self._takes(Work.NAMES):
+            return
         path = above.path + (name.name,)
         kind = Kind.DIRECTORY if name.is_directory else Kind.FILE
         if name.virtual in self._reached:
@@ -284,7 +289,17 @@ class Tree:
         why = "no entry of it can be read" if version is None else "" if name.proved else "its name is not certain: what says it has a wrong byte, or is older"
         self._put(Item(path, above.target + (name.name + suffix,), kind, name.virtual, version, commit, why))
 
+    def _takes(self, what: Work, count: int = 1) -> bool:
+        """Whether so much more may be done. Where there is too much of something, it is noted."""
+        may = self.volume.budget.take(what, count)
+        if not may:
+            self.notes.add(0, Cause.COUNTS, what.text)
+        return may
+
     def _put(self, item: Item) -> None:
+        entry = item.entry
+        if not self._takes(Work.NODES, 1 + (blocks_of(entry.size) if entry is not None and entry.first is not None else 0)):
+            return
         self.items.append(item)
         if item.kind is Kind.DIRECTORY:
             self._descend(item)
@@ -294,7 +309,7 @@ class Tree:
         after = item.version.address if item.version is not None else self.link.start
         for at, commit in islice(self.versions(item.virtual, after), LISTINGS):
             block = self.medium.block(at)
-            entry = mend_entry(block, Hint(at - PARTITION, item.virtual)) if block is not None else None
+            entry = mend_entry(block, Hint(at - PARTITION, item.virtual), self.volume.budget) if block is not None else None
             if entry is None or item.entry is not None and entry.unique != item.entry.unique:
                 continue
             directory = self._read(entry, item.path)
@@ -330,7 +345,7 @@ class Tree:
         if version is None:
             address = self.entries[virtual] + PARTITION
             name, kind, why = f"block-{address}", None, "no name leads to it, and its entry cannot be read"
-            self.items.append(Item((LOST_AND_FOUND, name), (LOST_AND_FOUND, name), kind, virtual, None, None, why))
+            self._put(Item((LOST_AND_FOUND, name), (LOST_AND_FOUND, name), kind, virtual, None, None, why))
             return
         suffix = suffix_of(version.commit)
         name = str(version.entry.unique)
@@ -344,19 +359,19 @@ class Tree:
         names = {name.virtual: name for at in self.survey.nodes_after(self.link.address) for name in self._names_at(at)}
         for at in self.survey.nodes_after(self.link.address):
             block = self.medium.block(at)
-            entry = mend_entry(block, Hint(at - PARTITION)) if block is not None else None
+            entry = mend_entry(block, Hint(at - PARTITION), self.volume.budget) if block is not None else None
             if entry is None or entry.kind is not Kind.FILE:
                 continue
             name = names.get(entry.location)
             called = f", and its name is {name.name}" if name is not None and name.unique == entry.unique else ""
             path = (LOST_AND_FOUND, f"{entry.unique}.unfinished")
             why = f"the commit that wrote it has no VAT ICB: it was interrupted, or its last block is lost{called}"
-            self.items.append(Item(path, path, Kind.FILE, entry.location, Version(entry, at, None), None, why, True))
+            self._put(Item(path, path, Kind.FILE, entry.location, Version(entry, at, None), None, why, True))
 
     def _names_at(self, at: int) -> Iterator[Identifier]:
         """The names of the directory whose entry is at an address."""
         block = self.medium.block(at)
-        entry = mend_entry(block, Hint(at - PARTITION)) if block is not None else None
+        entry = mend_entry(block, Hint(at - PARTITION), self.volume.budget) if block is not None else None
         if entry is not None and entry.kind is Kind.DIRECTORY:
             directory = self._read(entry, (LOST_AND_FOUND,))
             yield from directory.names if directory is not None else ()

@@ -5,7 +5,8 @@ from __future__ import annotations
 from array import array
 from typing import Dict, Iterator, List, Tuple
 
-from .basics import FIRST_UNIQUE, NODES, PARTITION, UNUSED, blocks_of, is_label, read_dstring
+from .basics import FIRST_UNIQUE, GREATEST_CAPACITY, NODES, PARTITION, UNUSED, blocks_of, is_label, read_dstring
+from .budget import Work, room_of
 from .chain import Chain, Link
 from .directory import Known, read_directory
 from .entry import Kind, read_entry, read_file_set
@@ -45,8 +46,9 @@ class Audit:
         self._records = b""
         self._is_next = False
         self._low = PARTITION - 1
+        self._room = room_of(min(chain.volume.medium.blocks, GREATEST_CAPACITY))
         self._last: Dict[int, int] = {}
-        self._known = Known(mends=0)
+        self._known = Known(None)
 
     def look(self, place: int) -> None:
         """Looks at a table, and at the nodes that it changes."""
@@ -148,6 +150,10 @@ class Audit:
     def _node(self, virtual: int, number: int) -> None:
         """Looks at the entry of a node, and at the data of a directory."""
         at = number + PARTITION
+        self._room -= 1
+        if self._room < 0:
+            self.notes.add(0, Cause.COUNTS, Work.NODES.text)
+            return
         block = self.medium.block(at)
         if block is None:
             self.notes.add(at, Cause.MISSING, "an entry cannot be read")
@@ -161,7 +167,8 @@ class Audit:
             return
         entry, faults = read_entry(block, virtual)
         self.notes.extend(at, faults)
-        if entry is not None and entry.kind is Kind.DIRECTORY and entry.first is not None:
+        if entry is not None and entry.kind is Kind.DIRECTORY and entry.first is not None and self._room >= blocks_of(entry.size):
+            self._room -= blocks_of(entry.size)
             run = self.medium.run(entry.first + PARTITION, blocks_of(entry.size))
             for gone in run.missing:
                 self.notes.add(gone, Cause.MISSING, "a block of a directory cannot be read")

@@ -31,7 +31,9 @@ class Chain:
         while link is not None:
             older, link = self._before(link)
             found.append(link)
-            link = older if older is not None and older.address < link.address else None
+            # Each commit takes two blocks, whatever VAT ICBs say.
+            is_next = older is not None and older.address < link.address and len(found) <= greatest_at(found[0].address)
+            link = older if is_next else None
         self.links = number(found)
         self._note()
         self._addresses = [link.address for link in reversed(self.links)]
@@ -74,7 +76,7 @@ class Chain:
     def _mended(self, address: int) -> Optional[Link]:
         """The link of a VAT ICB with wrong bytes."""
         block, number = self.volume.medium.block(address), address - PARTITION
-        entry = mend_entry(block, Hint(number, number, 0, Kind.TABLE)) if block is not None else None
+        entry = mend_entry(block, Hint(number, number, 0, Kind.TABLE), self.volume.budget) if block is not None else None
         if entry is None or entry.kind is not Kind.TABLE or entry.first is None or entry.location != number:
             return None
         if entry.first + blocks_of(entry.size) != number:
@@ -149,7 +151,7 @@ class Chain:
         """Whether the entry right before a table's data is of a node for which the table has an earlier one, or none."""
         at = link.start - 1
         block = self.volume.medium.block(at)
-        entry = mend_entry(block, Hint(at - PARTITION)) if block is not None and is_entry_like(block) else None
+        entry = mend_entry(block, Hint(at - PARTITION), self.volume.budget) if block is not None and is_entry_like(block) else None
         if link.table is None or entry is None or not entry.proved or entry.kind is Kind.TABLE:
             return False
         run = self.volume.data_of(link.table)

@@ -5,7 +5,8 @@ from __future__ import annotations
 import struct
 from typing import Dict, Iterator, List, NamedTuple, Optional, Tuple
 
-from .basics import BLOCK, DEVELOPER, DIRECTORY_NAMES, crc, expand, is_name, read_tag, spell, tag_faults, write_tag
+from .basics import BLOCK, DEVELOPER, DIRECTORY_NAMES, NODES, crc, expand, is_name, read_tag, spell, tag_faults, write_tag
+from .budget import Budget, Work
 from .mend import mend_identifier
 from .notes import Cause, Fault, Faults
 
@@ -13,8 +14,8 @@ FILE_IDENTIFIER = 257
 HEAD = 38
 IS_DIRECTORY, IS_PARENT = 0x02, 0x0A
 FIELDS = struct.Struct("<HBBIIHHIH")
-MENDS = 1_000
-"""The identifiers that are tried to be mended, at most."""
+BITS = 50
+"""The identifiers of which each bit is tried, at most."""
 
 KEPT = 20_000
 """The identifiers that are kept as known, at most."""
@@ -96,19 +97,20 @@ def read_directory(data: bytes, size: int, first: int, known: Optional[Known] = 
     `data` has whole blocks. Identifiers with wrong bytes are mended where their CRC leaves one reading; what makes no sense is left
     out, and reading goes on at the next identifier whose CRC agrees.
     """
-    reading = Reading(data, size, first, known if known is not None else Known())
+    reading = Reading(data, size, first, known if known is not None else Known(Budget(0)))
     at = 0
-    while at < size:
+    while at < size and len(reading.names) <= NODES:
         at = reading.step(at)
+    reading.complete &= at >= size
     return reading.finish()
 
 
 class Known:
     """Bodies of identifiers that were read and were as they must be, so that one that is copied is not read again; and how many more
-    are mended."""
+    are mended: none without a budget."""
 
-    def __init__(self, mends: int = MENDS) -> None:
-        self.mends = mends
+    def __init__(self, budget: Optional[Budget]) -> None:
+        self.budget, self.bits = budget, BITS
         self.bodies: Dict[bytes, Tuple[Identifier, bytes, int]] = {}
 
     def run(self, data: bytes, at: int, size: int, first: int, names: Dict[str, Identifier]) -> int:
@@ -188,9 +190,11 @@ class Reading:
             return self._take(piece, name._replace(proved=is_here))
         end = next_proved(self.data, at + 4, self.size, self.first)
         whole = None
-        if end - at <= BLOCK and self.known.mends > 0:
-            self.known.mends -= 1
-            whole = mend_identifier(self.data[at:end], self.first + at // BLOCK, at == 0)
+        if end - at <= BLOCK and self.known.budget is not None and self.known.budget.take(Work.IDENTIFIERS):
+            whole = mend_identifier(self.data[at:end], self.first + at // BLOCK, at == 0, False)
+            if whole is None and self.known.bits > 0:
+                self.known.bits -= 1
+                whole = mend_identifier(self.data[at:end], self.first + at // BLOCK, at == 0, True)
         mended = piece_at(whole, 0, len(whole)) if whole is not None else None
         if whole is not None and mended is not None:
             name = said_by(mended, self.first + at // BLOCK)

@@ -7,6 +7,7 @@ from itertools import product
 from typing import Iterable, Iterator, List, NamedTuple, Optional, Sequence, Tuple, TypeVar
 
 from .basics import BLOCK, FILE_BYTES, GREATEST_CAPACITY, INSIDE, NODES, NUMBERS, blocks_of, crc, expand, is_name, read_tag, read_timestamp, write_tag
+from .budget import Budget, Work
 from .entry import EMBEDDED, END, EXTENT, KINDS, LAYOUT, LONG, PERMISSIONS, Entry, Fields, Kind, read_entry, write_entry
 
 T = TypeVar("T")
@@ -30,7 +31,7 @@ def unlike(values: Iterable[Optional[T]]) -> List[T]:
     return found
 
 
-def mend_entry(block: bytes, hint: Hint) -> Optional[Entry]:
+def mend_entry(block: bytes, hint: Hint, budget: Budget) -> Optional[Entry]:
     """The entry that a block was written as, `proved` where its CRC or its checksum says so.
 
     Else what its fields say, where they make sense together; None where they do not.
@@ -41,6 +42,8 @@ def mend_entry(block: bytes, hint: Hint) -> Optional[Entry]:
     if plain is not None and not faults:
         return plain
     for candidate in candidates(block, hint, location):
+        if not budget.take(Work.MENDS):
+            break
         if confirms(block, write_entry(candidate)):
             return candidate._replace(location=location if confirms_location(block, candidate, location) else tag.location)
     return None if plain is None else plain._replace(proved=False)
@@ -106,16 +109,16 @@ class Words(NamedTuple):
     name: bytes
 
 
-def mend_identifier(data: bytes, number: int, is_first: bool) -> Optional[bytes]:
+def mend_identifier(data: bytes, number: int, is_first: bool, tries_bits: bool) -> Optional[bytes]:
     """The identifier that these bytes were written as, in the block of this number; None where no one reading is left.
 
-    First what always says the same is restored, then each bit is tried.
+    First what always says the same is restored, then each bit is tried, where that is asked for.
     """
     if len(data) < 40:
         return None
     check = data[8:10]
     found = {text for text in restored(data, number, is_first) if text[8:10] == check or is_check_alone(data, text)}
-    for tried in (flipped, with_other_bytes):
+    for tried in (flipped, with_other_bytes) if tries_bits else ():
         found = found or {text for text in tried(data, number) if text[8:10] == check}
     return found.pop() if len(found) == 1 else None
 

@@ -63,15 +63,25 @@ class Note(NamedTuple):
         return f"block {self.block} cause {int(self.cause)}: {self.text}"
 
 
+MOST, CHARACTERS = 100_000, 16 << 20
+"""Notes that are kept, at most, and their characters."""
+
+
 class Notes:
     """Notes in the order in which they were met, each once."""
 
     def __init__(self) -> None:
         self._seen: "dict[Tuple[int, int, str], Note]" = {}
+        self._characters = 0
 
     def add(self, block: int, cause: Cause, text: str) -> None:
-        """Adds one."""
-        self._seen.setdefault((block, int(cause), text), Note(block, cause, text))
+        """Adds one. Where there are too many, the last one says so."""
+        if len(self._seen) >= MOST or self._characters > CHARACTERS:
+            block, cause, text = 0, Cause.COUNTS, "more than this is not as it must be, and is not named"
+        key = (block, int(cause), text)
+        if key not in self._seen:
+            self._seen[key] = Note(block, cause, text)
+            self._characters += len(text)
 
     def extend(self, block: int, faults: Faults) -> None:
         """Adds the faults of a structure whose first block is at this address."""

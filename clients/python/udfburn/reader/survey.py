@@ -8,10 +8,10 @@ from typing import Dict, Iterator, List, Optional, Tuple
 
 from .basics import BLOCK, GREATEST_CAPACITY, PARTITION
 from .entry import Kind
-from .medium import Medium, Run
+from .medium import Run
 from .mend import Hint, mend_entry
 from .table import SESSIONS
-from .volume import is_table_entry
+from .volume import Volume, is_table_entry
 
 ENTRY = b"\x05\x01\x03\0"
 ICB_TAG = bytes(4) + b"\4\0\0\0\1\0\0"
@@ -27,8 +27,9 @@ class Survey:
     have something of an entry and are none, `heads` those that have the head of a table.
     """
 
-    def __init__(self, medium: Medium):
-        self.medium = medium
+    def __init__(self, volume: Volume):
+        self.medium = medium = volume.medium
+        self._budget = volume.budget
         self.tables: List[int] = []
         self.hurt: List[int] = []
         self.heads: List[int] = []
@@ -51,7 +52,7 @@ class Survey:
         if block[27] == TABLE_TYPE and is_table_entry(block, at - PARTITION):
             self.tables.append(at)
             return
-        entry = mend_entry(block, Hint(at - PARTITION))
+        entry = mend_entry(block, Hint(at - PARTITION), self._budget)
         if entry is None or not entry.proved or entry.kind is Kind.TABLE:
             self.hurt.append(at)
         else:

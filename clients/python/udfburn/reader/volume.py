@@ -5,7 +5,8 @@ from __future__ import annotations
 from typing import Dict, Iterator, List, NamedTuple, Optional, Set, Tuple
 
 from .basics import BLOCK, FIRST_UNIQUE, GREATEST_CAPACITY, PARTITION, PATH_NAMES, UNUSED, blocks_of, read_dstring
-from .directory import Directory, Identifier, read_directory
+from .budget import TABLE_BYTES, Budget, Work, room_of
+from .directory import Directory, Identifier, Known, read_directory
 from .entry import Entry, Kind, is_entry_like, read_entry, read_file_set
 from .front import Front, note_front, read_front
 from .medium import Medium, Run
@@ -56,6 +57,8 @@ class Volume:
     def __init__(self, medium: Medium):
         self.medium = medium
         self.notes = Notes()
+        self.budget = Budget(min(medium.blocks, GREATEST_CAPACITY))
+        self.known = Known(self.budget)
         front: Front = read_front(medium)
         self.label, self.moment, self.capacity = front
         self._front = front
@@ -115,6 +118,9 @@ class Volume:
         if entry.first is None:
             raise ValueError("the entry has no extent")
         start, number = entry.first + PARTITION, address - PARTITION
+        if entry.size > TABLE_BYTES:
+            self.notes.add(start, Cause.COUNT, f"a table of {entry.size} bytes has more clients or virtual addresses than a volume can have")
+            return None
         run = self.medium.run(start, 1)
         head = read_head(run.data)
         if run.missing or head is None or not is_sensible(head, entry.size, number):
@@ -225,6 +231,7 @@ class State:
         for at in run.missing:
             volume.notes.add(at, Cause.MISSING, "a block of the table cannot be read")
         volume.notes.extend(table.first + PARTITION, list(table_faults(self._data, table.address - PARTITION)))
+        self._room = 0
         self.broken: List[Tuple[Path, Identifier]] = []
         """Names whose nodes could not be read in the last walk."""
 
@@ -254,6 +261,7 @@ class State:
     def walk(self, top: Optional[Node] = None) -> Iterator[Node]:
         """A directory (the root where none is given) and all below it, depth first and in stored order."""
         self.broken = []
+        self._room = room_of(min(self.volume.medium.blocks, GREATEST_CAPACITY))
         root = top if top is not None else self.root()
         if root is not None:
             reached: Set[int] = {root.virtual}
@@ -270,11 +278,20 @@ class State:
                 self.broken.append((node.path + (name.name,), name))
                 continue
             reached.add(name.virtual)
+            if self._room < 0:
+                return
             child = self.child(node, name)
-            if child is None:
+            if child is None or not self._fits(child):
                 self.broken.append((node.path + (name.name,), name))
             else:
                 yield from self._below(child, reached)
+
+    def _fits(self, node: Node) -> bool:
+        """Whether all nodes that were met have blocks of their own, as far as their number shows it."""
+        self._room -= 1 + node.blocks
+        if self._room < 0:
+            self.volume.notes.add(node.address, Cause.COUNTS, Work.NODES.text)
+        return self._room >= 0
 
     def find(self, path: Path) -> Optional[Node]:
         """The node at a path; None where there is none that can be read."""
@@ -330,7 +347,7 @@ class State:
             run = self.volume.medium.run(node.data, node.blocks)
             for at in run.missing:
                 self.volume.notes.add(at, Cause.MISSING, f"a block of the directory {show(node.path)} cannot be read")
-            directory, faults = read_directory(run.data, node.size, node.data - PARTITION)
+            directory, faults = read_directory(run.data, node.size, node.data - PARTITION, self.volume.known)
             self.volume.notes.extend(node.data, faults)
             self._seen.directories[node.data, node.size] = directory
         if directory is None:
