@@ -66,7 +66,11 @@ def in_order(coverage: Coverage, path: Path) -> Iterator[Node]:
 
 def faults_of(coverage: Coverage, node: Node, result: Result) -> List[str]:
     """What is wrong with a file. Counts it."""
-    run = coverage.volume.read(node)
+    whole = sha256()
+    missing: List[int] = []
+    for run in coverage.volume.pieces(node):
+        whole.update(run.data)
+        missing += run.missing
     result.files += 1
     result.bytes += node.size
     wanted = coverage.of(node)
@@ -74,9 +78,9 @@ def faults_of(coverage: Coverage, node: Node, result: Result) -> List[str]:
     result.uncovered += not wanted
     result.by_ledger += any(one.address is None for one in wanted)
     result.by_manifest += any(one.address is not None for one in wanted)
-    if run.missing:
-        return [f"block {run.missing[0]} cannot be read" + (f", nor {len(run.missing) - 1} others" if len(run.missing) > 1 else "")]
-    digest = sha256(run.data).digest()
+    if missing:
+        return [f"block {missing[0]} cannot be read" + (f", nor {len(missing) - 1} others" if len(missing) > 1 else "")]
+    digest = whole.digest()
     sent = coverage.sent(node)
     faults = []
     if sent is not None and (sent.size, sent.moment) != (node.size, node.moment):

@@ -9,14 +9,14 @@ from .errors import UdfburnError
 from .protocol import escaped
 from .reader import Kind, Medium, Note, Volume
 from .reader.audit import audit
-from .reader.basics import BLOCK, PARTITION, blocks_of, crc
+from .reader.basics import BLOCK, FILE_BYTES, PARTITION, blocks_of, crc
 from .reader.budget import Work
 from .reader.chain import Chain, Link, Span
 from .reader.entry import Entry
 from .reader.notes import Cause
 from .reader.survey import Survey
 from .reader.volume import Path
-from .salvage_carve import Carver
+from .salvage_carve import Carver, IsKept
 from .salvage_digests import DECLARATION, Digests, Manifest, add_manifests, folder_of, is_manifest
 from .salvage_ledger import NOTHING, Kept, Seen, Stored, commits_of
 from .salvage_tree import LOST_AND_FOUND, Item, Tree
@@ -171,10 +171,24 @@ class Salvage:
         stored = self._stored.files.get(commits.commit) if commits is not None and commits.commit is not None else None
         if stored is not None:
             kept = stored.digest
-            return self._carver.find(address, lambda digest: digest == kept)
+            return self._appended(item, address, lambda digest: digest == kept) or self._carver.find(address, lambda digest: digest == kept)
         if item.kind is None:
             return self._carver.find(address, lambda digest: self.digests.path_of(digest) is not None)
-        return self._carver.find(address, lambda digest: self.digests.is_known(item.path, digest)) if self.digests.has(item.path) else None
+        if not self.digests.has(item.path):
+            return None
+
+        def is_known(digest: str) -> bool:
+            return self.digests.is_known(item.path, digest)
+
+        return self._appended(item, address, is_known) or self._carver.find(address, is_known)
+
+    def _appended(self, item: Item, address: int, is_kept: IsKept) -> Optional[bytes]:
+        """The bytes of a file whose newest entry is lost, where the one before it has all of its extents but the last."""
+        entry = item.entry
+        if entry is None or item.version is None or item.version.commit is None or not entry.size or entry.size % FILE_BYTES:
+            return None
+        before = self.bytes_of(entry)
+        return self._carver.find(address, is_kept, before.data) if not before.why else None
 
     # ---- files
 
@@ -187,16 +201,19 @@ class Salvage:
             return Bytes(entry.inside, (), doubt)
         if entry.first is None:
             return Bytes(b"", (), doubt)
-        start = entry.first + PARTITION
-        run = self.medium.run(start, blocks_of(entry.size))
-        ranges = []
-        for at in run.missing:
-            begin = (at - start) * BLOCK
-            ranges.append((begin, min(BLOCK, entry.size - begin)))
-            self.volume.notes.add(at, Cause.MISSING, "a block of a file cannot be read")
-        if not run.missing and any(run.data[entry.size :]):
-            self.volume.notes.add(start + blocks_of(entry.size) - 1, Cause.TAIL, "a byte after the bytes of a file is not zero")
-        return Bytes(run.data[: entry.size], joined(ranges), "blocks of it cannot be read" if ranges else doubt)
+        ranges, pieces = [], []
+        for index, extent in enumerate(entry.extents):
+            start = extent.first + PARTITION
+            run = self.medium.run(start, blocks_of(extent.size))
+            for at in run.missing:
+                begin = (at - start) * BLOCK
+                ranges.append((FILE_BYTES * index + begin, min(BLOCK, extent.size - begin)))
+                self.volume.notes.add(at, Cause.MISSING, "a block of a file cannot be read")
+            if not run.missing and any(run.data[extent.size :]):
+                self.volume.notes.add(extent.end + PARTITION - 1, Cause.TAIL, "a byte after the bytes of a file is not zero")
+            pieces.append(run.data[: extent.size])
+        data = pieces[0] if len(pieces) == 1 else b"".join(pieces)
+        return Bytes(data, joined(ranges), "blocks of it cannot be read" if ranges else doubt)
 
     def judged(self, item: Item) -> Tuple[Outcome, bytes]:
         """What was had of a file, and its bytes."""

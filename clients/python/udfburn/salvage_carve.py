@@ -24,8 +24,10 @@ class Carver:
         self.chain = chain
         self._left = STARTS
 
-    def find(self, address: int, is_kept: IsKept) -> Optional[bytes]:
-        """The bytes of the file whose entry was at an address, where some that it may have had have a digest that is kept."""
+    def find(self, address: int, is_kept: IsKept, before: bytes = b"") -> Optional[bytes]:
+        """The bytes of the file whose entry was at an address, where some that it may have had have a digest that is kept. `before` are
+        those of its earlier extents."""
+        earlier = hashlib.sha256(before)
         volume = self.chain.volume
         low = max(self.chain.floor(address), address - blocks_of(FILE_BYTES))
         run = volume.medium.run(low, max(address - low, 0))
@@ -40,16 +42,17 @@ class Carver:
             if not volume.budget.take(Work.HASHED, len(run.data) - start * BLOCK + ends):
                 volume.notes.add(address, Cause.COUNTS, Work.HASHED.text)
                 return None
-            found = with_digest(run.data[start * BLOCK :], is_kept)
+            found = with_digest(run.data[start * BLOCK :], is_kept, earlier)
             if found is not None:
-                return found
+                return before + found
         return None
 
 
-def with_digest(data: bytes, is_kept: IsKept) -> Optional[bytes]:
+def with_digest(data: bytes, is_kept: IsKept, earlier: "hashlib._Hash") -> Optional[bytes]:
     """The first bytes of blocks that have a digest which is kept: it ends in the last block, and what is after it is zeros."""
     begin = max(len(data) - BLOCK, 0)
-    known = hashlib.sha256(data[:begin])
+    known = earlier.copy()
+    known.update(data[:begin])
     for end in range(max(len(data.rstrip(b"\0")), begin + 1), len(data) + 1):
         digest = known.copy()
         digest.update(data[begin:end])

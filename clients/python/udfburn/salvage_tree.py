@@ -298,7 +298,7 @@ class Tree:
 
     def _put(self, item: Item) -> None:
         entry = item.entry
-        if not self._takes(Work.NODES, 1 + (blocks_of(entry.size) if entry is not None and entry.first is not None else 0)):
+        if not self._takes(Work.NODES, 1 + (entry.blocks if entry is not None else 0)):
             return
         self.items.append(item)
         if item.kind is Kind.DIRECTORY:

@@ -14,13 +14,13 @@ It takes what can be read and notes what is not as it must be, so it never refus
 empty after `Volume.check`, the volume is as docs/FORMAT.md has it.
 """
 
-from .entry import Entry, Kind
+from .entry import Entry, Extent, Kind
 from .medium import MapError, Medium, RescueMap, Run
 from .notes import Cause, Fault, Note, Notes
 from .volume import Node, NoVolume, State, Volume
 from .table import Client, Reply, Table
 
 __all__ = [
-    "Cause", "Client", "Entry", "Fault", "Kind", "MapError", "Medium", "NoVolume", "Node", "Note", "Notes", "Reply", "RescueMap",
+    "Cause", "Client", "Entry", "Extent", "Fault", "Kind", "MapError", "Medium", "NoVolume", "Node", "Note", "Notes", "Reply", "RescueMap",
     "Run", "State", "Table", "Volume",
 ]

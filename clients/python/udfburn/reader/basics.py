@@ -26,6 +26,12 @@ NODES = 4_096
 DIRECTORY_NAMES = 512
 PATH_NAMES = 16
 FILE_BYTES = 1_048_576
+"""The bytes of an extent, at most: each of a file but its last has so many."""
+
+EXTENTS = 117
+"""The extents of a file, at most."""
+
+GREATEST_FILE = EXTENTS * FILE_BYTES
 INSIDE = 1_872
 CLIENTS = 64
 FIRST_UNIQUE = 16

@@ -7,7 +7,7 @@ from enum import IntEnum
 from typing import Iterator, List, NamedTuple, Optional, Tuple
 
 from .basics import (
-    BLOCK, CHARACTERS, DEVELOPER, FILE_BYTES, INSIDE, NUMBERS, UDF_SUFFIX, blocks_of, crc, entity, is_label, read_dstring, read_tag,
+    BLOCK, CHARACTERS, DEVELOPER, EXTENTS, FILE_BYTES, GREATEST_FILE, INSIDE, NUMBERS, UDF_SUFFIX, blocks_of, crc, entity, is_label, read_dstring, read_tag,
     read_timestamp, tag_faults, write_dstring, write_tag, write_timestamp,
 )
 from .notes import Cause, Fault, Faults
@@ -29,12 +29,35 @@ PERMISSIONS = {Kind.DIRECTORY: 0x14A5, Kind.FILE: 0x1084, Kind.TABLE: 0x1084}
 KINDS = {int(kind): kind for kind in Kind}
 
 
+class Extent(NamedTuple):
+    """Bytes in blocks in a row: the number of the first one, and how many bytes they are."""
+
+    first: int
+    size: int
+
+    @property
+    def end(self) -> int:
+        """The number after the last block."""
+        return self.first + blocks_of(self.size)
+
+
+def extent_count(size: int) -> int:
+    """The extents that so many bytes are in."""
+    return -(-size // FILE_BYTES)
+
+
+def extent_size(size: int, index: int) -> int:
+    """The bytes of an extent of a file of this size."""
+    return min(size - FILE_BYTES * index, FILE_BYTES)
+
+
 class Entry(NamedTuple):
     """What a file entry says.
 
     `moment` is None where none can be read. `first` is the number of the first block of the bytes, None where they are in
     `inside` or where there are none. `location` and `check` are those of the tag: the virtual address of a node or the number of
-    a VAT ICB, and the CRC. `proved` says that the CRC agrees with the fields.
+    a VAT ICB, and the CRC. `proved` says that the CRC agrees with the fields. `others` are the numbers of the first blocks of a file's
+    further extents.
     """
 
     kind: Kind
@@ -47,6 +70,25 @@ class Entry(NamedTuple):
     location: int
     check: int
     proved: bool
+    others: Tuple[int, ...] = ()
+
+    @property
+    def extents(self) -> Tuple[Extent, ...]:
+        """Where the bytes are, in order; empty where no blocks hold them."""
+        if self.first is None:
+            return ()
+        firsts = (self.first, *self.others)
+        return tuple(Extent(first, extent_size(self.size, index)) for index, first in enumerate(firsts))
+
+    @property
+    def end(self) -> int:
+        """The number after the last block of the bytes; 0 where no blocks hold them."""
+        return max((extent.end for extent in self.extents), default=0)
+
+    @property
+    def blocks(self) -> int:
+        """The blocks that hold the bytes."""
+        return blocks_of(self.size) if self.first is not None else 0
 
 
 class Fields(NamedTuple):
@@ -90,7 +132,7 @@ def end_of(fields: Fields) -> int:
     length = fields.allocation_length
     if fields.flags == EMBEDDED:
         return END + length if 0 < length <= INSIDE else END
-    return END + 16 if length == 16 else END
+    return END + length if length <= INSIDE and length % 16 == 0 else END
 
 
 def is_entry_like(block: bytes) -> bool:
@@ -119,17 +161,20 @@ def is_exact(entry: Entry, block: bytes, location: int) -> bool:
 
 def sensible(block: bytes, fields: Fields) -> Optional[Entry]:
     """The entry of these fields, where its size and the place of its bytes make sense."""
-    size, first, inside = fields.size, None, None
-    if size > FILE_BYTES:
+    size, inside = fields.size, None
+    first: Optional[int] = None
+    others: Tuple[int, ...] = ()
+    if size > greatest(KINDS[fields.type]):
         return None
     if fields.flags == EMBEDDED:
         if not 0 < size <= INSIDE or fields.type != Kind.FILE:
             return None
         inside = block[END : END + size]
     elif size:
-        first = int(struct.unpack_from("<I", block, END + 4)[0])
-        if first + blocks_of(size) > NUMBERS:
+        firsts = firsts_at(block, size)
+        if firsts is None:
             return None
+        first, others = firsts[0], firsts[1:]
     elif fields.type != Kind.FILE:
         return None
     tag = read_tag(block)
@@ -137,7 +182,24 @@ def sensible(block: bytes, fields: Fields) -> Optional[Entry]:
     moment = next((stamp for stamp in stamps if stamp is not None), None)
     body = block[16 : end_of(fields)]
     proved = tag.crc == crc(body)
-    return Entry(KINDS[fields.type], moment, fields.links, fields.unique, size, first, inside, tag.location, tag.crc, proved)
+    return Entry(KINDS[fields.type], moment, fields.links, fields.unique, size, first, inside, tag.location, tag.crc, proved, others)
+
+
+def greatest(kind: Kind) -> int:
+    """The bytes of what is of a kind, at most."""
+    return GREATEST_FILE if kind is Kind.FILE else FILE_BYTES
+
+
+def firsts_at(block: bytes, size: int) -> Optional[Tuple[int, ...]]:
+    """The numbers of the first blocks of the extents of so many bytes; None where they make no sense. Of one alone, its length is the
+    size."""
+    count = extent_count(size)
+    found = [EXTENT.unpack_from(block, END + EXTENT.size * index)[:2] for index in range(count)]
+    if any(first + blocks_of(extent_size(size, index)) > NUMBERS for index, (_, first) in enumerate(found)):
+        return None
+    if count > 1 and any(length % 2**30 != extent_size(size, index) for index, (length, _) in enumerate(found)):
+        return None
+    return tuple(first for _, first in found)
 
 
 def entry_faults(block: bytes, fields: Fields, location: int) -> Iterator[Fault]:
@@ -176,21 +238,23 @@ def fixed_faults(fields: Fields, kind: Kind) -> List[str]:
 
 
 def place_faults(block: bytes, fields: Fields, kind: Kind) -> Iterator[Fault]:
-    """What is wrong with the lengths, and with the extent."""
+    """What is wrong with the lengths, and with the extents."""
     size, length = fields.size, fields.allocation_length
     if fields.flags == EMBEDDED:
         if not 0 < size <= INSIDE or fields.blocks or length != size:
             yield Fault(Cause.LENGTHS, f"the size {size}, the blocks {fields.blocks} and the length {length} do not agree")
         return
-    extent, first, partition, used, last = EXTENT.unpack_from(block, END)
-    agree = size <= FILE_BYTES and fields.blocks == blocks_of(size)
-    agree = agree and (length == 16 and extent % 2**30 == size if size else length == 0 and kind is Kind.FILE)
+    count = extent_count(size)
+    agree = size <= greatest(kind) and fields.blocks == blocks_of(size) and length == EXTENT.size * count
+    agree = agree and (struct.unpack_from("<I", block, END)[0] % 2**30 == extent_size(size, 0) if size else kind is Kind.FILE)
     if not agree:
-        yield Fault(Cause.LENGTHS, f"the size {size}, the blocks {fields.blocks}, the length {length} and the extent do not agree")
-    if size and (extent != size or partition or used or last):
-        yield Fault(Cause.EXTENT, "the extent's kind, length, partition or implementation use is not as it must be")
-    if size and first + blocks_of(size) > NUMBERS:
-        yield Fault(Cause.EXTENT, f"the extent from block number {first} on ends past the greatest partition")
+        yield Fault(Cause.LENGTHS, f"the size {size}, the blocks {fields.blocks}, the length {length} and the extents do not agree")
+    for index in range(count if count <= EXTENTS else 0):
+        extent, first, partition, used, last = EXTENT.unpack_from(block, END + EXTENT.size * index)
+        if extent != extent_size(size, index) or partition or used or last:
+            yield Fault(Cause.EXTENT, "an extent's kind, length, partition or implementation use is not as it must be")
+        if first + blocks_of(extent_size(size, index)) > NUMBERS:
+            yield Fault(Cause.EXTENT, f"the extent from block number {first} on ends past the greatest partition")
 
 
 def write_entry(entry: Entry) -> bytes:
@@ -202,7 +266,7 @@ def write_entry(entry: Entry) -> bytes:
         flags, blocks, allocation = EMBEDDED, 0, entry.inside
     else:
         flags, blocks = LONG, blocks_of(entry.size)
-        allocation = b"" if entry.first is None else EXTENT.pack(entry.size, entry.first, 0, 0, 0)
+        allocation = b"".join(EXTENT.pack(extent.size, extent.first, 0, 0, 0) for extent in entry.extents)
     fields = Fields(
         0, 4, 0, 1, 0, entry.kind, bytes(6), flags, 0xFFFFFFFF, 0xFFFFFFFF, PERMISSIONS[entry.kind], entry.links, 0, 0, 0, entry.size,
         blocks, stamp, stamp, stamp, 1, bytes(16), DEVELOPER, entry.unique, 0, len(allocation),

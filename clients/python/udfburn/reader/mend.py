@@ -6,9 +6,9 @@ import struct
 from itertools import product
 from typing import Iterable, Iterator, List, NamedTuple, Optional, Sequence, Tuple, TypeVar
 
-from .basics import BLOCK, FILE_BYTES, GREATEST_CAPACITY, INSIDE, NODES, NUMBERS, blocks_of, crc, expand, is_name, read_tag, read_timestamp, write_tag
+from .basics import BLOCK, EXTENTS, FILE_BYTES, GREATEST_CAPACITY, INSIDE, NODES, NUMBERS, blocks_of, crc, expand, is_name, read_tag, read_timestamp, write_tag
 from .budget import Budget, Work
-from .entry import EMBEDDED, END, EXTENT, KINDS, LAYOUT, LONG, PERMISSIONS, Entry, Fields, Kind, read_entry, write_entry
+from .entry import EMBEDDED, END, EXTENT, KINDS, LAYOUT, LONG, PERMISSIONS, Entry, Fields, Kind, extent_count, extent_size, read_entry, write_entry
 
 T = TypeVar("T")
 
@@ -73,6 +73,9 @@ def candidates(block: bytes, hint: Hint, location: int) -> Iterator[Entry]:
         for size, place, inside in places(block, fields, hint, extent, first):
             for links in links_of(kind, fields.links):
                 yield Entry(kind, moment, links, unique, size, place, inside, location, read_tag(block).crc, True)
+        if kind is Kind.FILE:
+            for size, firsts in lists(block, fields):
+                yield Entry(kind, moment, 1, unique, size, firsts[0], None, location, read_tag(block).crc, True, firsts[1:])
 
 
 def places(block: bytes, fields: Fields, hint: Hint, extent: int, first: int) -> Iterator[Tuple[int, Optional[int], Optional[bytes]]]:
@@ -88,6 +91,17 @@ def places(block: bytes, fields: Fields, hint: Hint, extent: int, first: int) ->
             for place in unlike((first, hint.number - blocks_of(size))):
                 if 0 < size <= FILE_BYTES and 0 <= place <= NUMBERS - blocks_of(size):
                     yield size, place, None
+
+
+def lists(block: bytes, fields: Fields) -> Iterator[Tuple[int, Tuple[int, ...]]]:
+    """The sizes and the first blocks of several extents that a file's entry may say."""
+    for count in unlike((extent_count(fields.size), fields.allocation_length // EXTENT.size)):
+        if not 1 < count <= EXTENTS:
+            continue
+        found = [EXTENT.unpack_from(block, END + EXTENT.size * index)[:2] for index in range(count)]
+        for size in unlike((fields.size, (count - 1) * FILE_BYTES + found[-1][0] % 2**30)):
+            if extent_count(size) == count and all(first + blocks_of(extent_size(size, index)) <= NUMBERS for index, (_, first) in enumerate(found)):
+                yield size, tuple(first for _, first in found)
 
 
 def links_of(kind: Kind, said: int) -> Sequence[int]:

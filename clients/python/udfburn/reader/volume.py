@@ -7,7 +7,7 @@ from typing import Dict, Iterator, List, NamedTuple, Optional, Set, Tuple
 from .basics import BLOCK, FIRST_UNIQUE, GREATEST_CAPACITY, PARTITION, PATH_NAMES, UNUSED, blocks_of, read_dstring
 from .budget import TABLE_BYTES, Budget, Work, room_of
 from .directory import Directory, Identifier, Known, read_directory
-from .entry import Entry, Kind, is_entry_like, read_entry, read_file_set
+from .entry import Entry, Extent, Kind, is_entry_like, read_entry, read_file_set
 from .front import Front, note_front, read_front
 from .medium import Medium, Run
 from .notes import Cause, Notes
@@ -29,7 +29,8 @@ class Node(NamedTuple):
 
     `path` has its names, `unique` and `virtual` are its unique ID and its virtual address, `address` is that of its entry and
     `moment` microseconds from 1970-01-01 UTC. `size` is the bytes of a file, or of a directory's data. The data is `blocks` blocks
-    from the address `data` on; `data` is None where the bytes are inside the entry, or where there are none.
+    from the address `data` on; `data` is None where the bytes are inside the entry, or where there are none. The data of a file of more
+    than a mebibyte is in several `extents`, of which `data` is the address of the first; `blocks` counts them all.
     """
 
     path: Path
@@ -46,6 +47,8 @@ class Node(NamedTuple):
     """The virtual address of the directory above; the root's own."""
     check: int
     """The CRC in its entry's tag."""
+    extents: Tuple[Extent, ...] = ()
+    """Where the data is, in order, by block numbers."""
 
 
 class Volume:
@@ -171,8 +174,16 @@ class Volume:
         if node.data is None:
             block = self.medium.block(node.address) or bytes(BLOCK)
             return Run(block[176 : 176 + node.size] if node.size else b"", ())
-        run = self.medium.run(node.data, node.blocks)
-        return Run(run.data[: node.size], run.missing)
+        runs = list(self.pieces(node))
+        return Run(b"".join(run.data for run in runs), tuple(at for run in runs for at in run.missing))
+
+    def pieces(self, node: Node) -> Iterator[Run]:
+        """The bytes of a file, extent by extent, with zeros where a block is missing."""
+        if node.data is None:
+            yield self.read(node)
+        for extent in node.extents:
+            run = self.medium.run(extent.first + PARTITION, blocks_of(extent.size))
+            yield Run(run.data[: extent.size], run.missing)
 
     def check(self) -> Notes:
         """Looks at the volume header, every table, and every node of every state. The notes, which are empty where all is as it must be."""
@@ -318,12 +329,13 @@ class State:
             return None
         if kind is Kind.FILE and entry.links != 1:
             notes.add(at, Cause.IDENTITY, f"{show(path)} has {entry.links} links, and not 1")
-        blocks = blocks_of(entry.size) if entry.first is not None else 0
-        if entry.first is not None and entry.first + blocks > self.table.address - PARTITION:
+        if entry.end > self.table.address - PARTITION:
             notes.add(at, Cause.RANGE, f"the bytes of {show(path)} do not lie below the VAT ICB")
             return None
         data = entry.first + PARTITION if entry.first is not None else None
-        return Node(path, kind, entry.unique, name.virtual, at, entry.moment, entry.size, data, blocks, entry.links, above, entry.check)
+        return Node(
+            path, kind, entry.unique, name.virtual, at, entry.moment, entry.size, data, entry.blocks, entry.links, above, entry.check, entry.extents,
+        )
 
     def _entry(self, at: int, virtual: int) -> Optional[Entry]:
         known, entry = self._seen.entry((at, virtual))
