@@ -18,6 +18,7 @@ from udfburn.coverage import Coverage
 from udfburn.ledger_reading import ledger_to_read
 from udfburn.protocol import Path, show
 from udfburn.reader import Kind, Medium, NoVolume, Volume
+from udfburn.reader.entry import read_entry, write_entry
 from udfburn.reader.numbering import Link, Span, greatest_at, number
 from udfburn.salvage import DAMAGED, LOST, UNPROVED, WHOLE, Outcome, Salvage, target_of
 
@@ -163,6 +164,20 @@ class Ledgers(WithLosses):
                     self.assertEqual(found[address]["commit"], true)
             status, lines, _ = self.run_command("salvage", image, "--list", "--ledger", self.ledger)
             self.assertEqual((lines[-1]["damaged"], lines[-1]["lost"]), (0, 0))
+
+    def test_copies_of_the_last_vat_icb(self) -> None:
+        """A disc ends with copies of it: all are one table, also where its data is lost."""
+        ends, starts = self.sound.ends, self.sound.starts
+        last = read_entry(self.sound.image[ends[-1] * BLOCK :], ends[-1] - 257)[0]
+        assert last is not None
+        copies = b"".join(write_entry(last._replace(location=ends[-1] - 257 + index)) for index in range(1, 17))
+        lost = bytearray(self.sound.image + copies)
+        whole = self.run_command("log", self.put(Loss(bytes(lost), (), set()))[0])
+        self.assertEqual((whole[0], whole[1][0]["commit"], whole[1][0]["address"], len(whole[1])), (0, len(ends) - 1, ends[-1] + 16, len(ends) + 1))
+        lost[starts[-1] * BLOCK : ends[-1] * BLOCK] = bytes((ends[-1] - starts[-1]) * BLOCK)
+        lines = [line for line in self.run_command("log", self.put(Loss(bytes(lost), (), set()))[0])[1] if line["did"] == "commit"]
+        self.assertEqual([line["commit"] for line in lines], [None, *range(len(ends) - 2, -1, -1)])
+        self.assertLessEqual(lines[0]["between"][0], len(ends) - 1)
 
     def test_a_gap_is_one_line(self) -> None:
         image = self.lost(*range(self.sound.starts[30], self.sound.ends[90] + 1))

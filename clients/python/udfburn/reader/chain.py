@@ -7,7 +7,7 @@ from bisect import bisect_left
 from typing import Dict, Iterator, List, Optional, Set, Tuple
 
 from .basics import BLOCK, PARTITION, UNUSED, blocks_of
-from .entry import Entry, Kind, is_entry_like
+from .entry import Entry, Kind, is_entry_like, read_entry
 from .mend import Hint, mend_entry
 from .notes import Cause
 from .numbering import Link, Span, greatest_at, number
@@ -63,15 +63,22 @@ class Chain:
     def _link(self, address: int) -> Link:
         """The link of a VAT ICB that is as it must be."""
         table = self.volume.table_at(address)
-        return self._of(address, table, () if table is not None else ("its data cannot be used",))
+        if table is not None:
+            return self._of(address, table, ())
+        block = self.volume.medium.block(address)
+        entry = read_entry(block, address - PARTITION)[0] if block is not None else None
+        is_below = entry is not None and entry.first is not None and entry.end <= address - PARTITION
+        # A disc ends with copies of its last VAT ICB: what leads to the same data is one table.
+        return Link(address, None, None, False, ("its data cannot be used",), first=entry.first if entry is not None and is_below else None)
 
     def _of(self, address: int, table: Optional[Table], broken: Tuple[str, ...]) -> Link:
         """The link of a table, with the commit that it says twice: as its count, and as that of its newest reply."""
+        first = table.first if table is not None else None
         if table is None or table.commit > greatest_at(address):
-            return Link(address, table, None, False, broken)
+            return Link(address, table, None, False, broken, first=first)
         run = self.volume.medium.run(table.first + PARTITION, blocks_of(table.length))
         replies = [reply.commit for client in read_clients(run.data[: table.length], table.version, table.clients) for reply in client.replies]
-        return Link(address, table, table.commit if max(replies, default=0) == table.commit else None, False, broken)
+        return Link(address, table, table.commit if max(replies, default=0) == table.commit else None, False, broken, first=first)
 
     def _mended(self, address: int) -> Optional[Link]:
         """The link of a VAT ICB with wrong bytes."""
@@ -106,8 +113,6 @@ class Chain:
         known = self._link(lower) if lower is not None else None
         if self._is_of_another(link, known):
             link = link._replace(table=None, said=None, broken=link.broken + ("its data is that of another table",))
-            lower = self.survey.table_below(link.start)
-            known = self._link(lower) if lower is not None else None
         table = link.table
         if table is not None and table.commit == 0 and table.previous is None and known is None:
             return None, link

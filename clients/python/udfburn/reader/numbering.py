@@ -39,11 +39,13 @@ class Link(NamedTuple):
     broken: Tuple[str, ...] = ()
     numbers: Span = Span(0, 0)
     adjacent: bool = False
+    first: Optional[int] = None
+    """The number of the first block of its data, as its VAT ICB has it."""
 
     @property
     def start(self) -> int:
         """The address of the first block of its data, or of its entry where that is not known."""
-        return self.table.first + PARTITION if self.table is not None else self.address
+        return self.first + PARTITION if self.first is not None else self.address
 
     @property
     def commit(self) -> Optional[int]:
