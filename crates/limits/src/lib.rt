@@ -48,8 +48,15 @@ pub const PATH_NAMES: u32 = 16;
 /// The most names in a path of a message. The volume refuses a path of more than [`PATH_NAMES`].
 pub const MESSAGE_PATH_NAMES: usize = 255;
 
-/// The greatest size of a file, in bytes.
+/// The greatest size of an extent, in bytes. Every extent of a file but the last has this size, and so many bytes of a
+/// file fit in one message.
 pub const FILE_BYTES: usize = 1_048_576;
+
+/// The most extents of a file: as many as its entry has room for the descriptors of.
+pub const EXTENTS: u32 = 117;
+
+/// The greatest size of a file, in bytes: that of [`EXTENTS`] extents.
+pub const GREATEST_FILE: u32 = 122_683_392;
 
 /// The most bytes of a file that fit in its entry.
 pub const INSIDE_BYTES: u32 = 1_872;
