@@ -1,7 +1,8 @@
 -- Runs of an engine over deliveries: which answer each may get, what it commits, how far it writes, and what is recovered at each prefix.
-use Rattle.std.specs.Prelude.{cond, ◌==◌, ◌≡◌, ◌⊎◌, ℕ, ◌+◌, ◌<◌, ◌≤◌, Bool, true, false, List, [], ◌∷◌, ◌++◌, length, take, map, Option, Some, None}
+use Rattle.std.specs.Prelude.{cond, if◌then◌else◌, nat_lt, ◌==◌, ◌≡◌, ◌⊎◌, ℕ, ◌+◌, ◌<◌, ◌≤◌, Bool, true, false, List, [], ◌∷◌, ◌++◌, length, take, drop, map, Option, Some, None}
 use Rattle.std.specs.Option.{option_to_list}
 use Rattle.std.specs.FinMap.{get}
+use Rattle.limits.specs.declared.TheConstants.{FILE_BYTES}
 use Rattle.model.specs.Tree.{Name, Path, Node, Tree, is_directory_at}
 use Rattle.model.specs.Tree.Content.{File, Directory}
 use Rattle.model.specs.Session.{State, Request, Reply, Due, due, reply_to, after}
@@ -15,6 +16,7 @@ pub data Query : Type 0 where
   Get : (path : Path) → Query
   List_ : (path : Path) → Query
   Stat : (path : Path) → Query
+  Read : (path : Path) (offset count : ℕ) → Query
 
 pub data Message : Type 0 where
   Asks : (request : Request) → Message
@@ -39,14 +41,24 @@ pub data Answer : Type 0 where
   NotFound : Answer
   IsDirectory : Answer
   NotDirectory : Answer
+  TooLong : Answer
   Data : (bytes : List ℕ) → Answer
   Names : (names : List (Bool × Name)) → Answer
   NodeIs : (directory : Bool) (moment size : ℕ) → Answer
 
+-- the bytes of a file, unless one answer cannot hold them
+abbrev pub whole_file : List ℕ → Answer
+whole_file bytes = if nat_lt FILE_BYTES (length bytes) then TooLong else Data bytes
+
 -- what the queries show of a node
 abbrev pub got : Option Node → Answer
 got None = NotFound
-got (Some node) = elim node.content [ File bytes ↦ Data bytes | Directory names ↦ IsDirectory ]
+got (Some node) = elim node.content [ File bytes ↦ whole_file bytes | Directory names ↦ IsDirectory ]
+
+-- the bytes that are there from the offset on, so many at most
+abbrev pub piece_read : ℕ → ℕ → Option Node → Answer
+piece_read offset count None = NotFound
+piece_read offset count (Some node) = elim node.content [ File bytes ↦ Data (take count (drop offset bytes)) | Directory names ↦ IsDirectory ]
 
 abbrev pub listed : Tree → Path → Option Node → Answer
 listed tree path None = NotFound
@@ -60,6 +72,7 @@ abbrev pub told : Tree → Query → Answer
 told tree (Get path) = got (get tree path)
 told tree (List_ path) = listed tree path (get tree path)
 told tree (Stat path) = answer_to_stat (get tree path)
+told tree (Read path offset count) = piece_read offset count (get tree path)
 
 -- what a delivery commits, and how many blocks it writes
 pub record Effect : Type 0 where
