@@ -17,18 +17,21 @@ use Rattle.icb.specs.declared.entry.Place.TheVariants as places
 use Rattle.icb.specs.declared.planned.PlannedEntry.TheInside as planned
 use Rattle.ecma.specs.Blocks.{block_count}
 use Rattle.icb.specs.Entry.{Fields, FitsEntry, FitsPlace, IsEntry, Place, allocation, blocks_recorded, entry_parts, long_descriptor, file_type, flags_of, inside, permissions, place_of}
-use Rattle.icb.specs.Entry.Place.{Nowhere, Extent, Inside}
+use Rattle.limits.specs.declared.TheConstants.{GREATEST_FILE}
+use Rattle.icb.specs.Entry.Place.{Nowhere, Extent, Extents, Inside}
 use Rattle.icb.specs.Planned.{entry_body, planned_block}
 
-short_allocation : (kind : Kind) (size : ℕ) (place : Place) → FitsPlace kind size place → length (allocation size place) ≤ 1_872
-short_allocation kind size Nowhere fits = omega arith
-short_allocation kind size (Extent first) fits = omega arith
-short_allocation kind size (Inside bytes) fits = omega (arith, fits)
+short_allocation : (kind : Kind) (size : ℕ) (place : Place) → size ≤ GREATEST_FILE → FitsPlace kind size place → length (allocation size place) ≤ 1_872
+short_allocation kind size Nowhere limit fits = omega arith
+short_allocation kind size (Extent first) limit fits = omega arith
+short_allocation kind size (Extents descriptors) limit fits = omega (arith, limit, fits.2)
+short_allocation kind size (Inside bytes) limit fits = omega (arith, fits)
 
 allocation_bytes : (size : ℕ) (place : Place) → IsBytes (inside place) → IsBytes (allocation size place)
 allocation_bytes size Nowhere fits = bytes_of [] tt
 allocation_bytes size (Extent first) fits =
     bytes_concat (to_le_bytes w32 size ∷ to_le_bytes w32 first ∷ to_le_bytes w16 0 ∷ replicate 6 0 ∷ []) (bytes_u32 size, (bytes_u32 first, (bytes_u16 0, (bytes_zeros 6, tt))))
+allocation_bytes size (Extents descriptors) fits = fits
 allocation_bytes size (Inside bytes) fits = fits
 
 small_type : (kind : Kind) → file_type kind < 256
@@ -55,7 +58,7 @@ pub is_planned : (e : Fields) (loc : ℕ) (stamp : List ℕ) → FitsEntry e →
     → IsEntry e loc (descriptor_block 261 loc (entry_body e stamp))
 is_planned e loc stamp fits moment loc-fits inside-fits =
     let after = allocation e.size e.place in
-    let few = short_allocation e.kind e.size e.place fits.place in
+    let few = short_allocation e.kind e.size e.place fits.size fits.place in
     let long : length (entry_body e stamp) ≡ 160 + length after =
     parts_long (file_type e.kind) (flags_of e.place) (permissions e.kind) e.links e.size (blocks_recorded e.size e.place) stamp e.unique (length after) after (moment_long e.moment stamp moment) in
     let body : IsBytes (entry_body e stamp) =
@@ -83,3 +86,11 @@ block_extended p first blocks after is blocks-are after-is =
     ap (λ (n : ℕ). descriptor_block 261 p.location (parts n after)) blocks-are
     ∙ ap (λ (x : List ℕ). descriptor_block 261 p.location (parts (block_count p.entry.size) x)) after-is
     ∙ sym (block_there p (places.Extent first) is)
+
+-- the block of an entry with its bytes in several extents, as it is written
+pub block_in_extents : (p : planned.Inside) (descriptors : source.Place) (blocks : ℕ) (after : List ℕ) → p.entry.place ≡ descriptors → place_of descriptors ≡ Extents after → blocks ≡ block_count p.entry.size
+    → descriptor_block 261 p.location (concat (entry_parts (file_type p.entry.kind) 1 (permissions p.entry.kind) p.entry.links p.entry.size blocks p.stamp p.entry.unique (length after) after)) ≡ planned_block p
+block_in_extents p place blocks after is extents blocks-are =
+    ap (λ (n : ℕ). descriptor_block 261 p.location (concat (entry_parts (file_type p.entry.kind) 1 (permissions p.entry.kind) p.entry.links p.entry.size n p.stamp p.entry.unique (length after) after))) blocks-are
+    ∙ ap (λ (q : Place). descriptor_block 261 p.location (entry_body (record { kind = p.entry.kind; moment = p.entry.moment; links = p.entry.links; unique = p.entry.unique; size = p.entry.size; place = q }) p.stamp)) (sym extents)
+    ∙ sym (block_there p place is)

@@ -76,19 +76,31 @@ impl PlannedEntry<'_> {
                 let extent = extent(entry.size, first).to_bytes();
                 write_entry(entry, loc, LONG_DESCRIPTORS, blocks, stamp, &extent, block)
             }
+            Place::Extents(descriptors) => {
+                let blocks = u64::from(entry.size).div_ceil(BLOCK_BYTES as u64);
+                write_entry(
+                    entry,
+                    loc,
+                    LONG_DESCRIPTORS,
+                    blocks,
+                    stamp,
+                    descriptors,
+                    block,
+                )
+            }
             Place::Inside(bytes) => write_entry(entry, loc, BYTES_INSIDE, 0, stamp, bytes, block),
         }
     }
 }
 
-/// The bytes that are inside an entry.
+/// The bytes that an entry borrows: its extents' descriptors, or the file's bytes.
 fn bytes_inside<'a>(place: &Place<'a>) -> &'a [u8]
     ensures value { result.now ≡ inside (place_of place.now) }
     ensures bytes { (i : ℕ) → slice_index result.now i < 256 }
 {
     match place {
         Place::None | Place::Extent(_) => &[],
-        Place::Inside(bytes) => each_below_256(bytes),
+        Place::Extents(bytes) | Place::Inside(bytes) => each_below_256(bytes),
     }
 }
 

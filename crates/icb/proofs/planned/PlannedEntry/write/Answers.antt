@@ -1,10 +1,10 @@
-use Rattle.std.proofs.Common.{◌≡◌, sym, ap, ◌∙◌, arith}
+use Rattle.std.proofs.Common.{◌≡◌, sym, ap, ◌∙◌, arith, refl}
 use Rattle.ecma.specs.LongAd.{long_ad}
 use Rattle.ecma.specs.declared.field.LongAd.{LongAd}
 use Rattle.icb.specs.declared.entry.Place.TheVariants as places
 use Rattle.ecma.specs.Blocks.{block_count}
 use Rattle.icb.specs.Entry.{long_descriptor}
-use Rattle.icb.proofs.EntryBlocks.{block_there, block_extended}
+use Rattle.icb.proofs.EntryBlocks.{block_there, block_extended, block_in_extents}
 use Rattle.icb.proofs.planned.PlannedEntry.write.Goals as goal
 
 pub returns-in-None : goal.returns-in-None
@@ -16,6 +16,11 @@ returns-in-Extent c =
     let blocks : c.div_ceil-blocks.result ≡ block_count size = omega (arith, c.div_ceil-blocks.ensures, c.from.ensures) in
     let after : c.to_bytes-extent.result ≡ long_descriptor size c.in-Extent.first = c.to_bytes-extent.ensures ∙ ap (λ (l : LongAd). long_ad l) c.extent.ensures in
     c.write_entry-in-Extent.ensures ∙ block_extended c.self.inside c.in-Extent.first c.div_ceil-blocks.result c.to_bytes-extent.result c.in-Extent.is blocks after ∙ c.self.view_is
+
+pub returns-in-Extents : goal.returns-in-Extents
+returns-in-Extents c =
+    let blocks : c.div_ceil-blocks-in-Extents.result ≡ block_count c.self.inside.entry.size = omega (arith, c.div_ceil-blocks-in-Extents.ensures, c.from-in-Extents.ensures) in
+    c.write_entry-in-Extents.ensures ∙ block_in_extents c.self.inside (places.Extents c.in-Extents.descriptors) c.div_ceil-blocks-in-Extents.result c.in-Extents.descriptors.now c.in-Extents.is refl blocks ∙ c.self.view_is
 
 pub returns-in-Inside : goal.returns-in-Inside
 returns-in-Inside c = c.write_entry-in-Inside.ensures ∙ sym (block_there c.self.inside (places.Inside c.in-Inside.bytes) c.in-Inside.is) ∙ c.self.view_is
