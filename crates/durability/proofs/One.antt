@@ -5,13 +5,14 @@ use Rattle.model.specs.Session.{State}
 use Rattle.model.specs.Graph.{MakesTree}
 use Rattle.model.proofs.Made.{one_tree}
 use Rattle.durability.specs.Formats.{Block, NodePlace, NodeFields, Table_, Formats, AreExact}
-use Rattle.durability.specs.Formats.NodePlace.{Nowhere, Extent, Inside}
+use Rattle.durability.specs.Formats.NodePlace.{Nowhere, Extent, Extents, Inside}
 use Rattle.durability.specs.Volume.{Medium, partition_start, extent, bytes_in_blocks, graph_of, IsLast, HasTable, Describes, RecoversTo}
 use Rattle.durability.proofs.Lists.{side}
 
 first_of : NodePlace → ℕ
 first_of Nowhere = 0
 first_of (Inside bytes) = 0
+first_of (Extents descriptors) = 0
 first_of (Extent first) = first
 
 same_Extent : (m n : ℕ) → Extent m ≡ Extent n → m ≡ n

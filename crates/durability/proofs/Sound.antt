@@ -10,13 +10,14 @@ use Rattle.model.specs.Graph.Body.{Bytes, Entries}
 use Rattle.model.specs.Laws.{IsSound}
 use Rattle.model.proofs.Counts.{len_both}
 use Rattle.durability.specs.Formats.{NodePlace, NodeFields, Formats, AreBounded}
-use Rattle.durability.specs.Formats.NodePlace.{Nowhere, Extent, Inside}
+use Rattle.durability.specs.Formats.NodePlace.{Nowhere, Extent, Extents, Inside}
 use Rattle.durability.specs.Volume.{Medium, HoldsDirectory, HoldsBody, extent, RecoversTo}
 
 module _ (formats : Formats) (bounded : AreBounded formats) where
   few_entries : (M : Medium) (size : ℕ) (place : NodePlace) (parent : ℕ) (es : List Entry) → HoldsDirectory formats M size place parent es → length es ≤ DIRECTORY_NAMES
   few_entries M size Nowhere parent es h = absurd h
   few_entries M size (Inside inside) parent es h = absurd h
+  few_entries M size (Extents descriptors) parent es h = absurd h
   few_entries M size (Extent first) parent es h = bounded.names parent first size es (extent M first size) h.1
 
   few_names : (M : Medium) (fields : NodeFields) (body : Body) → HoldsBody formats M fields body → length (names_in (content_in body)) ≤ DIRECTORY_NAMES

@@ -7,9 +7,10 @@ use Rattle.model.specs.Graph.Body.{Bytes, Entries}
 use Rattle.model.specs.Change.{IsKeptUnder}
 use Rattle.durability.specs.Formats.{Block, Kind, NodePlace, NodeFields, Formats, AreExact}
 use Rattle.durability.specs.Formats.Kind.{Directory, File, Table}
-use Rattle.durability.specs.Formats.NodePlace.{Nowhere, Extent, Inside}
+use Rattle.durability.specs.Formats.NodePlace.{Nowhere, Extent, Extents, Inside}
 use Rattle.durability.specs.Volume.{Medium, partition_start, blocks_for, IsWithin, extent, bytes_in_blocks, HoldsFile, HoldsDirectory, HoldsBody, IsStoredAt, graph_of}
 use Rattle.durability.proofs.Lists.{get-append, part-append}
+use Rattle.durability.proofs.Extents.{extents_stay}
 
 is_file : Kind → Bool
 is_file Directory = false
@@ -20,26 +21,29 @@ file≢directory : (kind : Kind) → kind ≡ File → kind ≡ Directory → �
 unfolding is_file
 file≢directory kind a b = true≢false (sym (ap is_file a) ∙ ap is_file b)
 
-file_one : (M : Medium) (size : ℕ) (place : NodePlace) (x y : List ℕ) → HoldsFile M size place x → HoldsFile M size place y → x ≡ y
-file_one M size Nowhere x y a b = a ∙ sym b
-file_one M size (Inside inside) x y a b = a ∙ sym b
-file_one M size (Extent first) x y a b = a.1 ∙ sym b.1
-
 within_more : (M more : Medium) (first size : ℕ) → IsWithin M first size → IsWithin (M ++ more) first size
 within_more M more first size h = omega (arith, length-append M more)
 
 extent_more : (M more : Medium) (first size : ℕ) → IsWithin M first size → extent (M ++ more) first size ≡ extent M first size
 extent_more M more first size h = part-append (first + partition_start) (blocks_for size) M more h
 
-file_more : (M more : Medium) (size : ℕ) (place : NodePlace) (x : List ℕ) → HoldsFile M size place x → HoldsFile (M ++ more) size place x
-file_more M more size Nowhere x a = a
-file_more M more size (Inside inside) x a = a
-file_more M more size (Extent first) x a = (within_more M more first size a.0, a.1 ∙ ap (λ (bs : List Block). bytes_in_blocks size bs) (sym (extent_more M more first size a.0)))
-
 module _ (formats : Formats) where
+  file_one : (M : Medium) (size : ℕ) (place : NodePlace) (x y : List ℕ) → HoldsFile formats M size place x → HoldsFile formats M size place y → x ≡ y
+  file_one M size Nowhere x y a b = a ∙ sym b
+  file_one M size (Inside inside) x y a b = a ∙ sym b
+  file_one M size (Extent first) x y a b = a.1 ∙ sym b.1
+  file_one M size (Extents descriptors) x y a b = a.1 ∙ sym b.1
+
+  file_more : (M more : Medium) (size : ℕ) (place : NodePlace) (x : List ℕ) → HoldsFile formats M size place x → HoldsFile formats (M ++ more) size place x
+  file_more M more size Nowhere x a = a
+  file_more M more size (Inside inside) x a = a
+  file_more M more size (Extent first) x a = (within_more M more first size a.0, a.1 ∙ ap (λ (bs : List Block). bytes_in_blocks size bs) (sym (extent_more M more first size a.0)))
+  file_more M more size (Extents descriptors) x a = let stay = extents_stay M more size (formats.firsts descriptors) a.0 in (stay.0, a.1 ∙ sym stay.1)
+
   directory_more : (M more : Medium) (size : ℕ) (place : NodePlace) (parent : ℕ) (es : List Entry) → HoldsDirectory formats M size place parent es → HoldsDirectory formats (M ++ more) size place parent es
   directory_more M more size Nowhere parent es a = a
   directory_more M more size (Inside inside) parent es a = a
+  directory_more M more size (Extents descriptors) parent es a = a
   directory_more M more size (Extent first) parent es a =
       (within_more M more first size a.0, subst (λ (bs : List Block). formats.IsDirectory parent es first size bs) (sym (extent_more M more first size a.0)) a.1)
 
@@ -66,6 +70,7 @@ module _ (formats : Formats) where
     directory_one : (M : Medium) (size : ℕ) (place : NodePlace) (p q : ℕ) (es fs : List Entry) → HoldsDirectory formats M size place p es → HoldsDirectory formats M size place q fs → (p ≡ q) × (es ≡ fs)
     directory_one M size Nowhere p q es fs a b = absurd a
     directory_one M size (Inside inside) p q es fs a b = absurd a
+    directory_one M size (Extents descriptors) p q es fs a b = absurd a
     directory_one M size (Extent first) p q es fs a b = exact.directory first size (extent M first size) p q es fs a.1 b.1
 
     body_one : (M : Medium) (fields : NodeFields) (b c : Body) → HoldsBody formats M fields b → HoldsBody formats M fields c → b ≡ c

@@ -47,16 +47,16 @@ module _ (formats : Formats) where
       )
 
   file_held : (B : Medium) (bytes : List ℕ) (from : ℕ) (before : List Block) (place : NodePlace) (more : List Block) → partition_start ≤ length B → from ≡ length B - partition_start
-      → PlacesFile formats bytes from before place → HoldsFile (B ++ (before ++ more)) (length bytes) place bytes
-  file_held B bytes from before place more low is (nowhere size blocks at) = subst (λ p. HoldsFile (B ++ (before ++ more)) (length bytes) p bytes) (sym at) (empty bytes size)
+      → PlacesFile formats bytes from before place → HoldsFile formats (B ++ (before ++ more)) (length bytes) place bytes
+  file_held B bytes from before place more low is (nowhere size blocks at) = subst (λ p. HoldsFile formats (B ++ (before ++ more)) (length bytes) p bytes) (sym at) (empty bytes size)
     where
       empty : (xs : List ℕ) → length xs ≡ 0 → xs ≡ []
       empty [] e = refl
       empty (x ∷ xs) e = absurd (omega arith)
-  file_held B bytes from before place more low is (inside some few blocks at) = subst (λ p. HoldsFile (B ++ (before ++ more)) (length bytes) p bytes) (sym at) refl
+  file_held B bytes from before place more low is (inside some few blocks at) = subst (λ p. HoldsFile formats (B ++ (before ++ more)) (length bytes) p bytes) (sym at) refl
   file_held B bytes from before place more low is (outside many first placed at) =
       let held = placed_extent B bytes from first before more low is placed in
-      subst (λ p. HoldsFile (B ++ (before ++ more)) (length bytes) p bytes) (sym at) (held.0, sym (ap (λ (xs : List Block). bytes_in_blocks (length bytes) xs) held.1 ∙ bytes-packed bytes))
+      subst (λ p. HoldsFile formats (B ++ (before ++ more)) (length bytes) p bytes) (sym at) (held.0, sym (ap (λ (xs : List Block). bytes_in_blocks (length bytes) xs) held.1 ∙ bytes-packed bytes))
 
   directory_held : (B : Medium) (parent : ℕ) (entries : List Entry) (from : ℕ) (before : List Block) (place : NodePlace) (size : ℕ) (more : List Block) → partition_start ≤ length B → from ≡ length B - partition_start
       → (place ≡ Extent from) × (length before ≡ blocks_for size) × formats.IsDirectory parent entries from size before → HoldsDirectory formats (B ++ (before ++ more)) size place parent entries
@@ -70,7 +70,7 @@ module _ (formats : Formats) where
       → PlacesBody formats body from before place size
       → HoldsBody formats (B ++ (before ++ more)) (record { kind = kind_of_body body; moment = moment; links = links; identity = identity; size = size; place = place }) body
   body_held B (Bytes bytes) from before place size more moment links identity low is (count, places) =
-      (refl, subst (λ n. HoldsFile (B ++ (before ++ more)) n place bytes) (sym count) (file_held B bytes from before place more low is places))
+      (refl, subst (λ n. HoldsFile formats (B ++ (before ++ more)) n place bytes) (sym count) (file_held B bytes from before place more low is places))
   body_held B (Entries parent entries) from before place size more moment links identity low is places = (refl, directory_held B parent entries from before place size more low is places)
 
   -- a node that was written is stored where its entry leads

@@ -1,8 +1,8 @@
 -- Which state a medium recovers to, and which states it recovered to before.
-use Rattle.std.specs.Prelude.{◌≡◌, ℕ, zero, suc, ◌+◌, ◌*◌, ◌-◌, ◌<◌, ◌≤◌, List, [], ◌∷◌, length, take, drop, slice_get, Option, Some}
+use Rattle.std.specs.Prelude.{◌≡◌, ℕ, zero, suc, ◌+◌, ◌*◌, ◌-◌, ◌<◌, ◌≤◌, min, List, [], ◌∷◌, ◌++◌, length, take, drop, slice_get, Option, Some}
 use Rattle.std.specs.List.{flat_map}
 use Rattle.std.specs.Int.{div_ceil}
-use Rattle.limits.specs.declared.TheConstants.{BLOCK_BYTES, PARTITION_START, FORMAT_BLOCKS, FIRST_UNIQUE}
+use Rattle.limits.specs.declared.TheConstants.{BLOCK_BYTES, FILE_BYTES, PARTITION_START, FORMAT_BLOCKS, FIRST_UNIQUE}
 use Rattle.model.specs.Tree.{IsTree, files_of, directories_of}
 use Rattle.model.specs.Session.{State}
 use Rattle.model.specs.Graph.{Graph, Stored, Body, Entry, MakesTree}
@@ -10,7 +10,7 @@ use Rattle.model.specs.Graph.Body.{Bytes, Entries}
 use Rattle.model.specs.Identities.{HasIdentities}
 use Rattle.durability.specs.Formats.{Block, NodePlace, NodeFields, Table_, Formats}
 use Rattle.durability.specs.Formats.Kind.{Directory, File, Table}
-use Rattle.durability.specs.Formats.NodePlace.{Nowhere, Extent, Inside}
+use Rattle.durability.specs.Formats.NodePlace.{Nowhere, Extent, Extents, Inside}
 
 -- a medium: its blocks from address 0 on
 abbrev pub Medium : Type 0
@@ -34,16 +34,30 @@ extent medium first size = take (blocks_for size) (drop (first + partition_start
 abbrev pub bytes_in_blocks : ℕ → List Block → List ℕ
 bytes_in_blocks size blocks = take size (flat_map (λ b. b) blocks)
 
--- the bytes of a file
-abbrev pub HoldsFile : Medium → ℕ → NodePlace → List ℕ → Type 0
-HoldsFile medium size Nowhere bytes = bytes ≡ []
-HoldsFile medium size (Inside inside) bytes = bytes ≡ inside
-HoldsFile medium size (Extent first) bytes = IsWithin medium first size × (bytes ≡ bytes_in_blocks size (extent medium first size))
+-- so many bytes are on the medium in extents from these block numbers on, each but the last of FILE_BYTES
+abbrev pub AreWithin : Medium → ℕ → List ℕ → Type 0
+AreWithin medium size [] = size ≡ 0
+AreWithin medium size (first ∷ firsts) = (0 < size) × IsWithin medium first (min size FILE_BYTES) × AreWithin medium (size - FILE_BYTES) firsts
+
+-- the bytes in them, one extent after the other
+abbrev pub bytes_in_extents : Medium → ℕ → List ℕ → List ℕ
+bytes_in_extents medium size [] = []
+bytes_in_extents medium size (first ∷ firsts) =
+    bytes_in_blocks (min size FILE_BYTES) (extent medium first (min size FILE_BYTES)) ++ bytes_in_extents medium (size - FILE_BYTES) firsts
 
 module _ (formats : Formats) where
+  -- the bytes of a file
+  abbrev pub HoldsFile : Medium → ℕ → NodePlace → List ℕ → Type 0
+  HoldsFile medium size Nowhere bytes = bytes ≡ []
+  HoldsFile medium size (Inside inside) bytes = bytes ≡ inside
+  HoldsFile medium size (Extent first) bytes = IsWithin medium first size × (bytes ≡ bytes_in_blocks size (extent medium first size))
+  HoldsFile medium size (Extents descriptors) bytes =
+      AreWithin medium size (formats.firsts descriptors) × (bytes ≡ bytes_in_extents medium size (formats.firsts descriptors))
+
   abbrev pub HoldsDirectory : Medium → ℕ → NodePlace → ℕ → List Entry → Type 0
   HoldsDirectory medium size Nowhere parent entries = ⊥
   HoldsDirectory medium size (Inside inside) parent entries = ⊥
+  HoldsDirectory medium size (Extents descriptors) parent entries = ⊥
   HoldsDirectory medium size (Extent first) parent entries = IsWithin medium first size × formats.IsDirectory parent entries first size (extent medium first size)
 
   abbrev pub HoldsBody : Medium → NodeFields → Body → Type 0
