@@ -1,4 +1,5 @@
 pub mod Words
+pub mod Extents
 pub mod Formats
 pub mod Said
 pub mod NewVolume

@@ -12,7 +12,7 @@ use Rattle.icb.specs.declared.entry.Kind.{Kind as IcbKind}
 use Rattle.icb.specs.declared.entry.Kind.TheVariants as icb_kinds
 use Rattle.ecma.specs.Blocks.{block_count}
 use Rattle.icb.specs.Entry.{Place as IcbPlace, Fields as IcbFields, IsEntry}
-use Rattle.icb.specs.Entry.Place.{Nowhere as IcbNowhere, Extent as IcbExtent, Inside as IcbInside}
+use Rattle.icb.specs.Entry.Place.{Nowhere as IcbNowhere, Extent as IcbExtent, Extents as IcbExtents, Inside as IcbInside}
 use Rattle.icb.specs.VatIcb.{IsVatIcb}
 use Rattle.icb.proofs.EntryLaws.{same_fields}
 use Rattle.dir.specs.declared.entry.Entry.{Entry as DirEntry}
@@ -44,6 +44,7 @@ kind_back icb_kinds.Vat = refl
 place_back : (p : IcbPlace) → icb_place (said_place p) ≡ p
 place_back IcbNowhere = refl
 place_back (IcbExtent first) = refl
+place_back (IcbExtents descriptors) = refl
 place_back (IcbInside bytes) = refl
 
 fields_back : (f : IcbFields) → icb_fields (said_fields f) ≡ f

@@ -4,7 +4,7 @@ use Rattle.model.specs.Graph.{Entry}
 use Rattle.model.specs.Session.{Reply, ClientRecord}
 use Rattle.durability.specs.Formats.{Kind, NodePlace, NodeFields, Table_}
 use Rattle.durability.specs.Formats.Kind.{Directory, File, Table}
-use Rattle.durability.specs.Formats.NodePlace.{Nowhere, Extent, Inside}
+use Rattle.durability.specs.Formats.NodePlace.{Nowhere, Extent, Extents, Inside}
 use Rattle.icb.specs.Entry.{Fields as IcbFields}
 use Rattle.dir.specs.declared.entry.Entry.{Entry as DirEntry}
 use Rattle.vat.specs.declared.record.Record.{Record as VatRecord}
@@ -42,11 +42,18 @@ place_one : (a b : NodePlace) → icb_place a ≡ icb_place b → a ≡ b
 place_one Nowhere Nowhere e = refl
 place_one Nowhere (Extent m) e = absurd (cc)
 place_one Nowhere (Inside ys) e = absurd (cc)
+place_one Nowhere (Extents ys) e = absurd (cc)
 place_one (Extent n) Nowhere e = absurd (cc)
 place_one (Extent n) (Extent m) e = let same : n ≡ m = cc in ap (λ k. Extent k) same
 place_one (Extent n) (Inside ys) e = absurd (cc)
+place_one (Extent n) (Extents ys) e = absurd (cc)
+place_one (Extents xs) Nowhere e = absurd (cc)
+place_one (Extents xs) (Extent m) e = absurd (cc)
+place_one (Extents xs) (Inside ys) e = absurd (cc)
+place_one (Extents xs) (Extents ys) e = let same : xs ≡ ys = cc in ap (λ descriptors. Extents descriptors) same
 place_one (Inside xs) Nowhere e = absurd (cc)
 place_one (Inside xs) (Extent m) e = absurd (cc)
+place_one (Inside xs) (Extents ys) e = absurd (cc)
 place_one (Inside xs) (Inside ys) e = let same : xs ≡ ys = cc in ap (λ bytes. Inside bytes) same
 
 same_fields : (f g : NodeFields) → f.kind ≡ g.kind → f.moment ≡ g.moment → f.links ≡ g.links → f.identity ≡ g.identity → f.size ≡ g.size → f.place ≡ g.place → f ≡ g

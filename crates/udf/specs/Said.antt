@@ -5,14 +5,14 @@ use Rattle.model.specs.Graph.{Entry}
 use Rattle.model.specs.Session.{Reply, ClientRecord}
 use Rattle.durability.specs.Formats.{Block, Kind, NodePlace, NodeFields, Table_}
 use Rattle.durability.specs.Formats.Kind.{Directory, File, Table}
-use Rattle.durability.specs.Formats.NodePlace.{Nowhere, Extent, Inside}
+use Rattle.durability.specs.Formats.NodePlace.{Nowhere, Extent, Extents, Inside}
 use Rattle.durability.specs.Volume.{partition_start, blocks_for, IsVatIcbAt}
 use Rattle.durability.specs.Plan.{packed, IsClearStart}
 use Rattle.icb.specs.declared.entry.Kind.{Kind as IcbKind}
 use Rattle.icb.specs.declared.entry.Kind.TheVariants as icb_kinds
 use Rattle.ecma.specs.Blocks.{block_count}
 use Rattle.icb.specs.Entry.{Place as IcbPlace, Fields as IcbFields, IsEntry}
-use Rattle.icb.specs.Entry.Place.{Nowhere as IcbNowhere, Extent as IcbExtent, Inside as IcbInside}
+use Rattle.icb.specs.Entry.Place.{Nowhere as IcbNowhere, Extent as IcbExtent, Extents as IcbExtents, Inside as IcbInside}
 use Rattle.icb.specs.VatIcb.{IsVatIcb}
 use Rattle.dir.specs.declared.entry.Entry.{Entry as DirEntry}
 use Rattle.dir.specs.declared.entry.Kind.{Kind as DirKind}
@@ -34,6 +34,7 @@ said_kind icb_kinds.Vat = Table
 abbrev pub said_place : IcbPlace → NodePlace
 said_place IcbNowhere = Nowhere
 said_place (IcbExtent first) = Extent first
+said_place (IcbExtents descriptors) = Extents descriptors
 said_place (IcbInside bytes) = Inside bytes
 
 abbrev pub said_fields : IcbFields → NodeFields

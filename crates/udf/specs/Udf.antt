@@ -1,10 +1,11 @@
 -- The byte formats of this profile: what blocks and bytes stand for by the codecs.
-use Rattle.std.specs.Prelude.{◌≡◌, ℕ, ◌<◌, ◌≤◌, List, length, slice_index, All}
+use Rattle.std.specs.Prelude.{◌≡◌, ℕ, zero, suc, ◌/◌, ◌<◌, ◌≤◌, List, [], ◌∷◌, length, drop, slice_index, All}
 use Rattle.limits.specs.declared.TheConstants.{BLOCK_BYTES, PARTITION_BLOCKS}
 use Rattle.osta.specs.Compressed.{compressed}
 use Rattle.model.specs.Tree.{Name}
 use Rattle.model.specs.Graph.{Entry}
 use Rattle.durability.specs.Formats.{Block, Formats}
+use Rattle.ecma.specs.Numbers.{u32_at}
 use Rattle.icb.specs.Entry.{IsEntry}
 use Rattle.icb.specs.FileSet.{IsFileSet}
 use Rattle.dir.specs.Directory.{IsDirectory}
@@ -24,10 +25,16 @@ pub record HoldsDirectory (parent : ℕ) (entries : List Entry) (first size : �
   pub low : first ≤ PARTITION_BLOCKS
   pub is : IsDirectory parent (directory_entries entries) first size blocks
 
+-- the block numbers at which the extents of so many long descriptors begin
+abbrev pub firsts_in : ℕ → List ℕ → List ℕ
+firsts_in zero descriptors = []
+firsts_in (suc n) descriptors = u32_at 4 descriptors ∷ firsts_in n (drop 16 descriptors)
+
 -- A table may have its sessions in either version: what it says is the same.
 abbrev pub udf : Formats
 udf = record {
   IsEntry = λ fields block location. IsEntry (icb_fields fields) location block;
+  firsts = λ descriptors. firsts_in (length descriptors / 16) descriptors;
   IsFileSet = λ label moment block. IsFileSet (record { label = label; moment = moment }) block;
   IsDirectory = HoldsDirectory;
   IsTable = λ table icb bytes. (version : Version) × IsTableAt icb (table_of version table) bytes;

@@ -4,11 +4,11 @@ use Rattle.model.specs.Graph.{Entry}
 use Rattle.model.specs.Session.{Reply, ClientRecord}
 use Rattle.durability.specs.Formats.{Kind, NodePlace, NodeFields, Table_}
 use Rattle.durability.specs.Formats.Kind.{Directory, File, Table}
-use Rattle.durability.specs.Formats.NodePlace.{Nowhere, Extent, Inside}
+use Rattle.durability.specs.Formats.NodePlace.{Nowhere, Extent, Extents, Inside}
 use Rattle.icb.specs.declared.entry.Kind.{Kind as IcbKind}
 use Rattle.icb.specs.declared.entry.Kind.TheVariants as icb_kinds
 use Rattle.icb.specs.Entry.{Place as IcbPlace, Fields as IcbFields}
-use Rattle.icb.specs.Entry.Place.{Nowhere as IcbNowhere, Extent as IcbExtent, Inside as IcbInside}
+use Rattle.icb.specs.Entry.Place.{Nowhere as IcbNowhere, Extent as IcbExtent, Extents as IcbExtents, Inside as IcbInside}
 use Rattle.dir.specs.declared.entry.Entry.{Entry as DirEntry}
 use Rattle.dir.specs.declared.entry.Kind.{Kind as DirKind}
 use Rattle.dir.specs.declared.entry.Kind.TheVariants as dir_kinds
@@ -27,6 +27,7 @@ icb_kind_of Table = icb_kinds.Vat
 abbrev pub icb_place : NodePlace → IcbPlace
 icb_place Nowhere = IcbNowhere
 icb_place (Extent first) = IcbExtent first
+icb_place (Extents descriptors) = IcbExtents descriptors
 icb_place (Inside bytes) = IcbInside bytes
 
 abbrev pub icb_fields : NodeFields → IcbFields
