@@ -16,7 +16,7 @@ use Rattle.durability.specs.Torn.{RecoversToNothing}
 use Rattle.udf.specs.Udf.{udf, IsBlock}
 use Rattle.udf.specs.NewVolume.{root_fields, first_table, new_table_fields, IsNewVolume}
 use Rattle.recover.specs.declared.fault.StoreFault.{StoreFault}
-use Rattle.recover.specs.declared.fault.StoreFault.TheVariants.{NotBlank, Label, Small, Device, Memory, NotFormatted, Damaged, Full, Stopped, NoCommit, NotFound, IsDirectory as IsDirectoryFault, NotDirectory}
+use Rattle.recover.specs.declared.fault.StoreFault.TheVariants.{NotBlank, Label, Small, Device, Memory, NotFormatted, Damaged, Full, Stopped, NoCommit, NotFound, IsDirectory as IsDirectoryFault, NotDirectory, TooLong}
 use Rattle.formatting.specs.declared.parts.Parts.{Parts}
 
 -- what a volume is formatted with
@@ -134,3 +134,4 @@ IsFormatRefused capacity words before afterwards honest NoCommit = ⊥
 IsFormatRefused capacity words before afterwards honest NotFound = ⊥
 IsFormatRefused capacity words before afterwards honest IsDirectoryFault = ⊥
 IsFormatRefused capacity words before afterwards honest NotDirectory = ⊥
+IsFormatRefused capacity words before afterwards honest TooLong = ⊥

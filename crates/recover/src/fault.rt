@@ -50,6 +50,9 @@ pub enum StoreFault {
     /// A directory was asked for, and the path leads to a file.
     #[error("98 NotDirectory")]
     NotDirectory,
+    /// The whole file was asked for, and it has more than `limits::FILE_BYTES` bytes.
+    #[error("99 TooLong")]
+    TooLong,
 }
 
 impl From<DriveFault> for StoreFault {

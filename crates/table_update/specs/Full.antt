@@ -2,7 +2,7 @@
 use Rattle.std.specs.Prelude.{◌≡◌, Bool, true, false, IfErr, Result, Ok, Err}
 use Rattle.recover.specs.Faults.{devices}
 use Rattle.recover.specs.declared.fault.StoreFault.{StoreFault}
-use Rattle.recover.specs.declared.fault.StoreFault.TheVariants.{NotBlank, Label, Small, Device, Memory, NotFormatted, Damaged, Full, Stopped, NoCommit, NotFound, IsDirectory, NotDirectory}
+use Rattle.recover.specs.declared.fault.StoreFault.TheVariants.{NotBlank, Label, Small, Device, Memory, NotFormatted, Damaged, Full, Stopped, NoCommit, NotFound, IsDirectory, NotDirectory, TooLong}
 
 abbrev pub names_full : StoreFault → Bool
 names_full NotBlank = false
@@ -18,6 +18,7 @@ names_full NoCommit = false
 names_full NotFound = false
 names_full IsDirectory = false
 names_full NotDirectory = false
+names_full TooLong = false
 
 abbrev pub is_full : {T : Type 0} → Result T StoreFault → Bool
 is_full (Ok x) = false
