@@ -1,6 +1,7 @@
 pub mod BelowLemmas
 pub mod Blocks
 pub mod Expected
+pub mod Extents
 pub mod Forests
 pub mod Found
 pub mod Fronts

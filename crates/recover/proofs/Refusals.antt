@@ -14,7 +14,7 @@ use Rattle.model.specs.Identities.{HasIdentities}
 use Rattle.model.specs.Session.{State as ModelState}
 use Rattle.model.proofs.Lists.{bytes_eq-itself}
 use Rattle.durability.specs.Formats.{NodeFields, NodePlace, Table_}
-use Rattle.durability.specs.Formats.NodePlace.{Nowhere, Extent, Inside}
+use Rattle.durability.specs.Formats.NodePlace.{Nowhere, Extent, Extents, Inside}
 use Rattle.durability.specs.Volume.{HasTable, IsWithin, Describes, bytes_in_blocks, extent, graph_of}
 use Rattle.udf.specs.Said.{said_fields, model_table}
 use Rattle.udf.specs.Udf.{udf}
@@ -38,6 +38,7 @@ use Rattle.recover.proofs.Walks.{part_below}
 first_of : NodePlace → ℕ
 first_of Nowhere = 0
 first_of (Extent first) = first
+first_of (Extents descriptors) = 0
 first_of (Inside bytes) = 0
 
 module _ (M : List (List ℕ)) (at : ℕ) (low : PARTITION_START ≤ at) (long : at < length M) where

@@ -18,7 +18,7 @@ use Rattle.model.specs.Graph.Body.{Bytes, Entries}
 use Rattle.model.specs.Identities.{HasIdentities}
 use Rattle.model.specs.Tree.{IsTree, Node, Path, Tree, found_directory, found_identity, has_names}
 use Rattle.durability.specs.Formats.{NodeFields, NodePlace}
-use Rattle.durability.specs.Formats.NodePlace.{Nowhere, Extent as MediumExtent, Inside}
+use Rattle.durability.specs.Formats.NodePlace.{Nowhere, Extent as MediumExtent, Extents, Inside}
 use Rattle.durability.specs.Volume.{HoldsBody, HoldsDirectory, HoldsFile, IsStoredAt, extent, graph_of}
 use Rattle.udf.specs.Said.{said_entries, said_entry, names_directory}
 use Rattle.udf.specs.Udf.{IsBlock, udf}
@@ -34,6 +34,7 @@ use Rattle.recover.specs.Nodes.{data_of, links_of}
 use Rattle.recover.specs.Refused.{Expects, IsBodyRefused, IsNamesRefused, IsReachRefused, IsVisitRefused}
 use Rattle.recover.specs.IdSet.{marked}
 use Rattle.recover.specs.Walk.{Begun, HasFileEntry, LeadsTo, LiesBelow, extent_in, icb_kind, nodes_of, reached_in, uniques_in}
+use Rattle.recover.proofs.Extents.{extents_below}
 use Rattle.recover.proofs.Expected.{child_expects, drawn, not_deep, not_reached, not_seen}
 use Rattle.recover.proofs.Nodes.{extent_below}
 use Rattle.recover.proofs.Walks.{links_said, part_below}
@@ -51,15 +52,17 @@ file_links (Bytes bytes) kind d file = refl
 file_links (Entries parent entries) kind d file = absurd (true≢false (d ∙ ap is_directory file))
 
 module _ (M : List (List ℕ)) (at : ℕ) (long : length M ≤ at) where
-  file_within : (size : ℕ) (place : NodePlace) (bytes : List ℕ) → HoldsFile M size place bytes → IfSome (extent_in size (icb_place place)) (λ (e : Extent). e.first + PARTITION_START + div_ceil e.size BLOCK_BYTES ≤ at)
+  file_within : (size : ℕ) (place : NodePlace) (bytes : List ℕ) → HoldsFile udf M size place bytes → IfSome (extent_in size (icb_place place)) (λ (e : Extent). e.first + PARTITION_START + div_ceil e.size BLOCK_BYTES ≤ at)
   file_within size Nowhere bytes h = tt
   file_within size (MediumExtent first) bytes h = (let w = h.0 in omega (arith, w, long))
+  file_within size (Extents descriptors) bytes h = extents_below at M long size (udf.firsts descriptors) h.0
   file_within size (Inside inside) bytes h = tt
 
   directory_within : (size : ℕ) (place : NodePlace) (parent : ℕ) (entries : List Entry) → HoldsDirectory udf M size place parent entries
       → IfSome (extent_in size (icb_place place)) (λ (e : Extent). e.first + PARTITION_START + div_ceil e.size BLOCK_BYTES ≤ at)
   directory_within size Nowhere parent entries h = tt
   directory_within size (MediumExtent first) parent entries h = (let w = h.0 in omega (arith, w, long))
+  directory_within size (Extents descriptors) parent entries h = absurd h
   directory_within size (Inside inside) parent entries h = tt
 
   body_within : (fields : NodeFields) (body : Body) → HoldsBody udf M fields body → IfSome (extent_in fields.size (icb_place fields.place)) (λ (e : Extent). e.first + PARTITION_START + div_ceil e.size BLOCK_BYTES ≤ at)
@@ -71,6 +74,7 @@ directory_at : (M : List (List ℕ)) (size : ℕ) (place : NodePlace) (parent : 
     → All IsBlock (extent M e.first e.size) × IsDirectory parent (directory_entries entries) e.first e.size (extent M e.first e.size)
 directory_at M size Nowhere parent entries e some h = absurd h
 directory_at M size (Inside inside) parent entries e some h = absurd h
+directory_at M size (Extents descriptors) parent entries e some h = absurd h
 directory_at M size (MediumExtent first) parent entries e some h =
     subst (λ (x : Extent). All IsBlock (extent M x.first x.size) × IsDirectory parent (directory_entries entries) x.first x.size (extent M x.first x.size)) (same_Some (record { first = first; size = size }) e some) (h.1.blocks_are, h.1.is)
 

@@ -85,9 +85,13 @@ pub has_table : (M : List (List ℕ)) (at : ℕ) (e : TableEntry) (t : Table) (b
     → IsTableAt (at - PARTITION_START) t bytes → HasTableAt M at t
 has_table M at e t bytes is below same table = record { entry = e; is_entry = is; below = below; is = subst (IsTableAt (at - PARTITION_START) t) same table }
 
--- bytes that are nowhere or inside an entry are a file's
+-- bytes that are nowhere, in several extents or inside an entry are a file's
 pub nowhere_is_file : (kind : Kind) (size : ℕ) (place : source.Place) → FitsPlace kind size (place_of place) → place ≡ source_places.None → kind ≡ kinds.Vat → ⊥
 nowhere_is_file kind size place fits is vat =
+    let f = subst (λ (p : source.Place). FitsPlace kind size (place_of p)) is fits in let file = f.0 in cc
+
+pub extents_are_file : (kind : Kind) (size : ℕ) (place : source.Place) (descriptors : Bor (List ℕ)) → FitsPlace kind size (place_of place) → place ≡ source_places.Extents descriptors → kind ≡ kinds.Vat → ⊥
+extents_are_file kind size place descriptors fits is vat =
     let f = subst (λ (p : source.Place). FitsPlace kind size (place_of p)) is fits in let file = f.0 in cc
 
 pub inside_is_file : (kind : Kind) (size : ℕ) (place : source.Place) (bytes : Bor (List ℕ)) → FitsPlace kind size (place_of place) → place ≡ source_places.Inside bytes → kind ≡ kinds.Vat → ⊥

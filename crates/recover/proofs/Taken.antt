@@ -29,10 +29,6 @@ use Rattle.recover.proofs.Walks.{links_said}
 
 -- ---- an entry
 
-pub ends_below : (at : ℕ) (o : Option Extent) → IfSome o (LiesBelow at) → IfSome o (λ (e : Extent). e.first + PARTITION_START + div_ceil e.size BLOCK_BYTES ≤ at)
-ends_below at None below = tt
-ends_below at (Some e) below = below.below
-
 module _ (M : List (List ℕ)) (before : Walk) (entry_at : ℕ) (node : Named) (block : List ℕ) (there : slice_get M entry_at ≡ Some block) where
   -- what the node would say of itself
   abbrev Suits : Fields → Type 0

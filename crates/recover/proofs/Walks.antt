@@ -11,8 +11,10 @@ use Rattle.std.proofs.lemmas.List.Sums.{sum_by-cons}
 use Rattle.std.proofs.lemmas.Option.{get_or_from_slice_get, none-some, same_Some, slice_get_within}
 use Rattle.limits.specs.declared.TheConstants.{BLOCK_BYTES, PARTITION_START}
 use Rattle.drive.specs.Journal.{Event, held}
-use Rattle.icb.specs.Entry.{Place}
-use Rattle.icb.specs.Entry.Place.{Nowhere, Extent as IcbExtent, Inside}
+use Rattle.icb.specs.declared.entry.Kind.{Kind as IcbKind}
+use Rattle.icb.specs.declared.entry.Kind.TheVariants as icb_kinds
+use Rattle.icb.specs.Entry.{FitsPlace, Place}
+use Rattle.icb.specs.Entry.Place.{Nowhere, Extent as IcbExtent, Extents, Inside}
 use Rattle.dir.specs.declared.entry.Dir.{Dir}
 use Rattle.dir.specs.declared.entry.Entry.{Entry as DirEntry}
 use Rattle.dir.specs.declared.entry.Kind.{Kind}
@@ -22,7 +24,7 @@ use Rattle.model.specs.Tree.{Name}
 use Rattle.model.specs.Graph.{Graph, Stored, Entry, entries_of, is_directory as stored_is_directory}
 use Rattle.model.specs.Graph.Body.{Bytes, Entries}
 use Rattle.durability.specs.Formats.Kind.{File as MediumFile, Directory as MediumDirectory}
-use Rattle.durability.specs.Volume.{HoldsFile, HoldsDirectory, bytes_in_blocks, extent, graph_of}
+use Rattle.durability.specs.Volume.{HoldsFile, HoldsDirectory, bytes_in_blocks, bytes_in_extents, extent, graph_of}
 use Rattle.udf.specs.Said.{said_entries, said_entry, said_fields, said_kind, said_place, names_directory}
 use Rattle.udf.specs.Udf.{IsBlock, udf}
 use Rattle.udf.proofs.Said.{entries_agree, directories_agree}
@@ -33,6 +35,7 @@ use Rattle.recover.specs.declared.walk.Walk.{Walk}
 use Rattle.recover.specs.Forest.{Forest, IsSeen, IsWalked, IsAssigned, AreAssigned, Adds, InsertsNumber, Numbers, by_address, by_identity, entries_named, height, files_in, directories_in}
 use Rattle.recover.specs.Forest.Forest.{End, Seen}
 use Rattle.recover.specs.Nodes.{data_of}
+use Rattle.recover.proofs.Extents.{ends_below, extents_within}
 use Rattle.recover.specs.Walk.{Begun, CountsWalk, HasFileEntry, HasListing, LeadsTo, LiesBelow, Tallied, Visits, extent_in, icb_kind, nodes_of, reached_in, uniques_in}
 
 -- ---- parts of a medium
@@ -154,20 +157,23 @@ more_counts before now after depth a i s t n f b next c d =
 file_bytes : List (List ℕ) → ℕ → Place → List ℕ
 file_bytes M size Nowhere = []
 file_bytes M size (IcbExtent first) = bytes_in_blocks size (extent M first size)
+file_bytes M size (Extents descriptors) = bytes_in_extents M size (udf.firsts descriptors)
 file_bytes M size (Inside bytes) = bytes
 
 module _ (M : List (List ℕ)) (at : ℕ) (long : at ≤ length M) where
-  holds_file : (size : ℕ) (place : Place) → IfSome (extent_in size place) (LiesBelow at) → HoldsFile M size (said_place place) (file_bytes M size place)
+  holds_file : (kind : IcbKind) (size : ℕ) (place : Place) → FitsPlace kind size place → IfSome (extent_in size place) (LiesBelow at) → HoldsFile udf M size (said_place place) (file_bytes M size place)
   unfolding file_bytes
-  holds_file size Nowhere below = refl
-  holds_file size (IcbExtent first) below = (let b = below.below in omega (arith, b, long), refl)
-  holds_file size (Inside bytes) below = refl
+  holds_file kind size Nowhere fits below = refl
+  holds_file kind size (IcbExtent first) fits below = (let b = below.below in omega (arith, b, long), refl)
+  holds_file kind size (Extents descriptors) fits below = (extents_within at M long size descriptors fits.2 (ends_below at (extent_in size (Extents descriptors)) below), refl)
+  holds_file kind size (Inside bytes) fits below = refl
 
-  holds_directory : (size : ℕ) (place : Place) (e : Extent) (parent : ℕ) (entries : List Entry) → extent_in size place ≡ Some e → LiesBelow at e
+  holds_directory : (size : ℕ) (place : Place) (e : Extent) (parent : ℕ) (entries : List Entry) → FitsPlace icb_kinds.Directory size place → extent_in size place ≡ Some e → LiesBelow at e
       → udf.IsDirectory parent entries e.first e.size (extent M e.first e.size) → HoldsDirectory udf M size (said_place place) parent entries
-  holds_directory size Nowhere e parent entries some below is = absurd (none-some e some)
-  holds_directory size (Inside bytes) e parent entries some below is = absurd (none-some e some)
-  holds_directory size (IcbExtent first) e parent entries some below is =
+  holds_directory size Nowhere e parent entries fits some below is = absurd (none-some e some)
+  holds_directory size (Inside bytes) e parent entries fits some below is = absurd (none-some e some)
+  holds_directory size (Extents descriptors) e parent entries fits some below is = absurd (let file = fits.0 in cc)
+  holds_directory size (IcbExtent first) e parent entries fits some below is =
       let same : record { first = first; size = size } ≡ e = same_Some _ e some in
       let b = below.below in
       subst (λ (x : Extent). HoldsDirectory udf M x.size (said_place (IcbExtent x.first)) parent entries) (sym same) (omega (arith, b, long), is)
@@ -183,7 +189,7 @@ module _ (M : List (List ℕ)) (table : List (Option ℕ)) (node : Named) (body 
   file_seen at long file below =
       let f = entry.fields in
       let bytes = file_bytes M f.size f.place in
-      let holds = holds_file M at long f.size f.place (subst (λ (o : Option Extent). IfSome o (LiesBelow at)) entry.extent below) in
+      let holds = holds_file M at long f.kind f.size f.place entry.is.fits.place (subst (λ (o : Option Extent). IfSome o (LiesBelow at)) entry.extent below) in
       let kind : said_kind f.kind ≡ MediumFile = ap said_kind (entry.kind ∙ ap icb_kind file) in (
         record { identity = f.unique; moment = f.moment; links = f.links; body = Bytes bytes },
         record {
@@ -236,7 +242,8 @@ module _ (H : List (List ℕ)) (table : List (Option ℕ)) (node : Named) (body 
       let are = subst (All IsBlock) same names.are in
       let is = subst (λ blocks. IsDirectory directory.parent es e.first e.size blocks) same names.is in
       let said = (directories_agree directory.parent e.first e.size es (extent (take at H) e.first e.size) are below.first).0 is in
-      let holds = holds_directory (take at H) at long f.size f.place e directory.parent (said_entries es) (sym entry.extent ∙ some) below said in
+      let fits = subst (λ (k : IcbKind). FitsPlace k f.size f.place) (entry.kind ∙ ap icb_kind kind) entry.is.fits.place in
+      let holds = holds_directory (take at H) at long f.size f.place e directory.parent (said_entries es) fits (sym entry.extent ∙ some) below said in
       let kind_is : said_kind f.kind ≡ MediumDirectory = ap said_kind (entry.kind ∙ ap icb_kind kind) in
       let count = links_said es in (
         record { identity = f.unique; moment = f.moment; links = f.links; body = Entries directory.parent (said_entries es) },

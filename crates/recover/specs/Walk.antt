@@ -1,12 +1,12 @@
 -- What the walk through the nodes of a tree sees, and what it keeps.
-use Rattle.std.specs.Prelude.{◌≡◌, ℕ, ◌+◌, ◌<◌, ◌≤◌, ◌^◌, ◌-◌, Bool, IsTrue, List, [], Option, Some, None, IfSome, true, take, slice_get, All}
+use Rattle.std.specs.Prelude.{◌≡◌, ℕ, ◌+◌, ◌<◌, ◌≤◌, ◌^◌, ◌-◌, nat_lt, if◌then◌else◌, min, Bool, IsTrue, List, [], ◌∷◌, Option, Some, None, IfSome, true, take, slice_get, All}
 use Rattle.std.specs.Int.{div_ceil}
-use Rattle.limits.specs.declared.TheConstants.{BLOCK_BYTES, PARTITION_START, PARTITION_BLOCKS, PATH_NAMES}
+use Rattle.limits.specs.declared.TheConstants.{BLOCK_BYTES, FILE_BYTES, PARTITION_START, PARTITION_BLOCKS, PATH_NAMES}
 use Rattle.drive.specs.Journal.{Event, held, next_of}
 use Rattle.icb.specs.declared.entry.Kind.{Kind as IcbKind}
 use Rattle.icb.specs.declared.entry.Kind.TheVariants as icb_kinds
 use Rattle.icb.specs.Entry.{Fields, Place, IsEntry}
-use Rattle.icb.specs.Entry.Place.{Nowhere, Extent as IcbExtent, Inside}
+use Rattle.icb.specs.Entry.Place.{Nowhere, Extent as IcbExtent, Extents, Inside}
 use Rattle.dir.specs.declared.entry.Dir.{Dir}
 use Rattle.dir.specs.declared.entry.Entry.{Entry as DirEntry}
 use Rattle.dir.specs.declared.entry.Kind.{Kind}
@@ -35,10 +35,25 @@ abbrev pub icb_kind : Kind → IcbKind
 icb_kind File = icb_kinds.File
 icb_kind Directory = icb_kinds.Directory
 
--- where the bytes of a node lie, if blocks hold them
+-- the block number after its last block
+abbrev pub end_of : Extent → ℕ
+end_of extent = extent.first + div_ceil extent.size BLOCK_BYTES
+
+-- an extent, or one before it that ends after it
+abbrev pub later_of : Option Extent → Extent → Extent
+later_of None extent = extent
+later_of (Some last) extent = if nat_lt (end_of last) (end_of extent) then extent else last
+
+-- the one that ends last, of one and those of so many bytes from these block numbers on, each but the last of FILE_BYTES
+abbrev pub last_of : Option Extent → ℕ → List ℕ → Option Extent
+last_of last size [] = last
+last_of last size (first ∷ firsts) = last_of (Some (later_of last (record { first = first; size = min size FILE_BYTES }))) (size - FILE_BYTES) firsts
+
+-- where the bytes of a node lie, if blocks hold them: of several extents, the one that ends last
 abbrev pub extent_in : ℕ → Place → Option Extent
 extent_in size Nowhere = None
 extent_in size (IcbExtent first) = Some (record { first = first; size = size })
+extent_in size (Extents descriptors) = last_of None size (udf.firsts descriptors)
 extent_in size (Inside bytes) = None
 
 -- the entry of a node is at this address, is what the directory above says, and says this

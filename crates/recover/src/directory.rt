@@ -24,6 +24,18 @@ pub struct Extent {
     pub size: u32,
 }
 
+impl Extent {
+    ghost use Rattle.std.specs.Prelude.{◌≡◌};
+    ghost use Rattle.recover.specs.Walk.{end_of};
+
+    /// The block number after its last block.
+    pub(crate) fn end(self) -> u64
+        ensures { result ≡ end_of self }
+    {
+        u64::from(self.first) + u64::from(block_count(self.size))
+    }
+}
+
 /// Reads the directory whose bytes are at `extent`.
 pub fn read_directory<D: Drive>(
     alloc: Global,

@@ -97,6 +97,7 @@ fn data_start(entry: &FileEntry<'_>) -> Option<u32>
     match entry.place {
         Place::Extent(first) => Some(first),
         Place::None => None,
+        Place::Extents(_) => None,
         Place::Inside(_) => None,
     }
 }

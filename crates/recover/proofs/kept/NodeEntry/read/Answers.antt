@@ -30,3 +30,6 @@ returns-in-Err-clause-refused g c = rw c.damaged.ensures (λ h. (
       let same = same_Some block c.read_into.new.block (sym there ∙ held_at _ _ _ c.requires (c.in_ok-read_into.ensures.read h)) in
       c.in-Err.ensures.only fields (subst (IsEntry fields c.args.place.address) same is),
 ))
+
+pub extent_of-requires : goal.extent_of-requires
+extent_of-requires g c = record { place = c.in-Ok.ensures.found.fits.place; limit = c.in-Ok.ensures.found.fits.size }

@@ -9,7 +9,8 @@ use Rattle.recover.specs.declared.directory.Extent.{Extent}
 use Rattle.recover.specs.Walk.{LiesBelow}
 use Rattle.recover.proofs.Held.{lies_there}
 use Rattle.recover.proofs.Nodes.{extent_lies}
-use Rattle.recover.proofs.Taken.{ends_below, other_entry, unread}
+use Rattle.recover.proofs.Extents.{ends_below}
+use Rattle.recover.proofs.Taken.{other_entry, unread}
 use Rattle.recover.proofs.walk.Walk.read_entry.Goals.{then-not-is_kind-via-then-not-is_kind, then-not-is_kind-via-else-not-is_kind+then-entry-from, then-not-is_new-via-then-not-is_new, then-not-is_new-via-else-not-is_new+then-not-has_links}
 use Rattle.recover.proofs.walk.Walk.read_entry.Goals as goal
 

@@ -1,0 +1,36 @@
+use Rattle.std.proofs.Common.{◌≡◌, ℕ, ◌+◌, ◌-◌, ◌*◌, ◌/◌, List, Option, None, Some, drop, length, sym, ap, ◌∙◌, arith}
+use Rattle.limits.specs.declared.TheConstants.{FILE_BYTES}
+use Rattle.ecma.specs.Numbers.{u32_at}
+use Rattle.icb.specs.Entry.{extent_count, extent_size}
+use Rattle.udf.specs.Udf.{firsts_in}
+use Rattle.recover.specs.declared.directory.Extent.{Extent}
+use Rattle.recover.specs.Walk.{last_of, later_of}
+use Rattle.recover.proofs.Extents.{extent_at, last_more, last_none}
+use Rattle.recover.proofs.kept.last_extent.Goals as goal
+
+pub loop-index-init : goal.loop-index-init
+loop-index-init c =
+    ap (λ (n : ℕ). last_of None n (firsts_in (extent_count c.args.size - 0) c.args.descriptors.now)) (let e : c.args.size - 0 ≡ c.args.size = omega arith in e)
+    ∙ ap (λ (n : ℕ). last_of None c.args.size (firsts_in n c.args.descriptors.now)) (let e : extent_count c.args.size - 0 ≡ extent_count c.args.size = omega arith in e)
+
+pub loop-index-preserved : goal.loop-index-preserved
+loop-index-preserved c =
+    let size = c.args.size in
+    let descriptors = c.args.descriptors.now in
+    let k = c.loop-index.index in
+    let later : c.later.result ≡ later_of c.loop-index.last (extent_at (u32_at (16 * k + 4) descriptors) (extent_size size k)) =
+    c.later.ensures ∙ ap (λ (n : ℕ). later_of c.loop-index.last (extent_at n c.extent_size.result)) c.extent_first.ensures
+    ∙ ap (λ (n : ℕ). later_of c.loop-index.last (extent_at (u32_at (16 * k + 4) descriptors) n)) c.extent_size.ensures.size in
+    ap (λ (e : Extent). last_of (Some e) (size - FILE_BYTES * (k + 1)) (firsts_in (extent_count size - (k + 1)) (drop (16 * (k + 1)) descriptors))) later
+    ∙ sym (last_more c.loop-index.last size (extent_count size) k descriptors (omega (arith, c.loop-index-test.true, c.extent_count-index-end.ensures.count)))
+    ∙ c.loop-index.invariant
+
+pub returns : goal.returns
+returns c =
+    let size = c.args.size in
+    let descriptors = c.args.descriptors.now in
+    let k = c.loop-index.index in
+    let count : extent_count size ≡ length descriptors / 16 = omega (arith, c.requires.long) in
+    sym (last_none c.loop-index.last (size - FILE_BYTES * k) (extent_count size) k descriptors (omega (arith, c.loop-index-test.false, c.extent_count-index-end.ensures.count)))
+    ∙ c.loop-index.invariant
+    ∙ ap (λ (n : ℕ). last_of None size (firsts_in n descriptors)) count
