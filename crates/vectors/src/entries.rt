@@ -4,7 +4,7 @@ use crate::compare::{block_of, fault, words_of};
 use crate::texts::tell_label;
 use crate::trouble::Trouble;
 use ecma::Block;
-use icb::{FileEntry, Kind, Place, decode_fe, decode_fsd, encode_fe, encode_fsd};
+use icb::{FileEntry, Kind, Place, decode_fe, decode_fsd, encode_fe, encode_fsd, extent_first};
 use std::alloc::Global;
 use std::fmt::Write;
 use words::show_bytes;
@@ -52,10 +52,20 @@ fn tell_place(place: &Place<'_>, out: &mut String) -> Result<(), Trouble> {
     match *place {
         Place::None => out.push_str("nowhere")?,
         Place::Extent(first) => write!(out, "extent {first}")?,
+        Place::Extents(descriptors) => tell_extents(descriptors, out)?,
         Place::Inside(bytes) => {
             out.push_str("inside ")?;
             show_bytes(bytes, out)?;
         }
+    }
+    Ok(())
+}
+
+/// Where each of the extents begins.
+fn tell_extents(descriptors: &[u8], out: &mut String) -> Result<(), Trouble> {
+    out.push_str("extents")?;
+    for index in 0..descriptors.len() / 16 {
+        write!(out, " {}", extent_first(descriptors, index))?;
     }
     Ok(())
 }
