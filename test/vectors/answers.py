@@ -21,7 +21,7 @@ def answers() -> Vectors:
         _answer(v, f"code-{code}", OLD + "replies", code, struct.pack("<I", 1), f"code {code} commit 1")
     v.about("Answers with nothing after their code.")
     for code, said in [(34, "clients-full"), (35, "full"), (36, "failed"), (37, "memory"), (39, "damaged"), (96, "not-found"),
-                       (97, "is-directory"), (98, "not-directory")]:
+                       (97, "is-directory"), (98, "not-directory"), (99, "too-long")]:
         _answer(v, said, OLD + "answers_without_a_field", code, b"", said)
     v.about("Answers with fields.")
     of = OLD + "answers_with_fields"
@@ -34,6 +34,7 @@ def answers() -> Vectors:
     v.about("The conversation of docs/PROTOCOL.md, and empty fields.")
     of = "docs::PROTOCOL"
     _answer(v, "talk-get", of, 64, data(b"bye"), 'data "bye"')
+    _answer(v, "talk-read", of, 64, data(b"ell"), 'data "ell"')
     _answer(v, "talk-stat", of, 66, struct.pack("<BQQ", 1, 0, 1), "node directory moment 0 size 1")
     _answer(v, "an-empty-file", of, 64, data(b""), "data")
     _answer(v, "an-empty-directory", of, 65, listed(), "names")

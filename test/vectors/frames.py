@@ -7,8 +7,9 @@ from writing import Vectors, digits, shown, told
 OLD = "base_tests::messages::"
 FIRST = "codec_tests::first_faults::"
 
-KINDS = {"create": 1, "replace": 2, "make": 3, "rename": 4, "remove": 5, "get": 16, "list": 17, "stat": 18}
+KINDS = {"create": 1, "replace": 2, "make": 3, "rename": 4, "remove": 5, "get": 16, "list": 17, "stat": 18, "read": 19}
 LIMIT = 4_102_444_800_000_000
+COUNT = 1_048_576
 
 
 def path(*names: str) -> bytes:
@@ -21,6 +22,10 @@ def request(kind: str, client: int, number: int, moment: int, *fields: bytes) ->
 
 def data(content: bytes) -> bytes:
     return struct.pack("<I", len(content)) + content
+
+
+def read(offset: int, count: int, *names: str) -> bytes:
+    return bytes([KINDS["read"]]) + path(*names) + struct.pack("<QI", offset, count)
 
 
 def frame(payload: bytes) -> bytes:
@@ -61,6 +66,12 @@ def _kinds(v: Vectors) -> None:
     _payload(v, "get", of, bytes([16]) + path("a"), 'get path "a"')
     _payload(v, "list", of, bytes([17]) + path(), "list path")
     _payload(v, "stat", of, bytes([18]) + path("a"), 'stat path "a"')
+    of = "docs::PROTOCOL"
+    _payload(v, "read", of, read(1, 3, "a"), 'read offset 1 count 3 path "a"')
+    _payload(v, "read-nothing", of, read(0, 0, "a"), 'read offset 0 count 0 path "a"')
+    _payload(v, "read-the-root", of, read(0, 1), "read offset 0 count 1 path")
+    _payload(v, "read-a-piece", of, read(116 * COUNT, COUNT, "d", "b"), f'read offset {116 * COUNT} count {COUNT} path "d" "b"')
+    _payload(v, "read-from-the-last-offset", of, read((1 << 64) - 1, COUNT, "a"), f'read offset {(1 << 64) - 1} count {COUNT} path "a"')
     v.about("The conversation of docs/PROTOCOL.md.")
     of = "docs::PROTOCOL"
     _payload(v, "talk-make", of, request("make", 7, 2, 0, path("d")), 'make client 7 number 2 moment 0 path "d"')
@@ -87,6 +98,14 @@ def _faults(v: Vectors) -> None:
     ]:
         _payload(v, name, of, payload, f"malformed {cause}")
     _payload(v, "the-last-moment", of, edited(17, struct.pack("<Q", LIMIT - 1)), SAID.replace("moment 0", f"moment {LIMIT - 1}"))
+    one = read(1, 3, "a")
+    for name, payload, cause in [
+        ("read-no-kind-after-it", b"\x14" + one[1:], 52), ("read-a-byte-behind", one + b"\0", 54), ("read-above-the-limit", read(0, COUNT + 1, "a"), 54),
+        ("read-above-the-limit-and-a-byte-behind", read(0, COUNT + 1, "a") + b"\0", 54), ("read-a-slash", read(0, COUNT + 1, "/"), 55),
+    ]:
+        _payload(v, name, "docs::PROTOCOL", payload, f"malformed {cause}")
+    for length in range(1, len(one)):
+        _payload(v, f"read-front-of-{length}", "docs::PROTOCOL", one[:length], "malformed 53")
     v.about("Each prefix of the create ends inside a field or before one (53).")
     for length in range(len(CREATE)):
         _payload(v, f"front-of-{length}", OLD + "shorter_payloads", CREATE[:length], "malformed 53")

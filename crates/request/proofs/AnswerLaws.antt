@@ -126,7 +126,8 @@ answer_in n body =
     (cond (eqb n 65) (answer.Names (names_in (from_le_bytes w16 (take 2 body)) (drop 2 body)))
     (cond (eqb n 66) (answer.Node (record { kind = kind_named (get_or body 0 0); moment = from_le_bytes w64 (take 8 (drop 1 body)); size = from_le_bytes w64 (drop 9 body) }))
     (cond (eqb n 96) answer.NotFound
-    (cond (eqb n 97) answer.IsDirectory answer.NotDirectory)))))))))))))
+    (cond (eqb n 97) answer.IsDirectory
+    (cond (eqb n 98) answer.NotDirectory answer.TooLong))))))))))))))
 
 answer_again : (a : Answer) → IsAnswer a → answer_in (answer_code a) (answer_body a) ≡ a
 unfolding answer_in
@@ -143,6 +144,7 @@ answer_again answer.Damaged good = refl
 answer_again answer.NotFound good = refl
 answer_again answer.IsDirectory good = refl
 answer_again answer.NotDirectory good = refl
+answer_again answer.TooLong good = refl
 answer_again (answer.Data bytes) good = refl
 answer_again (answer.Names names) good =
     let few : length names < 2 ^ 16 = omega (arith, good.few) in
@@ -163,6 +165,7 @@ code_fits answer.Damaged = omega arith
 code_fits answer.NotFound = omega arith
 code_fits answer.IsDirectory = omega arith
 code_fits answer.NotDirectory = omega arith
+code_fits answer.TooLong = omega arith
 code_fits (answer.Data bytes) = omega arith
 code_fits (answer.Names names) = omega arith
 code_fits (answer.Node status) = omega arith
@@ -180,6 +183,7 @@ payload_fits answer.Damaged good = omega arith
 payload_fits answer.NotFound good = omega arith
 payload_fits answer.IsDirectory good = omega arith
 payload_fits answer.NotDirectory good = omega arith
+payload_fits answer.TooLong good = omega arith
 payload_fits (answer.Data bytes) good = omega arith
 payload_fits (answer.Names names) good = omega (arith, length_of_names names good.named, good.few)
 payload_fits (answer.Node status) good = omega arith

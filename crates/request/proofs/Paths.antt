@@ -12,7 +12,7 @@ use Rattle.osta.specs.Name.{IsName}
 use Rattle.request.specs.declared.message.Cause.TheVariants as cause
 use Rattle.request.specs.Spelling.{name_field, path_field, data_field}
 use Rattle.request.specs.Path.{IsPath}
-use Rattle.request.specs.Reading.{◌>>=◌, number_at, is_name, tested_name, name_at, names_at, path_at, data_at}
+use Rattle.request.specs.Reading.{◌>>=◌, number_at, is_name, tested_name, name_at, names_at, path_at, data_at, count_at}
 use Rattle.request.proofs.Names.{IsName-from_is_name, passes, short_name}
 use Rattle.request.proofs.Fields.{IsBytes, IsBytes-drop, IsBytes-rest, bind_ok, guard_passed, guard_met, ok_is, Takes, Takes-then, wide16, wide32, number_takes, number_again}
 
@@ -100,3 +100,18 @@ data_again bytes rest few =
     let within : ltb FILE_BYTES (length bytes) ≡ false = le-ltb _ _ few in
     let long : ltb (length (bytes ++ rest)) (length bytes) ≡ false = le-ltb _ _ (omega (arith, length-append bytes rest)) in
     rw (number_again w32 (2 ^ 32) wide32 (length bytes) (bytes ++ rest) (omega arith), within, long, take_at bytes rest (length bytes) refl, drop_at bytes rest (length bytes) refl) refl
+
+pub count_takes : (bytes : List ℕ) (x : ℕ × List ℕ) → IsBytes bytes → count_at bytes ≡ Ok x → Takes bytes (to_le_bytes w32 x.0) x.1 × (x.0 ≤ FILE_BYTES)
+unfolding count_at
+count_takes bytes x fits e =
+    let b = bind_ok (number_at w32 bytes) (λ n. cond (ltb FILE_BYTES n.0) (Err cause.Extra) (Ok n)) x e in
+    let g = guard_passed (ltb FILE_BYTES b.0.0) cause.Extra (Ok b.0) x b.2 in
+    let t = number_takes w32 (2 ^ 32) wide32 bytes b.0.0 b.0.1 fits b.1 in
+    let few : b.0.0 ≤ FILE_BYTES = ltb-false _ _ g.0 in
+    subst (λ (y : ℕ × List ℕ). Takes bytes (to_le_bytes w32 y.0) y.1 × (y.0 ≤ FILE_BYTES)) (ok_is b.0 x g.1) (t.0, few)
+
+pub count_again : (count : ℕ) (rest : List ℕ) → count ≤ FILE_BYTES → count_at (to_le_bytes w32 count ++ rest) ≡ Ok (count, rest)
+unfolding count_at
+count_again count rest few =
+    let within : ltb FILE_BYTES count ≡ false = le-ltb _ _ few in
+    rw (number_again w32 (2 ^ 32) wide32 count rest (omega (arith, few)), within) refl

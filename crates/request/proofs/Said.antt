@@ -1,7 +1,7 @@
 -- Whole payloads: what is read is spelled so, and what is spelled so is read.
 use Rattle.std.proofs.Common.{◌≡◌, ℕ, zero, suc, ◌^◌, ◌<◌, Bool, true, false, cond, eqb, ltb, List, [], ◌∷◌, ◌++◌, length, Option, Some, None, Result, Ok, Err, refl, sym, ap, subst, ◌∙◌, append_assoc, arith}
 use Rattle.std.specs.Prelude.{IfSome}
-use Rattle.std.specs.Int.{w64, to_le_bytes}
+use Rattle.std.specs.Int.{w32, w64, to_le_bytes}
 use Rattle.std.proofs.lemmas.Bool.{eqb-true, ltb-true, lt-ltb, ne_eqb}
 use Rattle.std.proofs.lemmas.List.{append-nil, nil_from_length}
 use Rattle.limits.specs.declared.TheConstants.{MOMENT_LIMIT}
@@ -18,12 +18,12 @@ use Rattle.request.specs.declared.payload.Question.TheVariants as question
 use Rattle.request.specs.declared.payload.Kind.{Kind}
 use Rattle.request.specs.declared.payload.Kind.TheVariants as kind
 use Rattle.request.specs.Path.{IsPath}
-use Rattle.request.specs.Spelling.{Said, path_field, data_field, op_kind, op_fields, query_kind, query_path, payload_of, IsOp, IsChange, IsMessageInRange}
+use Rattle.request.specs.Spelling.{Said, path_field, data_field, op_kind, op_fields, query_kind, query_fields, payload_of, IsOp, IsQuery, IsChange, IsMessageInRange}
 use Rattle.request.specs.Spelling.Said.{Changes, Asks}
-use Rattle.request.specs.Reading.{◌>>=◌, number_at, client_at, number_above_zero_at, moment_at, path_at, data_at, op_at, ended, change_at, asked, question_at, message_kind, kind_at, fields_at, said_at}
+use Rattle.request.specs.Reading.{◌>>=◌, number_at, client_at, number_above_zero_at, moment_at, path_at, data_at, count_at, op_at, ended, change_at, query_at, question_at, message_kind, kind_at, fields_at, said_at}
 use Rattle.request.specs.Payload.{IsSpelled}
 use Rattle.request.proofs.Fields.{IsBytes, IsBytes-rest, bind_ok, guard_passed, guard_met, ok_is, Takes, Takes-then, wide64, number_takes, number_again}
-use Rattle.request.proofs.Paths.{path_takes, path_again, data_takes, data_again}
+use Rattle.request.proofs.Paths.{path_takes, path_again, data_takes, data_again, count_takes, count_again}
 
 -- ---- numbers in a range
 
@@ -195,41 +195,79 @@ question_of : Query → Question
 question_of (query.Get path) = question.Get
 question_of (query.List path) = question.List
 question_of (query.Stat path) = question.Stat
+question_of (query.Read path offset count) = question.Read
 
 abbrev question_number : Question → ℕ
 question_number question.Get = 16
 question_number question.List = 17
 question_number question.Stat = 18
+question_number question.Read = 19
 
-asked_path : (question : Question) (path : List (List ℕ)) → (query_path (asked question path) ≡ path) × (query_kind (asked question path) ≡ question_number question)
-asked_path question.Get path = (refl, refl)
-asked_path question.List path = (refl, refl)
-asked_path question.Stat path = (refl, refl)
-
-asked_again : (q : Query) → (asked (question_of q) (query_path q) ≡ q) × (question_number (question_of q) ≡ query_kind q)
+number_of_question : (q : Query) → question_number (question_of q) ≡ query_kind q
 unfolding question_of
-asked_again (query.Get path) = (refl, refl)
-asked_again (query.List path) = (refl, refl)
-asked_again (query.Stat path) = (refl, refl)
+number_of_question (query.Get path) = refl
+number_of_question (query.List path) = refl
+number_of_question (query.Stat path) = refl
+number_of_question (query.Read path offset count) = refl
+
+record TakesQuery (question : Question) (bytes : List ℕ) (x : Query × List ℕ) : Type 0 where
+  taken : Takes bytes (query_fields x.0) x.1
+  in_range : IsQuery x.0
+  kind_is : query_kind x.0 ≡ question_number question
+
+query_takes : (question : Question) (bytes : List ℕ) (x : Query × List ℕ) → IsBytes bytes → query_at question bytes ≡ Ok x → TakesQuery question bytes x
+unfolding query_at
+query_takes question.Get bytes x fits e =
+    let a = bind_ok (path_at bytes) (λ path. Ok (query.Get path.0, path.1)) x e in
+    let path = path_takes bytes a.0 fits a.1 in
+    subst (TakesQuery question.Get bytes) (ok_is (query.Get a.0.0, a.0.1) x a.2) (record { taken = path.0; in_range = path.1; kind_is = refl })
+query_takes question.List bytes x fits e =
+    let a = bind_ok (path_at bytes) (λ path. Ok (query.List path.0, path.1)) x e in
+    let path = path_takes bytes a.0 fits a.1 in
+    subst (TakesQuery question.List bytes) (ok_is (query.List a.0.0, a.0.1) x a.2) (record { taken = path.0; in_range = path.1; kind_is = refl })
+query_takes question.Stat bytes x fits e =
+    let a = bind_ok (path_at bytes) (λ path. Ok (query.Stat path.0, path.1)) x e in
+    let path = path_takes bytes a.0 fits a.1 in
+    subst (TakesQuery question.Stat bytes) (ok_is (query.Stat a.0.0, a.0.1) x a.2) (record { taken = path.0; in_range = path.1; kind_is = refl })
+query_takes question.Read bytes x fits e =
+    let a = bind_ok (path_at bytes) (λ path. number_at w64 path.1 >>= λ offset. count_at offset.1 >>= λ count. Ok (query.Read path.0 offset.0 count.0, count.1)) x e in
+    let b = bind_ok (number_at w64 a.0.1) (λ offset. count_at offset.1 >>= λ count. Ok (query.Read a.0.0 offset.0 count.0, count.1)) x a.2 in
+    let c = bind_ok (count_at b.0.1) (λ count. Ok (query.Read a.0.0 b.0.0 count.0, count.1)) x b.2 in
+    let path = path_takes bytes a.0 fits a.1 in
+    let offset = number_takes w64 (2 ^ 64) wide64 a.0.1 b.0.0 b.0.1 path.0.rest_fits b.1 in
+    let count = count_takes b.0.1 c.0 offset.0.rest_fits c.1 in
+    let numbers = Takes-then a.0.1 (to_le_bytes w64 b.0.0) b.0.1 (to_le_bytes w32 c.0.0) c.0.1 offset.0 count.0 in
+    let taken = Takes-then bytes (path_field a.0.0) a.0.1 (to_le_bytes w64 b.0.0 ++ to_le_bytes w32 c.0.0) c.0.1 path.0 numbers in
+    subst (TakesQuery question.Read bytes) (ok_is (query.Read a.0.0 b.0.0 c.0.0, c.0.1) x c.2) (record { taken = taken; in_range = (path.1, (offset.1, count.1)); kind_is = refl })
+
+query_again : (q : Query) (rest : List ℕ) → IsQuery q → query_at (question_of q) (query_fields q ++ rest) ≡ Ok (q, rest)
+unfolding query_at question_of
+query_again (query.Get path) rest good = rw (path_again path rest good) refl
+query_again (query.List path) rest good = rw (path_again path rest good) refl
+query_again (query.Stat path) rest good = rw (path_again path rest good) refl
+query_again (query.Read path offset count) rest good =
+    let parts : query_fields (query.Read path offset count) ++ rest ≡ path_field path ++ (to_le_bytes w64 offset ++ (to_le_bytes w32 count ++ rest)) =
+        append_assoc (path_field path) (to_le_bytes w64 offset ++ to_le_bytes w32 count) rest ∙ ap (λ (r : List ℕ). path_field path ++ r) (append_assoc (to_le_bytes w64 offset) (to_le_bytes w32 count) rest) in
+    ap (query_at question.Read) parts
+    ∙ rw (path_again path (to_le_bytes w64 offset ++ (to_le_bytes w32 count ++ rest)) good.0, number_again w64 (2 ^ 64) wide64 offset (to_le_bytes w32 count ++ rest) good.1.0, count_again count rest good.1.1) refl
 
 question_takes : (question : Question) (bytes : List ℕ) (said : Said) → IsBytes bytes → question_at question bytes ≡ Ok said → Spelled (question_number question) bytes said
 unfolding question_at
 question_takes question bytes said fits e =
-    let a = bind_ok (path_at bytes) (λ path. ended (Asks (asked question path.0)) path.1) said e in
-    let path = path_takes bytes a.0 fits a.1 in
-    let end = ended_is (Asks (asked question a.0.0)) said a.0.1 a.2 in
-    let is = asked_path question a.0.0 in
-    let made : Spelled (question_number question) bytes (Asks (asked question a.0.0)) = record {
-      in_range = subst IsPath (sym is.0) path.1;
-      spelled = spelled_whole (question_number question) (query_kind (asked question a.0.0)) bytes (path_field a.0.0) a.0.1 path.0.parts end.1 is.1 ∙ ap (λ (p : List (List ℕ)). query_kind (asked question a.0.0) ∷ path_field p) (sym is.0);
+    let a = bind_ok (query_at question bytes) (λ q. ended (Asks q.0) q.1) said e in
+    let q = query_takes question bytes a.0 fits a.1 in
+    let end = ended_is (Asks a.0.0) said a.0.1 a.2 in
+    let made : Spelled (question_number question) bytes (Asks a.0.0) = record {
+      in_range = q.in_range;
+      spelled = spelled_whole (question_number question) (query_kind a.0.0) bytes (query_fields a.0.0) a.0.1 q.taken.parts end.1 q.kind_is;
     } in
     subst (Spelled (question_number question) bytes) end.0 made
 
-question_again : (q : Query) → IsPath (query_path q) → question_at (question_of q) (path_field (query_path q)) ≡ Ok (Asks q)
+question_again : (q : Query) → IsQuery q → question_at (question_of q) (query_fields q) ≡ Ok (Asks q)
 unfolding question_at
 question_again q good =
-    let path-is : path_at (path_field (query_path q)) ≡ Ok (query_path q, []) = ap path_at (sym (append-nil (path_field (query_path q)))) ∙ path_again (query_path q) [] good in
-    rw path-is (ap (λ (r : Query). Ok (Asks r)) (asked_again q).0)
+    let query-is : query_at (question_of q) (query_fields q) ≡ Ok (q, []) = ap (query_at (question_of q)) (sym (append-nil (query_fields q))) ∙ query_again q [] good in
+    rw query-is refl
 
 -- ---- kinds
 
@@ -256,7 +294,8 @@ kind_is byte found =
     (kind_row byte 16 (kind.Question question.Get) found _ refl
     (kind_row byte 17 (kind.Question question.List) found _ refl
     (kind_row byte 18 (kind.Question question.Stat) found _ refl
-    (λ e. absurd cc))))))))
+    (kind_row byte 19 (kind.Question question.Read) found _ refl
+    (λ e. absurd cc)))))))))
 
 kind_takes : (payload : List ℕ) (x : Kind × List ℕ) → kind_at payload ≡ Ok x → payload ≡ kind_number x.0 ∷ x.1
 unfolding kind_at
@@ -275,6 +314,7 @@ kind_again (kind.Change change.Remove) bytes = refl
 kind_again (kind.Question question.Get) bytes = refl
 kind_again (kind.Question question.List) bytes = refl
 kind_again (kind.Question question.Stat) bytes = refl
+kind_again (kind.Question question.Read) bytes = refl
 
 -- ---- whole payloads
 
@@ -299,8 +339,8 @@ said_again (Changes client number moment o) good =
     let starts : kind_at (op_kind o ∷ fields) ≡ Ok (kind.Change (change_of o), fields) = ap (λ (k : ℕ). kind_at (k ∷ fields)) (sym (number_of_change o)) ∙ kind_again (kind.Change (change_of o)) fields in
     rw starts (change_again client number moment o good)
 said_again (Asks q) good =
-    let fields : List ℕ = path_field (query_path q) in
-    let starts : kind_at (query_kind q ∷ fields) ≡ Ok (kind.Question (question_of q), fields) = ap (λ (k : ℕ). kind_at (k ∷ fields)) (sym (asked_again q).1) ∙ kind_again (kind.Question (question_of q)) fields in
+    let fields : List ℕ = query_fields q in
+    let starts : kind_at (query_kind q ∷ fields) ≡ Ok (kind.Question (question_of q), fields) = ap (λ (k : ℕ). kind_at (k ∷ fields)) (sym (number_of_question q)) ∙ kind_again (kind.Question (question_of q)) fields in
     rw starts (question_again q good)
 
 -- ---- messages

@@ -84,6 +84,11 @@ data_at bytes = do
   n ← number_at w32 bytes
   if nat_lt FILE_BYTES n.0 then Err cause.Extra else (if nat_lt (length n.1) n.0 then Err cause.Short else Ok (take n.0 n.1, drop n.0 n.1))
 
+unfoldable pub count_at : List ℕ → Result (ℕ × List ℕ) Cause
+count_at bytes = do
+  n ← number_at w32 bytes
+  if nat_lt FILE_BYTES n.0 then Err cause.Extra else Ok n
+
 unfoldable pub op_at : Change → List ℕ → Result (Op × List ℕ) Cause
 op_at change.Create bytes = do
   path ← path_at bytes
@@ -116,15 +121,26 @@ change_at change bytes = do
   op ← op_at change moment.1
   ended (Changes client.0 number.0 moment.0 op.0) op.1
 
-abbrev pub asked : Question → List (List ℕ) → Query
-asked question.Get path = query.Get path
-asked question.List path = query.List path
-asked question.Stat path = query.Stat path
+unfoldable pub query_at : Question → List ℕ → Result (Query × List ℕ) Cause
+query_at question.Get bytes = do
+  path ← path_at bytes
+  Ok (query.Get path.0, path.1)
+query_at question.List bytes = do
+  path ← path_at bytes
+  Ok (query.List path.0, path.1)
+query_at question.Stat bytes = do
+  path ← path_at bytes
+  Ok (query.Stat path.0, path.1)
+query_at question.Read bytes = do
+  path ← path_at bytes
+  offset ← number_at w64 path.1
+  count ← count_at offset.1
+  Ok (query.Read path.0 offset.0 count.0, count.1)
 
 unfoldable pub question_at : Question → List ℕ → Result Said Cause
 question_at question bytes = do
-  path ← path_at bytes
-  ended (Asks (asked question path.0)) path.1
+  asked ← query_at question bytes
+  ended (Asks asked.0) asked.1
 
 abbrev pub message_kind : ℕ → Result Kind Cause
 message_kind byte =
@@ -136,7 +152,8 @@ message_kind byte =
     else (if byte == 16 then Ok (kind.Question question.Get)
     else (if byte == 17 then Ok (kind.Question question.List)
     else (if byte == 18 then Ok (kind.Question question.Stat)
-    else Err cause.Kind)))))))
+    else (if byte == 19 then Ok (kind.Question question.Read)
+    else Err cause.Kind))))))))
 
 unfoldable pub kind_at : List ℕ → Result (Kind × List ℕ) Cause
 kind_at [] = Err cause.Short

@@ -44,17 +44,19 @@ abbrev pub query_kind : Query → ℕ
 query_kind (query.Get path) = 16
 query_kind (query.List path) = 17
 query_kind (query.Stat path) = 18
+query_kind (query.Read path offset count) = 19
 
-abbrev pub query_path : Query → List (List ℕ)
-query_path (query.Get path) = path
-query_path (query.List path) = path
-query_path (query.Stat path) = path
+abbrev pub query_fields : Query → List ℕ
+query_fields (query.Get path) = path_field path
+query_fields (query.List path) = path_field path
+query_fields (query.Stat path) = path_field path
+query_fields (query.Read path offset count) = path_field path ++ (to_le_bytes w64 offset ++ to_le_bytes w32 count)
 
 -- the kind in one byte, and the fields
 abbrev pub payload_of : Said → List ℕ
 payload_of (Changes client number moment op) =
     op_kind op ∷ (to_le_bytes w64 client ++ (to_le_bytes w64 number ++ (to_le_bytes w64 moment ++ op_fields op)))
-payload_of (Asks query) = query_kind query ∷ path_field (query_path query)
+payload_of (Asks query) = query_kind query ∷ query_fields query
 
 abbrev pub IsOp : Op → Type 0
 IsOp (Create path bytes) = IsPath path × (length bytes ≤ FILE_BYTES)
@@ -62,6 +64,12 @@ IsOp (Replace path bytes) = IsPath path × (length bytes ≤ FILE_BYTES)
 IsOp (MakeDir path) = IsPath path
 IsOp (Rename from to) = IsPath from × IsPath to
 IsOp (Remove path) = IsPath path
+
+abbrev pub IsQuery : Query → Type 0
+IsQuery (query.Get path) = IsPath path
+IsQuery (query.List path) = IsPath path
+IsQuery (query.Stat path) = IsPath path
+IsQuery (query.Read path offset count) = IsPath path × (offset < 2 ^ 64) × (count ≤ FILE_BYTES)
 
 pub record IsChange (client number moment : ℕ) (op : Op) : Type 0 where
   pub client_above_zero : 0 < client
@@ -74,4 +82,4 @@ pub record IsChange (client number moment : ℕ) (op : Op) : Type 0 where
 -- what can be said
 abbrev pub IsMessageInRange : Said → Type 0
 IsMessageInRange (Changes client number moment op) = IsChange client number moment op
-IsMessageInRange (Asks query) = IsPath (query_path query)
+IsMessageInRange (Asks query) = IsQuery query

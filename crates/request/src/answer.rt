@@ -203,7 +203,9 @@ pub enum Answer {
     IsDirectory,
     /// A directory was asked for, and the path leads to a file.
     NotDirectory,
-    /// The bytes of a file.
+    /// The whole file was asked for, and it has more bytes than an answer may have.
+    TooLong,
+    /// The bytes of a file, or of a piece of it.
     Data(FileData),
     /// The names in a directory.
     Names(Listing),

@@ -61,6 +61,7 @@ fn code_of(answer: &Answer) -> u16
         Answer::NotFound => 96,
         Answer::IsDirectory => 97,
         Answer::NotDirectory => 98,
+        Answer::TooLong => 99,
     }
 }
 

@@ -99,6 +99,38 @@ pub struct Request<'a> {
     pub ghost moment_in_range: { moment < MOMENT_LIMIT },
 }
 
+/// How many bytes of a file are asked for, at most `limits::FILE_BYTES`.
+#[derive(Debug, Drop)]
+pub struct ByteCount {
+    bytes: u32,
+}
+
+impl Model for ByteCount {
+    ghost Value = { ℕ };
+
+    ghost view = { λ c. c.bytes };
+
+    ghost invariant = { λ c. c.bytes ≤ FILE_BYTES };
+}
+
+impl ByteCount {
+    /// So many bytes.
+    pub fn new(bytes: u32) -> ByteCount
+        requires { bytes ≤ FILE_BYTES }
+        ensures { result ≡ bytes }
+    {
+        ByteCount { bytes }
+    }
+
+    /// How many bytes these are.
+    pub fn bytes(&self) -> u32
+        ensures count { result ≡ self.now }
+        ensures few { result ≤ FILE_BYTES }
+    {
+        self.bytes
+    }
+}
+
 /// A question about the tree.
 #[derive(Debug, Drop)]
 pub enum Query {
@@ -108,6 +140,12 @@ pub enum Query {
     List(Path),
     /// The kind, moment and size of a file or a directory.
     Stat(Path),
+    /// The bytes of a file from the offset on, so many at most.
+    Read {
+        path: Path,
+        offset: u64,
+        count: ByteCount,
+    },
 }
 
 /// Why a payload is no message.
@@ -119,7 +157,7 @@ pub enum Cause {
     Kind,
     /// The payload ends before its last field does.
     Short,
-    /// There are bytes after the last field, or a file is longer than the limit.
+    /// There are bytes after the last field, or the length of data or the count of bytes is above the limit.
     Extra,
     /// A name is one that no file can have.
     Path,

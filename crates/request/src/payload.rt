@@ -4,11 +4,11 @@ ghost use Rattle.std.specs.Prelude.{◌≡◌, ◌≤◌, ◌<◌, List, ℕ, le
 ghost use Rattle.std.specs.Int.{w16, w32, w64};
 ghost use Rattle.request.specs.Spelling.{Said, IsMessageInRange, payload_of};
 ghost use Rattle.request.specs.Spelling.Said.{Asks};
-ghost use Rattle.request.specs.Reading.{Gives, Fails, number_at, client_at, number_above_zero_at, moment_at, tested_name, name_at, names_at, path_at, data_at, op_at, ended, change_at, question_at, kind_at, fields_at, said_at};
+ghost use Rattle.request.specs.Reading.{Gives, Fails, number_at, client_at, number_above_zero_at, moment_at, tested_name, name_at, names_at, path_at, data_at, count_at, op_at, ended, change_at, query_at, question_at, kind_at, fields_at, said_at};
 ghost use Rattle.request.specs.Payload.{DecodesPayload, IsSpelled, told_by, request_said};
 ghost use Rattle.request.specs.declared.payload.ReadError.TheVariants.{Memory};
 
-use crate::message::{Cause, FileSlice, Message, Op, Query, Request};
+use crate::message::{ByteCount, Cause, FileSlice, Message, Op, Query, Request};
 use crate::path::Path;
 use limits::{FILE_BYTES, MOMENT_LIMIT};
 use osta::{Name, NameFault};
@@ -53,6 +53,7 @@ enum Question {
     Get,
     List,
     Stat,
+    Read,
 }
 
 #[derive(Clone, Copy, Debug)]
@@ -89,7 +90,7 @@ fn message_of(alloc: Global, payload: &[u8]) -> Result<Message<'_>, ReadError>
             Ok(Message::Request(request))
         }
         Kind::Question(question) => {
-            let query = query_of(alloc, question, fields)?;
+            let query = whole_query(alloc, question, fields)?;
             Ok(Message::Query(query))
         }
     }
@@ -111,6 +112,7 @@ fn kind_of(bytes: &[u8]) -> Result<(Kind, &[u8]), ReadError>
         16 => Kind::Question(Question::Get),
         17 => Kind::Question(Question::List),
         18 => Kind::Question(Question::Stat),
+        19 => Kind::Question(Question::Read),
         _ => return Err(ReadError::Malformed(Cause::Kind)),
     };
     Ok((kind, rest))
@@ -134,15 +136,35 @@ fn request_of(alloc: Global, change: Change, bytes: &[u8]) -> Result<Request<'_>
 }
 
 #[tactic(auto, unfolding(crate::specs::Reading::question_at))]
-fn query_of(alloc: Global, question: Question, bytes: &[u8]) -> Result<Query, ReadError>
+fn whole_query(alloc: Global, question: Question, bytes: &[u8]) -> Result<Query, ReadError>
     ensures { Gives (λ q. Asks q) result (question_at question bytes.now) }
 {
-    let (path, rest) = path_of(alloc, bytes)?;
+    let (query, rest) = query_of(alloc, question, bytes)?;
     nothing_after(rest)?;
+    Ok(query)
+}
+
+#[tactic(auto, unfolding(crate::specs::Reading::query_at))]
+fn query_of(alloc: Global, question: Question, bytes: &[u8]) -> Result<(Query, &[u8]), ReadError>
+    ensures { Gives (λ x. (x.0, x.1.now)) result (query_at question bytes.now) }
+{
+    let (path, rest) = path_of(alloc, bytes)?;
     match question {
-        Question::Get => Ok(Query::Get(path)),
-        Question::List => Ok(Query::List(path)),
-        Question::Stat => Ok(Query::Stat(path)),
+        Question::Get => Ok((Query::Get(path), rest)),
+        Question::List => Ok((Query::List(path), rest)),
+        Question::Stat => Ok((Query::Stat(path), rest)),
+        Question::Read => {
+            let (offset, rest) = u64_of(rest)?;
+            let (count, rest) = count_of(rest)?;
+            Ok((
+                Query::Read {
+                    path,
+                    offset,
+                    count,
+                },
+                rest,
+            ))
+        }
     }
 }
 
@@ -270,6 +292,17 @@ fn data_of(bytes: &[u8]) -> Result<(FileSlice<'_>, &[u8]), ReadError>
     }
     let (data, rest) = rest.split_at(len);
     Ok((FileSlice::new(data), rest))
+}
+
+#[tactic(auto, unfolding(crate::specs::Reading::count_at))]
+fn count_of(bytes: &[u8]) -> Result<(ByteCount, &[u8]), ReadError>
+    ensures { Gives (λ x. (x.0, x.1.now)) result (count_at bytes.now) }
+{
+    let (count, rest) = u32_of(bytes)?;
+    if count as usize > FILE_BYTES {
+        return Err(ReadError::Malformed(Cause::Extra));
+    }
+    Ok((ByteCount::new(count), rest))
 }
 
 fn nothing_after(bytes: &[u8]) -> Result<(), ReadError>

@@ -65,6 +65,7 @@ fn bare_answer(name: &str) -> Result<Answer, Trouble> {
         "not-found" => Ok(Answer::NotFound),
         "is-directory" => Ok(Answer::IsDirectory),
         "not-directory" => Ok(Answer::NotDirectory),
+        "too-long" => Ok(Answer::TooLong),
         _ => Err(NO_ANSWER),
     }
 }
