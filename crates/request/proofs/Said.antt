@@ -17,7 +17,6 @@ use Rattle.request.specs.declared.payload.Question.{Question}
 use Rattle.request.specs.declared.payload.Question.TheVariants as question
 use Rattle.request.specs.declared.payload.Kind.{Kind}
 use Rattle.request.specs.declared.payload.Kind.TheVariants as kind
-use Rattle.request.specs.Path.{IsPath}
 use Rattle.request.specs.Spelling.{Said, path_field, data_field, op_kind, op_fields, query_kind, query_fields, payload_of, IsOp, IsQuery, IsChange, IsMessageInRange}
 use Rattle.request.specs.Spelling.Said.{Changes, Asks}
 use Rattle.request.specs.Reading.{◌>>=◌, number_at, client_at, number_above_zero_at, moment_at, path_at, data_at, count_at, op_at, ended, change_at, query_at, question_at, message_kind, kind_at, fields_at, said_at}
@@ -238,7 +237,7 @@ query_takes question.Read bytes x fits e =
     let count = count_takes b.0.1 c.0 offset.0.rest_fits c.1 in
     let numbers = Takes-then a.0.1 (to_le_bytes w64 b.0.0) b.0.1 (to_le_bytes w32 c.0.0) c.0.1 offset.0 count.0 in
     let taken = Takes-then bytes (path_field a.0.0) a.0.1 (to_le_bytes w64 b.0.0 ++ to_le_bytes w32 c.0.0) c.0.1 path.0 numbers in
-    subst (TakesQuery question.Read bytes) (ok_is (query.Read a.0.0 b.0.0 c.0.0, c.0.1) x c.2) (record { taken = taken; in_range = (path.1, (offset.1, count.1)); kind_is = refl })
+    subst (TakesQuery question.Read bytes) (ok_is (query.Read a.0.0 b.0.0 c.0.0, c.0.1) x c.2) (record { taken = taken; in_range = (path.1, offset.1, count.1); kind_is = refl })
 
 query_again : (q : Query) (rest : List ℕ) → IsQuery q → query_at (question_of q) (query_fields q ++ rest) ≡ Ok (q, rest)
 unfolding query_at question_of
@@ -249,7 +248,7 @@ query_again (query.Read path offset count) rest good =
     let parts : query_fields (query.Read path offset count) ++ rest ≡ path_field path ++ (to_le_bytes w64 offset ++ (to_le_bytes w32 count ++ rest)) =
         append_assoc (path_field path) (to_le_bytes w64 offset ++ to_le_bytes w32 count) rest ∙ ap (λ (r : List ℕ). path_field path ++ r) (append_assoc (to_le_bytes w64 offset) (to_le_bytes w32 count) rest) in
     ap (query_at question.Read) parts
-    ∙ rw (path_again path (to_le_bytes w64 offset ++ (to_le_bytes w32 count ++ rest)) good.0, number_again w64 (2 ^ 64) wide64 offset (to_le_bytes w32 count ++ rest) good.1.0, count_again count rest good.1.1) refl
+    ∙ rw (path_again path (to_le_bytes w64 offset ++ (to_le_bytes w32 count ++ rest)) good.0, number_again w64 (2 ^ 64) wide64 offset (to_le_bytes w32 count ++ rest) good.1, count_again count rest good.2) refl
 
 question_takes : (question : Question) (bytes : List ℕ) (said : Said) → IsBytes bytes → question_at question bytes ≡ Ok said → Spelled (question_number question) bytes said
 unfolding question_at
