@@ -33,3 +33,4 @@ fault_of_store stores.NoCommit = Nothing
 fault_of_store stores.NotFound = Volume
 fault_of_store stores.IsDirectory = Volume
 fault_of_store stores.NotDirectory = Volume
+fault_of_store stores.TooLong = Volume

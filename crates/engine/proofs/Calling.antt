@@ -29,12 +29,12 @@ use Rattle.udf.specs.Udf.{udf, spelled_length}
 use Rattle.udf.specs.Said.{model_record}
 use Rattle.store.specs.declared.store.Store.{Store}
 use Rattle.lookup.specs.Asked.{model_request, said_query}
-use Rattle.store.specs.Calls.{IsOpenOn, IsStillOpenOn, Applies, IsCommitDone, IsFailed, IsLeftUnwritten, Gets, Lists, Stats}
+use Rattle.store.specs.Calls.{IsOpenOn, IsStillOpenOn, Applies, IsCommitDone, IsFailed, IsLeftUnwritten, Gets, Lists, Reads, Stats}
 use Rattle.engine.specs.Situation.{Situation, IsOpen, with_store}
 use Rattle.engine.specs.Answered.{due_of}
 use Rattle.engine.specs.Said.{model_message, model_answer}
 use Rattle.engine.specs.Steps.{HoldsState, IsStep}
-use Rattle.engine.specs.Called.{failed, refused, applied, get_answer, list_answer, stat_answer, get_refused, list_refused, stat_refused, IsShort, Uses, IsDealt, IsQueried, Calls, CallsAreSteps, RestartsAreSteps}
+use Rattle.engine.specs.Called.{failed, refused, applied, get_answer, list_answer, read_answer, stat_answer, get_refused, list_refused, read_refused, stat_refused, IsShort, Uses, IsDealt, IsQueried, Calls, CallsAreSteps, RestartsAreSteps}
 
 -- ---- where nothing is written
 
@@ -117,7 +117,14 @@ module _ (volume : ℕ) where
   get_told S path (Ok bytes) a gets is = inl (ap model_answer is ∙ sym gets)
   get_told S path (Err refusal) a (inl short) is = inr (may_fail get_refused refl refl refusal a short is)
   get_told S path (Err refusal) a (inr (inl (e, shows))) is = inl (ap model_answer (is ∙ ap get_refused e) ∙ sym shows)
-  get_told S path (Err refusal) a (inr (inr (e, shows))) is = inl (ap model_answer (is ∙ ap get_refused e) ∙ sym shows)
+  get_told S path (Err refusal) a (inr (inr (inl (e, shows)))) is = inl (ap model_answer (is ∙ ap get_refused e) ∙ sym shows)
+  get_told S path (Err refusal) a (inr (inr (inr (e, shows)))) is = inl (ap model_answer (is ∙ ap get_refused e) ∙ sym shows)
+
+  read_told : (S : State) (path : _) (offset count : ℕ) (result : Result (List ℕ) StoreFault) (a : Answer) → Reads S path offset count result → a ≡ read_answer result → (model_answer a ≡ told S.tree (medium.Query.Read path offset count)) ⊎ MayFail (model_answer a)
+  read_told S path offset count (Ok bytes) a reads is = inl (ap model_answer is ∙ sym reads)
+  read_told S path offset count (Err refusal) a (inl short) is = inr (may_fail read_refused refl refl refusal a short is)
+  read_told S path offset count (Err refusal) a (inr (inl (e, shows))) is = inl (ap model_answer (is ∙ ap read_refused e) ∙ sym shows)
+  read_told S path offset count (Err refusal) a (inr (inr (e, shows))) is = inl (ap model_answer (is ∙ ap read_refused e) ∙ sym shows)
 
   list_told : (S : State) (path : _) (result : Result _ StoreFault) (a : Answer) → Lists S path result → a ≡ list_answer result → (model_answer a ≡ told S.tree (medium.Query.List_ path)) ⊎ MayFail (model_answer a)
   list_told S path (Ok names) a lists is = inl (ap model_answer is ∙ sym lists)
@@ -134,6 +141,7 @@ module _ (volume : ℕ) where
   query_told S (query.Get path) a (result, gets, is) = get_told S path result a gets is
   query_told S (query.List path) a (result, lists, is) = list_told S path result a lists is
   query_told S (query.Stat path) a (result, stats, is) = stat_told S path result a stats is
+  query_told S (query.Read path offset count) a (result, reads, is) = read_told S path offset count result a reads is
 
   -- ---- what is due
 

@@ -31,6 +31,7 @@ faults answer.Damaged = 0
 faults answer.NotFound = 0
 faults answer.IsDirectory = 0
 faults answer.NotDirectory = 0
+faults answer.TooLong = 0
 faults (answer.Data bytes) = 0
 faults (answer.Names names) = 0
 faults (answer.Node status) = 0
@@ -41,9 +42,10 @@ FailsOrIsDamaged a = (a ≡ answer.Fault) ⊎ ((a ≡ answer.Memory) ⊎ (a ≡ 
 
 -- what a query can be answered
 abbrev pub CanBeAnswered : Query → Answer → Type 0
-CanBeAnswered (query.Get path) a = ((bytes : List ℕ) × (a ≡ answer.Data bytes)) ⊎ ((a ≡ answer.NotFound) ⊎ ((a ≡ answer.IsDirectory) ⊎ FailsOrIsDamaged a))
+CanBeAnswered (query.Get path) a = ((bytes : List ℕ) × (a ≡ answer.Data bytes)) ⊎ ((a ≡ answer.NotFound) ⊎ ((a ≡ answer.IsDirectory) ⊎ ((a ≡ answer.TooLong) ⊎ FailsOrIsDamaged a)))
 CanBeAnswered (query.List path) a = ((names : List Listed) × (a ≡ answer.Names names)) ⊎ ((a ≡ answer.NotFound) ⊎ ((a ≡ answer.NotDirectory) ⊎ FailsOrIsDamaged a))
 CanBeAnswered (query.Stat path) a = ((status : NodeStatus) × (a ≡ answer.Node status)) ⊎ ((a ≡ answer.NotFound) ⊎ FailsOrIsDamaged a)
+CanBeAnswered (query.Read path offset count) a = ((bytes : List ℕ) × (a ≡ answer.Data bytes)) ⊎ ((a ≡ answer.NotFound) ⊎ ((a ≡ answer.IsDirectory) ⊎ FailsOrIsDamaged a))
 
 -- Nothing was written, and the drive was given no write, where no store is kept, or one that did not stop.
 abbrev pub IsUnwritten : Option Store → Situation → Situation → Type 0

@@ -19,7 +19,7 @@ use Rattle.durability.specs.Runs.{Delivery}
 use Rattle.durability.specs.Runs as medium
 use Rattle.store.specs.declared.store.Store.{Store}
 use Rattle.lookup.specs.Asked.{model_request}
-use Rattle.store.specs.Calls.{IsOpenOn, IsStillOpenOn, Applies, Gets, Lists, Stats}
+use Rattle.store.specs.Calls.{IsOpenOn, IsStillOpenOn, Applies, Gets, Lists, Reads, Stats}
 use Rattle.store.specs.Sessions.{reply_said}
 use Rattle.engine.specs.Situation.{Situation, IsOpen, with_store}
 use Rattle.engine.specs.Answered.{due_of}
@@ -44,11 +44,21 @@ applied (Err refusal) = refused refusal
 abbrev pub get_refused : StoreFault → Answer
 get_refused fault.NotFound = answer.NotFound
 get_refused fault.IsDirectory = answer.IsDirectory
+get_refused fault.TooLong = answer.TooLong
 get_refused other = failed other
 
 abbrev pub get_answer : Result (List ℕ) StoreFault → Answer
 get_answer (Ok bytes) = answer.Data bytes
 get_answer (Err refusal) = get_refused refusal
+
+abbrev pub read_refused : StoreFault → Answer
+read_refused fault.NotFound = answer.NotFound
+read_refused fault.IsDirectory = answer.IsDirectory
+read_refused other = failed other
+
+abbrev pub read_answer : Result (List ℕ) StoreFault → Answer
+read_answer (Ok bytes) = answer.Data bytes
+read_answer (Err refusal) = read_refused refusal
 
 abbrev pub list_refused : StoreFault → Answer
 list_refused fault.NotFound = answer.NotFound
@@ -107,6 +117,7 @@ abbrev pub IsQueried : State → asked.Query → Answer → Type 0
 IsQueried S (query.Get path) a = (result : Result (List ℕ) StoreFault) × Gets S path result × (a ≡ get_answer result)
 IsQueried S (query.List path) a = (result : Result (List Listed) StoreFault) × Lists S path result × (a ≡ list_answer result)
 IsQueried S (query.Stat path) a = (result : Result NodeStatus StoreFault) × Stats S path result × (a ≡ stat_answer result)
+IsQueried S (query.Read path offset count) a = (result : Result (List ℕ) StoreFault) × Reads S path offset count result × (a ≡ read_answer result)
 
 -- A query was given to the store, and nothing was written.
 pub record IsRead (volume : ℕ) (S : State) (asked : asked.Query) (during : Situation) (a : Answer) (afterwards : Situation) : Type 0 where

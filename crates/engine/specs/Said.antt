@@ -33,6 +33,7 @@ model_answer answer.Damaged = medium.Answer.Damaged
 model_answer answer.NotFound = medium.Answer.NotFound
 model_answer answer.IsDirectory = medium.Answer.IsDirectory
 model_answer answer.NotDirectory = medium.Answer.NotDirectory
+model_answer answer.TooLong = medium.Answer.TooLong
 model_answer (answer.Data bytes) = medium.Answer.Data bytes
 model_answer (answer.Names names) = medium.Answer.Names (said_names names)
 model_answer (answer.Node status) = medium.Answer.NodeIs (is_directory status.kind) status.moment status.size

@@ -14,7 +14,7 @@ ghost use Rattle.store.specs.Calls.{IsOpenOn};
 ghost use Rattle.store.specs.declared.store.Store.{Store};
 ghost use Rattle.engine.specs.Situation.{IsReady, IsOpen, AddsBlocks, HoldsNothing, seen_on, situation_on};
 ghost use Rattle.engine.specs.Answered.{Answered, due_of, IsAnsweredAsDue, IsNothingThere, CanBeAnswered, FailsOrIsDamaged, faults};
-ghost use Rattle.engine.specs.Called.{Calls, IsDealt, IsQueried, failed, refused, get_refused, list_refused, stat_refused};
+ghost use Rattle.engine.specs.Called.{Calls, IsDealt, IsQueried, failed, refused, get_refused, list_refused, read_refused, stat_refused};
 ghost use Rattle.engine.specs.Steps.{HoldsState};
 ghost use Rattle.engine.specs.Withstanding.{MessageSurvivesPowerLoss, AsksFor};
 
@@ -170,6 +170,14 @@ fn answer_query<D: Drive>(store: &mut Store, alloc: Global, drive: &mut D, query
             Ok(status) => Answer::Node(status),
             Err(fault) => stat_refusal(fault),
         },
+        Query::Read {
+            path,
+            offset,
+            count,
+        } => match store.read(alloc, drive, path, *offset, count) {
+            Ok(data) => Answer::Data(data),
+            Err(fault) => read_refusal(fault),
+        },
     }
 }
 
@@ -189,6 +197,20 @@ fn refusal(fault: StoreFault) -> Answer
 fn get_refusal(fault: StoreFault) -> Answer
     ensures refused { result ≡ get_refused fault }
     ensures reported { (path : Path) → CanBeAnswered (queries.Get path) result }
+    ensures device { faults result ≡ device_failures fault }
+{
+    match fault {
+        StoreFault::NotFound => Answer::NotFound,
+        StoreFault::IsDirectory => Answer::IsDirectory,
+        StoreFault::TooLong => Answer::TooLong,
+        other => failure(other),
+    }
+}
+
+/// The answer to a query for a piece of a file that fails.
+fn read_refusal(fault: StoreFault) -> Answer
+    ensures refused { result ≡ read_refused fault }
+    ensures reported { (path : Path) (offset count : ℕ) → CanBeAnswered (queries.Read path offset count) result }
     ensures device { faults result ≡ device_failures fault }
 {
     match fault {

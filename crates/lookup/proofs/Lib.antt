@@ -10,3 +10,4 @@ pub mod Looking
 pub mod Removals
 pub mod StoredNodes
 pub mod Walks
+pub mod Pieces

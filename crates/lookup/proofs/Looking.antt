@@ -33,9 +33,14 @@ failed (Err f) P Q fault e q = (tt, subst Q (sym e) q)
 pub refused_by : {T : Type 0} (r : Result T StoreFault) (Q : StoreFault → Type 0) (fault : StoreFault) → IsErrAnd r (λ f. f ≡ fault) → Q fault → IfErr r Q
 refused_by r Q fault e q = (failed r (λ x. ⊤) Q fault e q).1
 
+-- what holds of a value by two facts about it
+pub of_file : {T : Type 0} (r : Result T StoreFault) (P Q R : T → Type 0) → ((x : T) → P x → Q x → R x) → IfOk r P → IfOk r Q → IfOk r R
+of_file (Ok x) P Q R both p q = both x p q
+of_file (Err f) P Q R both p q = tt
+
 -- a path that leads nowhere is a query's answer
 pub missing_told : (tree : Tree) (path : Path) (query : Query) (fault : StoreFault) → (get tree path ≡ None → told tree query ≡ NotFound) → IsMissing tree path fault → IsQueryRefused (told tree query) fault
-missing_told tree path query fault none missing = elim missing [ inl m ↦ inl (m.0, none m.1) | inr short ↦ inr (inr (inr short)) ]
+missing_told tree path query fault none missing = elim missing [ inl m ↦ inl (m.0, none m.1) | inr short ↦ inr (inr (inr (inr short))) ]
 
 module _ {D : Type 0} {drive : Ghosts D} where
   -- ---- what is left

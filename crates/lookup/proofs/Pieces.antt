@@ -1,21 +1,39 @@
 -- The bytes of a piece of a file, by the blocks that have them.
-use Rattle.std.proofs.Common.{◌≡◌, ℕ, zero, suc, ◌+◌, ◌-◌, ◌*◌, ◌/◌, ◌%◌, ◌<◌, ◌≤◌, List, [], ◌∷◌, ◌++◌, length, take, drop, slice_get, Some, refl, sym, ap, subst, ◌∙◌, arith}
+use Rattle.std.proofs.Common.{◌≡◌, ℕ, zero, suc, ◌+◌, ◌-◌, ◌*◌, ◌/◌, ◌%◌, ◌<◌, ◌≤◌, List, [], ◌∷◌, ◌++◌, length, take, drop, slice_get, Some, refl, sym, ap, subst, ◌∙◌, inl, inr, arith}
 use Rattle.std.specs.Prelude.{min}
 use Rattle.std.specs.Int.{div_ceil}
 use Rattle.std.specs.List.{All, flat_map}
 use Rattle.std.proofs.Math.Seq.{take-append-add, take-nil, drop-append-add, drop-append_seam, drop-nil}
 use Rattle.std.proofs.lemmas.Grind.{div_ceil_times}
-use Rattle.std.proofs.lemmas.List.{take-take, drop-drop, drop-take, drop-append-le, take-append-le, take_all, length-append, length-drop}
+use Rattle.std.proofs.lemmas.List.{take-take, drop-drop, drop-take, drop-append-le, take-append-le, take_all, drop_all, length-append, length-take, length-drop}
+use Rattle.std.proofs.lemmas.Bool.{cases_lt}
 use Rattle.std.proofs.lemmas.Option.{same_Some}
 use Rattle.std.proofs.Math.Nat.{min-eq_right}
 use Rattle.std.proofs.lemmas.List.Concat.{flat_map-cons}
-use Rattle.std.proofs.lemmas.List.Elements.{All-drop}
+use Rattle.std.proofs.lemmas.List.Elements.{All-take, All-drop}
 use Rattle.limits.specs.declared.TheConstants.{BLOCK_BYTES, FILE_BYTES, PARTITION_START}
 use Rattle.durability.specs.Volume.{AreWithin, bytes_in_extents}
 use Rattle.durability.proofs.Lists.{part-append}
 use Rattle.icb.specs.Entry.{extent_size}
 use Rattle.recover.specs.Blocks.{medium_bytes_at}
-use Rattle.lookup.proofs.FileSizes.{IsWholeBlock, extent_length}
+
+abbrev pub IsWholeBlock : List ℕ → Type 0
+IsWholeBlock block = length block ≡ BLOCK_BYTES
+
+whole_length : (bs : List (List ℕ)) → All IsWholeBlock bs → length (flat_map (λ (b : List ℕ). b) bs) ≡ BLOCK_BYTES * length bs
+whole_length [] all = refl
+whole_length (b ∷ bs) all =
+    let first : length b ≡ BLOCK_BYTES = all 0 b (omega arith) in
+    let rest = whole_length bs (λ k d lt. all (suc k) d (omega arith)) in
+    omega (arith, length-append b (flat_map (λ (x : List ℕ). x) bs), first, rest)
+
+pub extent_length : (M : List (List ℕ)) (at size : ℕ) → All IsWholeBlock M → at + div_ceil size BLOCK_BYTES ≤ length M → length (medium_bytes_at M at size) ≡ size
+extent_length M at size all h =
+    let bs = take (div_ceil size BLOCK_BYTES) (drop at M) in
+    let some = whole_length bs (All-take IsWholeBlock (div_ceil size BLOCK_BYTES) (drop at M) (All-drop IsWholeBlock at M all)) in
+    let count : length bs ≡ div_ceil size BLOCK_BYTES = omega (arith, length-take (div_ceil size BLOCK_BYTES) (drop at M), length-drop at M, h) in
+    let enough = (div_ceil_times size BLOCK_BYTES (omega arith)).0 in
+    omega (arith, length-take size (flat_map (λ (b : List ℕ). b) bs), some, count, enough)
 
 -- the blocks' bytes, one block after the other
 abbrev pub flat : List (List ℕ) → List ℕ
@@ -174,3 +192,18 @@ piece_in_two M all k size first next offset count more firsts h e f ends within 
   where
     the_next : (j : ℕ) → FILE_BYTES * j + FILE_BYTES ≡ FILE_BYTES * suc j
     the_next j = omega arith
+
+-- no more than there are
+pub cut_short : (count offset : ℕ) (bytes : List ℕ) → take (min count (length bytes - offset)) (drop offset bytes) ≡ take count (drop offset bytes)
+cut_short count offset bytes =
+    elim (cases_lt count (length bytes - offset)) [
+      | inl lt ↦ ap (λ (n : ℕ). take n (drop offset bytes)) (least lt)
+      | inr le ↦ take_all (min count (length bytes - offset)) (drop offset bytes) (omega (arith, le, length-drop offset bytes)) ∙ sym (take_all count (drop offset bytes) (omega (arith, le, length-drop offset bytes)))
+    ]
+  where
+    least : count < length bytes - offset → min count (length bytes - offset) ≡ count
+    least lt = omega (arith, lt)
+
+-- nothing is there past the end
+pub past_end : (count offset : ℕ) (bytes : List ℕ) → length bytes ≤ offset → take count (drop offset bytes) ≡ []
+past_end count offset bytes le = ap (take count) (drop_all offset bytes le) ∙ take-nil count

@@ -21,7 +21,7 @@ use Rattle.model.specs.Addresses.{used_first}
 use Rattle.model.specs.Graph.{Stored, Body, Entry, is_directory, content_in}
 use Rattle.model.specs.Graph.Body.{Bytes, Entries}
 use Rattle.durability.specs.Formats.{Block, NodePlace, NodeFields}
-use Rattle.durability.specs.Formats.NodePlace.{Nowhere, Extent as Extent_, Inside}
+use Rattle.durability.specs.Formats.NodePlace.{Nowhere, Extent as Extent_, Extents, Inside}
 use Rattle.durability.specs.Volume.{Medium, HoldsBody, HoldsDirectory}
 use Rattle.durability.proofs.Lists.{get-take, part-append}
 use Rattle.udf.specs.Udf.{udf}
@@ -63,6 +63,7 @@ data_in : (at : ℕ) (J : List Event) (s : Stored) (fields : NodeFields) (place 
 data_in at J s fields place (Bytes bytes) e b d m h = absurd (false≢true (sym (ap (λ (y : Body). has_names (content_in y)) b) ∙ d))
 data_in at J s fields Nowhere (Entries parent entries) e b d m h = absurd (subst (λ (p : NodePlace). HoldsDirectory udf (take at (held J)) fields.size p parent entries) e h.1)
 data_in at J s fields (Inside inside) (Entries parent entries) e b d m h = absurd (subst (λ (p : NodePlace). HoldsDirectory udf (take at (held J)) fields.size p parent entries) e h.1)
+data_in at J s fields (Extents descriptors) (Entries parent entries) e b d m h = absurd (subst (λ (p : NodePlace). HoldsDirectory udf (take at (held J)) fields.size p parent entries) e h.1)
 data_in at J s fields (Extent_ first) (Entries parent entries) e b d m h =
     let holds : HoldsDirectory udf (take at (held J)) fields.size (Extent_ first) parent entries = subst (λ (p : NodePlace). HoldsDirectory udf (take at (held J)) fields.size p parent entries) e h.1 in
     record {
@@ -82,6 +83,7 @@ has_data at entries J address s there d = data_in at J s there.fields there.fiel
 extent_first : icb.Place → ℕ
 extent_first icb.Place.Nowhere = 0
 extent_first (icb.Place.Extent first) = first
+extent_first (icb.Place.Extents descriptors) = 0
 extent_first (icb.Place.Inside bytes) = 0
 
 -- where a directory lies, by what its entry says
@@ -124,6 +126,7 @@ lies_below at J s e read first h same place =
 place_extent : (p : source.Place) (first : ℕ) → icb.place_of p ≡ icb.Place.Extent first → p ≡ places.Extent first
 place_extent places.None first e = cc
 place_extent (places.Extent n) first e = cc
+place_extent (places.Extents descriptors) first e = cc
 place_extent (places.Inside bytes) first e = cc
 
 pub extent_of : (at : ℕ) (J : List Event) (s : Stored) (e : icb.Fields) (read : FileEntry) → HasData at J s e → icb.fields_of read ≡ e → (first : ℕ) × (read.place ≡ places.Extent first)
@@ -149,4 +152,4 @@ pub extent_bounds : (kind : Kind) (size first at : ℕ) (place : source.Place) �
     → first + PARTITION_START + div_ceil size BLOCK_BYTES ≤ at → (0 < size) × (first ≤ PARTITION_BLOCKS) × (first + PARTITION_START + div_ceil size BLOCK_BYTES ≤ at)
 extent_bounds kind size first at place fits e below =
     let f = subst (λ (p : source.Place). icb.FitsPlace kind size (icb.place_of p)) e fits in
-    (f.0, omega arith, below)
+    (f.0, omega (arith, f.2), below)

@@ -59,6 +59,7 @@ not_refused J placed s fault.NoCommit lies refused = absurd refused
 not_refused J placed s fault.NotFound lies refused = absurd refused
 not_refused J placed s fault.IsDirectory lies refused = absurd refused
 not_refused J placed s fault.NotDirectory lies refused = absurd refused
+not_refused J placed s fault.TooLong lies refused = absurd refused
 
 pub texts_exact : (x y : List ℕ) → pointwise nat_eq x y ≡ true → x ≡ y
 texts_exact x y e = same_text x y (sym e)

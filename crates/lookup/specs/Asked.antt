@@ -14,7 +14,7 @@ use Rattle.model.specs.Operation.{Operation}
 use Rattle.model.specs.Operation.Operation.{Create, Replace, MakeDir, Rename, Remove}
 use Rattle.model.specs.Session.{Request}
 use Rattle.durability.specs.Runs.{Query}
-use Rattle.durability.specs.Runs.Query.{Get, List_, Stat}
+use Rattle.durability.specs.Runs.Query.{Get, List_, Stat, Read}
 use Rattle.durability.specs.Runs as runs
 
 abbrev pub model_operation : Op → Operation
@@ -31,6 +31,7 @@ abbrev pub said_query : querying.Query → Query
 said_query (query.Get path) = Get path
 said_query (query.List path) = List_ path
 said_query (query.Stat path) = Stat path
+said_query (query.Read path offset count) = Read path offset count
 
 abbrev pub is_directory : NodeKind → Bool
 is_directory kind.File = false

@@ -1,7 +1,8 @@
 -- What a look-up sees in the nodes of a state, and what each of its calls leaves.
-use Rattle.std.specs.Prelude.{◌≡◌, ℕ, ◌+◌, ◌≤◌, true, IsTrue, IfOk, IfErr, Result}
+use Rattle.std.specs.Prelude.{◌≡◌, ℕ, ◌+◌, ◌≤◌, true, List, take, IsTrue, IfOk, IfErr, Result}
 use Rattle.std.specs.Int.{div_ceil}
 use Rattle.limits.specs.declared.TheConstants.{BLOCK_BYTES, PARTITION_START}
+use Rattle.drive.specs.Journal.{held}
 use Rattle.drive.specs.Reads.{ReadsOnly}
 use Rattle.drive.specs.declared.Drive.{Ghosts}
 use Rattle.model.specs.Addresses.{free_address}
@@ -22,6 +23,10 @@ use Rattle.lookup.specs.declared.nodes.Placed.{Placed}
 -- what is stored under the virtual addresses of its nodes
 abbrev pub graph_seen : {D : Type 0} (drive : Ghosts D) → Lookup D drive → Graph
 graph_seen drive l = graph_below l.nodes.vat_icb_address l.nodes.numbers.now (drive.journal l.drive.now)
+
+-- what lies below the VAT ICB
+abbrev pub below_seen : {D : Type 0} (drive : Ghosts D) → Lookup D drive → List (List ℕ)
+below_seen drive l = take l.nodes.vat_icb_address (held (drive.journal l.drive.now))
 
 -- the least of them that is unused
 abbrev pub free_seen : {D : Type 0} {drive : Ghosts D} → Lookup D drive → ℕ

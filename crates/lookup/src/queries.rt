@@ -1,7 +1,7 @@
 //! Queries about a state. What the medium holds is not trusted: an invalid structure is refused.
 
-ghost use Rattle.std.specs.Prelude.{◌≡◌, IfOk, IfErr, length, map, false};
-ghost use Rattle.drive.specs.Journal.{Once};
+ghost use Rattle.std.specs.Prelude.{◌≡◌, ◌<◌, ◌≤◌, ◌+◌, ◌*◌, List, ℕ, IfOk, IfErr, IsTrue, length, vec_len, take, drop, map, false};
+ghost use Rattle.drive.specs.Journal.{AreWhole, Once};
 ghost use Rattle.durability.specs.Runs as runs;
 ghost use Rattle.model.specs.Tree.{Tree};
 ghost use Rattle.model.specs.Graph.{entries_of, is_directory};
@@ -11,24 +11,30 @@ ghost use Rattle.udf.specs.Said.{names_directory};
 ghost use Rattle.lookup.specs.Asked.{said_names, said_status};
 ghost use Rattle.lookup.specs.Asked as asked;
 ghost use Rattle.lookup.specs.Entries.{IsMomentAndSize};
-ghost use Rattle.lookup.specs.Lookups.{Answers, Looks, OfDirectory, OfNode, Sees, graph_seen};
-ghost use Rattle.lookup.specs.Queries.{IsMissing, IsQueryRefused, Tells, name_told};
+ghost use Rattle.lookup.specs.Lookups.{Answers, Looks, OfDirectory, OfNode, Sees, below_seen, graph_seen};
+ghost use Rattle.limits.specs.declared.TheConstants.{FILE_BYTES, GREATEST_FILE, PARTITION_START};
+ghost use Rattle.icb.specs.Entry.{extent_count};
+ghost use Rattle.durability.specs.Volume.{AreWithin, IsWithin, bytes_in_extents};
+ghost use Rattle.udf.specs.Udf.{udf};
+ghost use Rattle.recover.specs.Blocks.{medium_bytes_at};
+ghost use Rattle.lookup.specs.Queries.{AnswersWhole, IsMissing, IsQueryRefused, Tells, name_told};
 ghost use Rattle.lookup.specs.Shows.{IsNodeAt};
 
 use crate::content::Content;
 use crate::lookup::Lookup;
 use dir::Kind;
 use drive::Drive;
-use icb::{Place, decode_fe};
-use limits::PARTITION_START;
+use icb::{Place, decode_fe, extent_first, extent_size};
+use limits::{BLOCK_BYTES, FILE_BYTES, PARTITION_START};
 use recover::{Node, StoreFault, cause, damaged, lies_below, read_bytes};
-use request::{FileData, Listed, Listing, NodeKind, NodeStatus, Path};
+use request::{ByteCount, FileData, Listed, Listing, NodeKind, NodeStatus, Path};
 use std::alloc::Global;
 
 impl<D: Drive> Lookup<'_, '_, D> {
-    /// The bytes of a file. `NotFound` if the path leads to nothing, `IsDirectory` if it leads to a directory.
+    /// The bytes of a file. `NotFound` if the path leads to nothing, `IsDirectory` if it leads to a directory, `TooLong`
+    /// if the file has more than `limits::FILE_BYTES` bytes.
     pub fn get(&mut self, path: &Path) -> Result<FileData, StoreFault>
-        ensures told { Tells D.Drive self.old self.new (runs.Query.Get path.now) runs.Answer.Data result }
+        ensures told { Once (D.journal self.old.drive.now) → Tells D.Drive self.old self.new (runs.Query.Get path.now) runs.Answer.Data result }
         ensures looks { Looks D.Drive (devices result) self.old self.new }
     {
         let node = self.node(path)?;
@@ -36,6 +42,24 @@ impl<D: Drive> Lookup<'_, '_, D> {
             return Err(StoreFault::IsDirectory);
         }
         self.file_data(node.address)
+    }
+
+    /// The bytes of a file from the offset on, `count` or as many as there are. `NotFound` if the path leads to nothing,
+    /// `IsDirectory` if it leads to a directory.
+    pub fn read(
+        &mut self,
+        path: &Path,
+        offset: u64,
+        count: &ByteCount,
+    ) -> Result<FileData, StoreFault>
+        ensures told { Once (D.journal self.old.drive.now) → Tells D.Drive self.old self.new (runs.Query.Read path.now offset count.now) runs.Answer.Data result }
+        ensures looks { Looks D.Drive (devices result) self.old self.new }
+    {
+        let node = self.node(path)?;
+        if node.is_directory() {
+            return Err(StoreFault::IsDirectory);
+        }
+        self.file_piece(node.address, offset, count.bytes())
     }
 
     /// The names in a directory, in their stored order. `NotFound` if the path leads to nothing, `NotDirectory` if it
@@ -112,9 +136,10 @@ impl<D: Drive> Lookup<'_, '_, D> {
         }
     }
 
-    /// The bytes of the file at a virtual address.
+    /// The bytes of the file at a virtual address. `TooLong` if it has more than `limits::FILE_BYTES`.
     fn file_data(&mut self, address: u32) -> Result<FileData, StoreFault>
-        ensures read { OfNode D.Drive self.old self.new address (λ s. is_directory s ≡ false → Answers result (λ bytes. s.body ≡ Bytes bytes)) }
+        ensures read { Once (D.journal self.old.drive.now) → OfNode D.Drive self.old self.new address (λ s. is_directory s ≡ false → AnswersWhole s result) }
+        ensures few { IfOk result (λ bytes. length bytes ≤ FILE_BYTES) }
         ensures looks { Looks D.Drive (devices result) self.old self.new }
     {
         let (block, at) = self.entry_block(address)?;
@@ -137,7 +162,114 @@ impl<D: Drive> Lookup<'_, '_, D> {
                 )?;
                 Ok(FileData::new(bytes))
             }
+            Place::Extents(_) => Err(StoreFault::TooLong),
         }
+    }
+
+    /// The bytes of the file at a virtual address from the offset on, `count` or as many as there are.
+    fn file_piece(
+        &mut self,
+        address: u32,
+        offset: u64,
+        count: u32,
+    ) -> Result<FileData, StoreFault>
+        requires { count ≤ FILE_BYTES }
+        ensures read { Once (D.journal self.old.drive.now) → OfNode D.Drive self.old self.new address (λ s. is_directory s ≡ false → Answers result (λ bytes. (whole : List ℕ) → s.body ≡ Bytes whole → bytes ≡ take count (drop offset whole))) }
+        ensures looks { Looks D.Drive (devices result) self.old self.new }
+    {
+        let (block, at) = self.entry_block(address)?;
+        let entry = match decode_fe(&block, address) {
+            Ok(entry) => entry,
+            Err(fault) => return Err(damaged(at, fault.number())),
+        };
+        if offset >= u64::from(entry.size) {
+            return Ok(FileData::new(Vec::new(self.alloc)));
+        }
+        let from = offset as u32;
+        let count = count.min(entry.size - from);
+        match entry.place {
+            Place::None => Ok(FileData::new(Vec::new(self.alloc))),
+            Place::Inside(bytes) => {
+                let piece = &bytes[from as usize..(from + count) as usize];
+                Ok(FileData::new(piece.to_vec(self.alloc)?))
+            }
+            Place::Extent(first) => {
+                let bytes = self.extent_piece(at, first, entry.size, from, count)?;
+                Ok(FileData::new(bytes))
+            }
+            Place::Extents(descriptors) => {
+                let bytes = self.extents_piece(at, descriptors, entry.size, from, count)?;
+                Ok(FileData::new(bytes))
+            }
+        }
+    }
+
+    /// `count` bytes from an offset on of a file in several extents, which the piece begins in one of and ends in that
+    /// one or the next. If an extent does not end below the VAT ICB, this is damage at the entry, with the cause `RANGE`.
+    fn extents_piece(
+        &mut self,
+        at: u32,
+        descriptors: &[u8],
+        size: u32,
+        offset: u32,
+        count: u32,
+    ) -> Result<Vec<u8>, StoreFault>
+        requires within { offset + count ≤ size }
+        requires begins { offset < size }
+        requires few { count ≤ FILE_BYTES }
+        requires limit { size ≤ GREATEST_FILE }
+        requires descriptors { length descriptors.now ≡ 16 * extent_count size }
+        requires whole { AreWhole (D.journal self.old.drive.now) }
+        ensures read { IsTrue (D.honest self.new.drive.now) → Once (D.journal self.old.drive.now) → AreWithin (below_seen D.Drive self.old) size (udf.firsts descriptors.now) → Answers result (λ bytes. bytes.items ≡ take count (drop offset (bytes_in_extents (below_seen D.Drive self.old) size (udf.firsts descriptors.now)))) }
+        ensures size { IfOk result (λ bytes. vec_len bytes ≡ count) }
+        ensures looks { Looks D.Drive (devices result) self.old self.new }
+    {
+        let index = (offset / FILE_BYTES as u32) as usize;
+        let skip = offset % FILE_BYTES as u32;
+        let here = extent_size(size, index);
+        let first = extent_first(descriptors, index);
+        if skip + count <= here {
+            return self.extent_piece(at, first, here, skip, count);
+        }
+        let mut bytes = self.extent_piece(at, first, here, skip, here - skip)?;
+        let more = self.extent_piece(
+            at,
+            extent_first(descriptors, index + 1),
+            extent_size(size, index + 1),
+            0,
+            count - (here - skip),
+        )?;
+        bytes.extend_from_slice(&more)?;
+        Ok(bytes)
+    }
+
+    /// `count` bytes from an offset on of the `size` bytes that begin at block number `first`. If these do not end below
+    /// the VAT ICB, this is damage at the entry at `at`, with the cause `RANGE`.
+    fn extent_piece(
+        &mut self,
+        at: u32,
+        first: u32,
+        size: u32,
+        offset: u32,
+        count: u32,
+    ) -> Result<Vec<u8>, StoreFault>
+        requires within { offset + count ≤ size }
+        requires few { size ≤ FILE_BYTES }
+        requires whole { AreWhole (D.journal self.old.drive.now) }
+        ensures read { IsTrue (D.honest self.new.drive.now) → Once (D.journal self.old.drive.now) → IsWithin (below_seen D.Drive self.old) first size → Answers result (λ bytes. bytes.items ≡ take count (drop offset (medium_bytes_at (below_seen D.Drive self.old) (first + PARTITION_START) size))) }
+        ensures size { IfOk result (λ bytes. vec_len bytes ≡ count) }
+        ensures looks { Looks D.Drive (devices result) self.old self.new }
+    {
+        if !lies_below(first, size, self.nodes.vat_icb_address) {
+            return Err(damaged(at, cause::RANGE));
+        }
+        let start = first + PARTITION_START + offset / BLOCK_BYTES;
+        let skip = offset % BLOCK_BYTES;
+        let bytes = read_bytes(self.alloc, self.drive, start, skip + count)?;
+        if skip == 0 {
+            return Ok(bytes);
+        }
+        Ok(bytes[skip as usize..].to_vec(self.alloc)?)
     }
 }
 

@@ -155,6 +155,7 @@ unmade capacity stores.NoCommit afterwards label small h = absurd h
 unmade capacity stores.NotFound afterwards label small h = absurd h
 unmade capacity stores.IsDirectory afterwards label small h = absurd h
 unmade capacity stores.NotDirectory afterwards label small h = absurd h
+unmade capacity stores.TooLong afterwards label small h = absurd h
 
 pub unmade_answers : {T U : Type 0} (outcome : Result T Fault) (made : Result U StoreFault) (fault : StoreFault) (capacity size : ℕ) (before afterwards : List Event) (i o : Option (List ℕ)) → IsErrAnd outcome (λ f. f ≡ Stored fault)
     → made ≡ Err fault → size ≡ capacity → before ≡ [] → IsFormatRefused size (words_on size (codes "MEM") 0) before afterwards true fault

@@ -78,6 +78,9 @@ module _ (capacity : ℕ) (J : List Event) (store : Store) where
     shown_at honest once = let known = known_at honest once in
         subst (λ (j : List Event). TreeShows later j store.directories store.vat_icb_address store.vat.entries.items known.0.tree) (sym journal) (shows capacity store.capacity J known.0 store known.1 later honest)
 
+    once_at : Once J → Once K
+    once_at once = subst (λ (j : List Event). Once j) (sym journal) once
+
     pub names_said : (path : Path) (names : List Listed) (bytes : List ℕ) → ((tree : Tree) → TreeShows later K store.directories store.vat_icb_address store.vat.entries.items tree → told tree (List_ path) ≡ Names (said_names names))
         → bytes ≡ names_text (said_names names) → IsTrue later → Once J → IsQuestionAnswered (Names_at path) capacity J bytes
     names_said path names bytes is text honest once = let known = known_at honest once in
@@ -92,16 +95,16 @@ module _ (capacity : ℕ) (J : List Event) (store : Store) where
     pub names_short : (path : Path) → IsTrue later → Once J → IsOpenRefused capacity (held J) Memory ⊎ IsQuestionRefused (Names_at path) capacity J Memory
     names_short path honest once = inr (refused_of (Names_at path) Memory (known_at honest once) (inl (inr refl)))
 
-    pub bytes_said : (path : Path) (data_ bytes : List ℕ) → ((tree : Tree) → TreeShows later K store.directories store.vat_icb_address store.vat.entries.items tree → told tree (Get path) ≡ Data data_)
+    pub bytes_said : (path : Path) (data_ bytes : List ℕ) → ((tree : Tree) → Once K → TreeShows later K store.directories store.vat_icb_address store.vat.entries.items tree → told tree (Get path) ≡ Data data_)
         → bytes ≡ data_ → IsTrue later → Once J → IsQuestionAnswered (Bytes_at path) capacity J bytes
     bytes_said path data_ bytes is same honest once = let known = known_at honest once in
-        said_of (Bytes_at path) bytes known (is known.0.tree (shown_at honest once) ∙ ap (λ (x : List ℕ). Data x) (sym same))
+        said_of (Bytes_at path) bytes known (is known.0.tree (once_at once) (shown_at honest once) ∙ ap (λ (x : List ℕ). Data x) (sym same))
 
     pub bytes_refused : (path : Path) (fault : StoreFault) → store.is_stopped ≡ false
-        → ((tree : Tree) → TreeShows later K store.directories store.vat_icb_address store.vat.entries.items tree → store.is_stopped ≡ false → QueryRefused (told tree (Get path)) fault)
+        → ((tree : Tree) → Once K → TreeShows later K store.directories store.vat_icb_address store.vat.entries.items tree → store.is_stopped ≡ false → QueryRefused (told tree (Get path)) fault)
         → IsTrue later → Once J → IsOpenRefused capacity (held J) fault ⊎ IsQuestionRefused (Bytes_at path) capacity J fault
     bytes_refused path fault going refused honest once = let known = known_at honest once in
-        inr (refused_of (Bytes_at path) fault known (gets known.0 path (Err fault) tt (refused known.0.tree (shown_at honest once) going)))
+        inr (refused_of (Bytes_at path) fault known (gets known.0 path (Err fault) tt (refused known.0.tree (once_at once) (shown_at honest once) going)))
 
     -- the store's address is that of the VAT ICB with which the state is recovered
     here : (honest : IsTrue later) (once : Once J) → store.vat_icb_address ≡ (known_at honest once).1.stands.at

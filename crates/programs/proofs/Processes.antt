@@ -164,6 +164,7 @@ module _ (capacity volume : ℕ) (words : Words) (S : State) (before afterwards 
   refused_same stores.NotFound h = absurd h
   refused_same stores.IsDirectory h = absurd h
   refused_same stores.NotDirectory h = absurd h
+  refused_same stores.TooLong h = absurd h
 
 makes_none : {T : Type 0} (label : List ℕ) (moment capacity : ℕ) (outcome : Result T Fault) (before afterwards : List Event) (honest : Bool) (o w : Option (List ℕ)) (volume : ℕ) (S : State) → RecoversTo udf GREATEST_CAPACITY volume (held before) S → IsTrue honest
     → MakesVolume label moment capacity outcome before afterwards honest o w → afterwards ≡ before

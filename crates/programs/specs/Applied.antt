@@ -118,6 +118,7 @@ IsUnmade capacity stores.NoCommit = ⊥
 IsUnmade capacity stores.NotFound = ⊥
 IsUnmade capacity stores.IsDirectory = ⊥
 IsUnmade capacity stores.NotDirectory = ⊥
+IsUnmade capacity stores.TooLong = ⊥
 
 -- by the outcome: where there is no new volume, nothing was read or written
 abbrev pub AnswersInMemory : {T : Type 0} → Result T Fault → ℕ → Option (List ℕ) → Option (List ℕ) → Option (List ℕ) → Option (List ℕ) → Type 0

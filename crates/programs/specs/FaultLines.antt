@@ -28,6 +28,7 @@ store_name stores.NoCommit = codes "70 NoCommit"
 store_name stores.NotFound = codes "96 NotFound"
 store_name stores.IsDirectory = codes "97 IsDirectory"
 store_name stores.NotDirectory = codes "98 NotDirectory"
+store_name stores.TooLong = codes "99 TooLong"
 
 abbrev pub fault_name : Fault → List ℕ
 fault_name Usage = codes "usage"
@@ -51,6 +52,7 @@ store_damage stores.NoCommit = None
 store_damage stores.NotFound = None
 store_damage stores.IsDirectory = None
 store_damage stores.NotDirectory = None
+store_damage stores.TooLong = None
 
 abbrev pub fault_damage : Fault → Option (ℕ × ℕ)
 fault_damage Usage = None

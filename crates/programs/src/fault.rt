@@ -89,6 +89,7 @@ fn store_name(fault: StoreFault) -> &'static str
         StoreFault::NotFound => "96 NotFound",
         StoreFault::IsDirectory => "97 IsDirectory",
         StoreFault::NotDirectory => "98 NotDirectory",
+        StoreFault::TooLong => "99 TooLong",
     }
 }
 

@@ -246,7 +246,7 @@ query_again (query.List path) rest good = rw (path_again path rest good) refl
 query_again (query.Stat path) rest good = rw (path_again path rest good) refl
 query_again (query.Read path offset count) rest good =
     let parts : query_fields (query.Read path offset count) ++ rest ≡ path_field path ++ (to_le_bytes w64 offset ++ (to_le_bytes w32 count ++ rest)) =
-        append_assoc (path_field path) (to_le_bytes w64 offset ++ to_le_bytes w32 count) rest ∙ ap (λ (r : List ℕ). path_field path ++ r) (append_assoc (to_le_bytes w64 offset) (to_le_bytes w32 count) rest) in
+    append_assoc (path_field path) (to_le_bytes w64 offset ++ to_le_bytes w32 count) rest ∙ ap (λ (r : List ℕ). path_field path ++ r) (append_assoc (to_le_bytes w64 offset) (to_le_bytes w32 count) rest) in
     ap (query_at question.Read) parts
     ∙ rw (path_again path (to_le_bytes w64 offset ++ (to_le_bytes w32 count ++ rest)) good.0, number_again w64 (2 ^ 64) wide64 offset (to_le_bytes w32 count ++ rest) good.1, count_again count rest good.2) refl
 

@@ -14,8 +14,8 @@ use Rattle.durability.specs.Volume.{RecoversTo}
 use Rattle.durability.specs.Commit.{need}
 use Rattle.durability.specs.Journal.{Advances}
 use Rattle.durability.specs.Runs.{Answer, told as shows}
-use Rattle.durability.specs.Runs.Answer.{NotFound, IsDirectory, NotDirectory, Data, Names, NodeIs}
-use Rattle.durability.specs.Runs.Query.{Get, List_, Stat}
+use Rattle.durability.specs.Runs.Answer.{NotFound, IsDirectory, NotDirectory, TooLong, Data, Names, NodeIs}
+use Rattle.durability.specs.Runs.Query.{Get, List_, Stat, Read}
 use Rattle.udf.specs.Udf.{udf, spelled_length}
 use Rattle.udf.specs.Said.{model_table}
 use Rattle.vat.specs.Table.{view}
@@ -97,7 +97,12 @@ pub record CommitSurvivesPowerLoss (capacity volume : ℕ) (before : List Event)
 
 -- Each query is answered what the tree shows, unless the drive fails or memory is short.
 abbrev pub GetRefuses : Answer → StoreFault → Type 0
-GetRefuses shown refusal = IsShortage refusal ⊎ (((refusal ≡ fault.NotFound) × (shown ≡ NotFound)) ⊎ ((refusal ≡ fault.IsDirectory) × (shown ≡ IsDirectory)))
+GetRefuses shown refusal =
+    IsShortage refusal
+    ⊎ (((refusal ≡ fault.NotFound) × (shown ≡ NotFound)) ⊎ (((refusal ≡ fault.IsDirectory) × (shown ≡ IsDirectory)) ⊎ ((refusal ≡ fault.TooLong) × (shown ≡ TooLong))))
+
+abbrev pub ReadRefuses : Answer → StoreFault → Type 0
+ReadRefuses shown refusal = IsShortage refusal ⊎ (((refusal ≡ fault.NotFound) × (shown ≡ NotFound)) ⊎ ((refusal ≡ fault.IsDirectory) × (shown ≡ IsDirectory)))
 
 abbrev pub ListRefuses : Answer → StoreFault → Type 0
 ListRefuses shown refusal = IsShortage refusal ⊎ (((refusal ≡ fault.NotFound) × (shown ≡ NotFound)) ⊎ ((refusal ≡ fault.NotDirectory) × (shown ≡ NotDirectory)))
@@ -108,6 +113,10 @@ StatRefuses shown refusal = IsShortage refusal ⊎ ((refusal ≡ fault.NotFound)
 abbrev pub Gets : State → Path → Result (List ℕ) StoreFault → Type 0
 Gets S path (Ok bytes) = shows S.tree (Get path) ≡ Data bytes
 Gets S path (Err refusal) = GetRefuses (shows S.tree (Get path)) refusal
+
+abbrev pub Reads : State → Path → ℕ → ℕ → Result (List ℕ) StoreFault → Type 0
+Reads S path offset count (Ok bytes) = shows S.tree (Read path offset count) ≡ Data bytes
+Reads S path offset count (Err refusal) = ReadRefuses (shows S.tree (Read path offset count)) refusal
 
 abbrev pub Lists : State → Path → Result (List Listed) StoreFault → Type 0
 Lists S path (Ok names) = shows S.tree (List_ path) ≡ Names (said_names names)

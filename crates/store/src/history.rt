@@ -29,7 +29,7 @@ use lookup::Lookup;
 use recover::{
     ReadCache, State, StoreFault, cause, damaged, last, linked, state_at, state_sharing, table_at,
 };
-use request::{FileData, Listing, NodeStatus, Path};
+use request::{ByteCount, FileData, Listing, NodeStatus, Path};
 use std::alloc::Global;
 use vat::{Sessions, Vat};
 
@@ -115,8 +115,8 @@ impl Snapshot {
     ) -> Result<FileData, StoreFault>
         requires agrees { IsStoreOn (D.journal drive.old) (D.capacity drive.old) store.old }
         requires within { self.now.vat_icb_address ≤ next_of (D.journal drive.old) }
-        ensures reported { (tree : Tree) → HasNodesOf (D.honest drive.new) (D.journal drive.old) store.old.directories self.now.vat_icb_address self.now.vat.entries.items tree → IfOk result (λ bytes. runs.told tree (runs.Query.Get path.now) ≡ runs.Answer.Data bytes) }
-        ensures refused { (tree : Tree) → HasNodesOf (D.honest drive.new) (D.journal drive.old) store.old.directories self.now.vat_icb_address self.now.vat.entries.items tree → store.old.is_stopped ≡ false → IfErr result (IsQueryRefused (runs.told tree (runs.Query.Get path.now))) }
+        ensures reported { (tree : Tree) → Once (D.journal drive.old) → HasNodesOf (D.honest drive.new) (D.journal drive.old) store.old.directories self.now.vat_icb_address self.now.vat.entries.items tree → IfOk result (λ bytes. runs.told tree (runs.Query.Get path.now) ≡ runs.Answer.Data bytes) }
+        ensures refused { (tree : Tree) → Once (D.journal drive.old) → HasNodesOf (D.honest drive.new) (D.journal drive.old) store.old.directories self.now.vat_icb_address self.now.vat.entries.items tree → store.old.is_stopped ≡ false → IfErr result (IsQueryRefused (runs.told tree (runs.Query.Get path.now))) }
         ensures kept { IsTrue (D.honest drive.new) → AreKept (D.journal drive.old) store.old.directories → AreKept (D.journal drive.old) store.new.directories }
         ensures stopped { IsTrue store.old.is_stopped → (result ≡ Err Stopped) × (store.new ≡ store.old) × (drive.new ≡ drive.old) }
         ensures same { SameVolume store.old store.new }
@@ -125,6 +125,30 @@ impl Snapshot {
     {
         let nodes = nodes_of(store.is_stopped, self.vat_icb_address, &self.vat.entries)?;
         Lookup::new(alloc, drive, &mut store.directories, nodes).get(path)
+    }
+
+    /// The bytes of a file from the offset on, as they were. The faults are those of [`Store::read`].
+    pub fn read<D: Drive>(
+        &self,
+        alloc: Global,
+        store: &mut Store,
+        drive: &mut D,
+        path: &Path,
+        offset: u64,
+        count: &ByteCount,
+    ) -> Result<FileData, StoreFault>
+        requires agrees { IsStoreOn (D.journal drive.old) (D.capacity drive.old) store.old }
+        requires within { self.now.vat_icb_address ≤ next_of (D.journal drive.old) }
+        ensures reported { (tree : Tree) → Once (D.journal drive.old) → HasNodesOf (D.honest drive.new) (D.journal drive.old) store.old.directories self.now.vat_icb_address self.now.vat.entries.items tree → IfOk result (λ bytes. runs.told tree (runs.Query.Read path.now offset count.now) ≡ runs.Answer.Data bytes) }
+        ensures refused { (tree : Tree) → Once (D.journal drive.old) → HasNodesOf (D.honest drive.new) (D.journal drive.old) store.old.directories self.now.vat_icb_address self.now.vat.entries.items tree → store.old.is_stopped ≡ false → IfErr result (IsQueryRefused (runs.told tree (runs.Query.Read path.now offset count.now))) }
+        ensures kept { IsTrue (D.honest drive.new) → AreKept (D.journal drive.old) store.old.directories → AreKept (D.journal drive.old) store.new.directories }
+        ensures stopped { IsTrue store.old.is_stopped → (result ≡ Err Stopped) × (store.new ≡ store.old) × (drive.new ≡ drive.old) }
+        ensures same { SameVolume store.old store.new }
+        ensures agrees { IsStoreOn (D.journal drive.new) (D.capacity drive.new) store.new }
+        ensures reads { ReadsOnly D.Drive (devices result) drive.old drive.new }
+    {
+        let nodes = nodes_of(store.is_stopped, self.vat_icb_address, &self.vat.entries)?;
+        Lookup::new(alloc, drive, &mut store.directories, nodes).read(path, offset, count)
     }
 
     /// The names in a directory, as they were, in their stored order. The faults are those of [`Store::list`].

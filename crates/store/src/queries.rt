@@ -20,12 +20,12 @@ use crate::store::Store;
 use drive::Drive;
 use lookup::{Lookup, Nodes};
 use recover::StoreFault;
-use request::{FileData, Listing, NodeStatus, Path};
+use request::{ByteCount, FileData, Listing, NodeStatus, Path};
 use std::alloc::Global;
 
 impl Store {
-    /// The bytes of a file. `NotFound` if the path leads to nothing, `IsDirectory` if it leads to a directory,
-    /// `Stopped` if the store is stopped.
+    /// The bytes of a file. `NotFound` if the path leads to nothing, `IsDirectory` if it leads to a directory, `TooLong`
+    /// if the file has more than `limits::FILE_BYTES` bytes, `Stopped` if the store is stopped.
     pub fn get<D: Drive>(
         &mut self,
         alloc: Global,
@@ -33,8 +33,8 @@ impl Store {
         path: &Path,
     ) -> Result<FileData, StoreFault>
         requires agrees { IsStoreOn (D.journal drive.old) (D.capacity drive.old) self.old }
-        ensures reported { (tree : Tree) → HasNodesOf (D.honest drive.new) (D.journal drive.old) self.old.directories self.old.vat_icb_address self.old.vat.entries.items tree → IfOk result (λ bytes. runs.told tree (runs.Query.Get path.now) ≡ runs.Answer.Data bytes) }
-        ensures refused { (tree : Tree) → HasNodesOf (D.honest drive.new) (D.journal drive.old) self.old.directories self.old.vat_icb_address self.old.vat.entries.items tree → self.old.is_stopped ≡ false → IfErr result (IsQueryRefused (runs.told tree (runs.Query.Get path.now))) }
+        ensures reported { (tree : Tree) → Once (D.journal drive.old) → HasNodesOf (D.honest drive.new) (D.journal drive.old) self.old.directories self.old.vat_icb_address self.old.vat.entries.items tree → IfOk result (λ bytes. runs.told tree (runs.Query.Get path.now) ≡ runs.Answer.Data bytes) }
+        ensures refused { (tree : Tree) → Once (D.journal drive.old) → HasNodesOf (D.honest drive.new) (D.journal drive.old) self.old.directories self.old.vat_icb_address self.old.vat.entries.items tree → self.old.is_stopped ≡ false → IfErr result (IsQueryRefused (runs.told tree (runs.Query.Get path.now))) }
         ensures kept { IsTrue (D.honest drive.new) → AreKept (D.journal drive.old) self.old.directories → AreKept (D.journal drive.old) self.new.directories }
         ensures stopped { IsTrue self.old.is_stopped → (result ≡ Err Stopped) × (self.new ≡ self.old) × (drive.new ≡ drive.old) }
         ensures same { SameVolume self.old self.new }
@@ -43,6 +43,29 @@ impl Store {
     {
         let nodes = nodes_of(self.is_stopped, self.vat_icb_address, &self.vat.entries)?;
         Lookup::new(alloc, drive, &mut self.directories, nodes).get(path)
+    }
+
+    /// The bytes of a file from the offset on, `count` or as many as there are. `NotFound` if the path leads to nothing,
+    /// `IsDirectory` if it leads to a directory, `Stopped` if the store is stopped.
+    pub fn read<D: Drive>(
+        &mut self,
+        alloc: Global,
+        drive: &mut D,
+        path: &Path,
+        offset: u64,
+        count: &ByteCount,
+    ) -> Result<FileData, StoreFault>
+        requires agrees { IsStoreOn (D.journal drive.old) (D.capacity drive.old) self.old }
+        ensures reported { (tree : Tree) → Once (D.journal drive.old) → HasNodesOf (D.honest drive.new) (D.journal drive.old) self.old.directories self.old.vat_icb_address self.old.vat.entries.items tree → IfOk result (λ bytes. runs.told tree (runs.Query.Read path.now offset count.now) ≡ runs.Answer.Data bytes) }
+        ensures refused { (tree : Tree) → Once (D.journal drive.old) → HasNodesOf (D.honest drive.new) (D.journal drive.old) self.old.directories self.old.vat_icb_address self.old.vat.entries.items tree → self.old.is_stopped ≡ false → IfErr result (IsQueryRefused (runs.told tree (runs.Query.Read path.now offset count.now))) }
+        ensures kept { IsTrue (D.honest drive.new) → AreKept (D.journal drive.old) self.old.directories → AreKept (D.journal drive.old) self.new.directories }
+        ensures stopped { IsTrue self.old.is_stopped → (result ≡ Err Stopped) × (self.new ≡ self.old) × (drive.new ≡ drive.old) }
+        ensures same { SameVolume self.old self.new }
+        ensures agrees { IsStoreOn (D.journal drive.new) (D.capacity drive.new) self.new }
+        ensures reads { ReadsOnly D.Drive (devices result) drive.old drive.new }
+    {
+        let nodes = nodes_of(self.is_stopped, self.vat_icb_address, &self.vat.entries)?;
+        Lookup::new(alloc, drive, &mut self.directories, nodes).read(path, offset, count)
     }
 
     /// The names in a directory, in their stored order. `NotFound` if the path leads to nothing, `NotDirectory` if it

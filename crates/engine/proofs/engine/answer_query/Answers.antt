@@ -4,7 +4,7 @@ use Rattle.request.specs.declared.message.Query.{Query}
 use Rattle.engine.specs.Answered.{CanBeAnswered}
 use Rattle.engine.specs.Called.{IsQueried}
 use Rattle.store.proofs.Knowing.{shows, knows_again}
-use Rattle.store.proofs.Queried.{gets, lists, stats}
+use Rattle.store.proofs.Queried.{gets, lists, reads, stats}
 use Rattle.engine.proofs.engine.answer_query.Goals as goal
 
 pub returns-in-Ok-clause-queried : goal.returns-in-Ok-clause-queried
@@ -12,7 +12,7 @@ returns-in-Ok-clause-queried g c volume S honest knows going =
     let store = c.args.store.now in
     let J = g.D.Drive.journal c.args.drive.now in
     let shown = shows (g.D.Drive.capacity c.args.drive.now) volume J S store knows (g.D.Drive.honest c.get.new.drive) honest in
-    let given = gets S c.in-Get.path (Ok c.in-Ok.data) (c.in-Ok.ensures.reported S.tree shown) (c.in-Ok.ensures.refused S.tree shown going) in (
+    let given = gets S c.in-Get.path (Ok c.in-Ok.data) (c.in-Ok.ensures.reported S.tree knows.once shown) (c.in-Ok.ensures.refused S.tree knows.once shown going) in (
       subst (λ (q : Query). IsQueried S q (answer.Data c.in-Ok.data)) (sym c.in-Get.is) (Ok c.in-Ok.data, given, refl),
       knows_again (g.D.Drive.capacity c.args.drive.now) volume J S store knows J c.get.new.self refl c.in-Ok.ensures.same.at c.in-Ok.ensures.same.vat c.in-Ok.ensures.same.capacity (c.in-Ok.ensures.kept honest knows.kept),
     )
@@ -25,7 +25,7 @@ returns-in-Err-clause-queried g c volume S honest knows going =
     let store = c.args.store.now in
     let J = g.D.Drive.journal c.args.drive.now in
     let shown = shows (g.D.Drive.capacity c.args.drive.now) volume J S store knows (g.D.Drive.honest c.get.new.drive) honest in
-    let given = gets S c.in-Get.path (Err c.in-Err.fault) (c.in-Err.ensures.reported S.tree shown) (c.in-Err.ensures.refused S.tree shown going) in (
+    let given = gets S c.in-Get.path (Err c.in-Err.fault) (c.in-Err.ensures.reported S.tree knows.once shown) (c.in-Err.ensures.refused S.tree knows.once shown going) in (
       subst (λ (q : Query). IsQueried S q c.get_refusal.result) (sym c.in-Get.is) (Err c.in-Err.fault, given, c.get_refusal.ensures.refused),
       knows_again (g.D.Drive.capacity c.args.drive.now) volume J S store knows J c.get.new.self refl c.in-Err.ensures.same.at c.in-Err.ensures.same.vat c.in-Err.ensures.same.capacity (c.in-Err.ensures.kept honest knows.kept),
     )
@@ -74,4 +74,27 @@ returns-in-Err-stat-clause-queried g c volume S honest knows going =
     let given = stats S c.in-Stat.path (Err c.in-Err-stat.fault) (c.in-Err-stat.ensures.reported S.tree knows.once shown) (c.in-Err-stat.ensures.refused S.tree shown going) in (
       subst (λ (q : Query). IsQueried S q c.stat_refusal.result) (sym c.in-Stat.is) (Err c.in-Err-stat.fault, given, c.stat_refusal.ensures.refused),
       knows_again (g.D.Drive.capacity c.args.drive.now) volume J S store knows J c.stat.new.self refl c.in-Err-stat.ensures.same.at c.in-Err-stat.ensures.same.vat c.in-Err-stat.ensures.same.capacity (c.in-Err-stat.ensures.kept honest knows.kept),
+    )
+
+pub returns-in-Ok-read-clause-queried : goal.returns-in-Ok-read-clause-queried
+returns-in-Ok-read-clause-queried g c volume S honest knows going =
+    let store = c.args.store.now in
+    let J = g.D.Drive.journal c.args.drive.now in
+    let shown = shows (g.D.Drive.capacity c.args.drive.now) volume J S store knows (g.D.Drive.honest c.read.new.drive) honest in
+    let given = reads S c.in-Read.path c.in-Read.offset.now c.in-Read.count.now (Ok c.in-Ok-read.data) (c.in-Ok-read.ensures.reported S.tree knows.once shown) (c.in-Ok-read.ensures.refused S.tree knows.once shown going) in (
+      subst (λ (q : Query). IsQueried S q (answer.Data c.in-Ok-read.data)) (sym c.in-Read.is) (Ok c.in-Ok-read.data, given, refl),
+      knows_again (g.D.Drive.capacity c.args.drive.now) volume J S store knows J c.read.new.self refl c.in-Ok-read.ensures.same.at c.in-Ok-read.ensures.same.vat c.in-Ok-read.ensures.same.capacity (c.in-Ok-read.ensures.kept honest knows.kept),
+    )
+
+pub returns-in-Err-read-clause-reported : goal.returns-in-Err-read-clause-reported
+returns-in-Err-read-clause-reported g c = subst (λ (q : Query). CanBeAnswered q c.read_refusal.result) (sym c.in-Read.is) (c.read_refusal.ensures.reported c.in-Read.path c.in-Read.offset.now c.in-Read.count.now)
+
+pub returns-in-Err-read-clause-queried : goal.returns-in-Err-read-clause-queried
+returns-in-Err-read-clause-queried g c volume S honest knows going =
+    let store = c.args.store.now in
+    let J = g.D.Drive.journal c.args.drive.now in
+    let shown = shows (g.D.Drive.capacity c.args.drive.now) volume J S store knows (g.D.Drive.honest c.read.new.drive) honest in
+    let given = reads S c.in-Read.path c.in-Read.offset.now c.in-Read.count.now (Err c.in-Err-read.fault) (c.in-Err-read.ensures.reported S.tree knows.once shown) (c.in-Err-read.ensures.refused S.tree knows.once shown going) in (
+      subst (λ (q : Query). IsQueried S q c.read_refusal.result) (sym c.in-Read.is) (Err c.in-Err-read.fault, given, c.read_refusal.ensures.refused),
+      knows_again (g.D.Drive.capacity c.args.drive.now) volume J S store knows J c.read.new.self refl c.in-Err-read.ensures.same.at c.in-Err-read.ensures.same.vat c.in-Err-read.ensures.same.capacity (c.in-Err-read.ensures.kept honest knows.kept),
     )

@@ -20,13 +20,13 @@ returns-in_err-placed-clause-told g c tree s =
     let here = c.in_ok-node.ensures.found tree (sees_before c.args.self.now tree q s) in
     let there = stored_seen c.args.path.now c.in_ok-node.node here p in
     let short = (c.in_err-placed.ensures.opened (sound_next p q (sound s)) here.found.stored there (sym here.kind ∙ (sym c.is_directory.ensures ∙ c.if-not-is_directory.false))).1 in
-    failed c.from_residual-in_err-placed.result _ _ _ c.from_residual-in_err-placed.ensures.1 (inr (inr (inr short)))
+    failed c.from_residual-in_err-placed.result _ _ _ c.from_residual-in_err-placed.ensures.1 (inr (inr (inr (inr short))))
 
 pub returns-in_err-placed-clause-looks : goal.returns-in_err-placed-clause-looks
 returns-in_err-placed-clause-looks g c = looks_failed c.from_residual-in_err-placed.result _ c.from_residual-in_err-placed.ensures.1 (looks_then c.in_ok-node.ensures.looks c.in_err-placed.ensures.looks)
 
 pub returns-in_err-listing-clause-told : goal.returns-in_err-listing-clause-told
-returns-in_err-listing-clause-told g c tree s = failed c.from_residual-in_err-listing.result _ _ _ c.from_residual-in_err-listing.ensures.1 (inr (inr (inr c.in_err-listing.ensures.short)))
+returns-in_err-listing-clause-told g c tree s = failed c.from_residual-in_err-listing.result _ _ _ c.from_residual-in_err-listing.ensures.1 (inr (inr (inr (inr c.in_err-listing.ensures.short))))
 
 pub returns-in_err-listing-clause-looks : goal.returns-in_err-listing-clause-looks
 returns-in_err-listing-clause-looks g c =

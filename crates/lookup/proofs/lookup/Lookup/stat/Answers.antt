@@ -14,7 +14,7 @@ returns-in_err-moment-clause-refused g c tree s =
     let p = c.in_ok-node.ensures.looks in
     let here = c.in_ok-node.ensures.found tree (sees_before c.args.self.now tree c.in_err-moment.ensures.looks s) in
     let short = (c.in_err-moment.ensures.read s.honest here.found.stored (stored_seen c.args.path.now c.in_ok-node.node here p)).1 in
-    refused_by c.from_residual-in_err-moment.result _ _ c.from_residual-in_err-moment.ensures.1 (inr (inr (inr short)))
+    refused_by c.from_residual-in_err-moment.result _ _ c.from_residual-in_err-moment.ensures.1 (inr (inr (inr (inr short))))
 
 pub returns-in_err-moment-clause-looks : goal.returns-in_err-moment-clause-looks
 returns-in_err-moment-clause-looks g c = looks_failed c.from_residual-in_err-moment.result _ c.from_residual-in_err-moment.ensures.1 (looks_then c.in_ok-node.ensures.looks c.in_err-moment.ensures.looks)
@@ -42,7 +42,7 @@ returns-in_err-size-clause-refused g c tree s =
     let here = c.in_ok-node.ensures.found tree (sees_before c.args.self.now tree (looks_then q r) s) in
     let there = stored_seen c.args.path.now c.in_ok-node.node here (looks_then p q) in
     let short = (c.in_err-size.ensures.count (sound_next (looks_then p q) r (sound s)) here.found.stored there (sym here.kind ∙ (sym c.is_directory.ensures ∙ c.if-not-is_directory.false))).1 in
-    refused_by c.from_residual-in_err-size.result _ _ c.from_residual-in_err-size.ensures.1 (inr (inr (inr short)))
+    refused_by c.from_residual-in_err-size.result _ _ c.from_residual-in_err-size.ensures.1 (inr (inr (inr (inr short))))
 
 pub returns-in_err-size-clause-looks : goal.returns-in_err-size-clause-looks
 returns-in_err-size-clause-looks g c =
