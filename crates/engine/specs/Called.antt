@@ -41,20 +41,18 @@ abbrev pub applied : Result Reply StoreFault → Answer
 applied (Ok reply) = answer.Reply reply
 applied (Err refusal) = refused refusal
 
-abbrev pub get_refused : StoreFault → Answer
-get_refused fault.NotFound = answer.NotFound
-get_refused fault.IsDirectory = answer.IsDirectory
-get_refused fault.TooLong = answer.TooLong
-get_refused other = failed other
-
-abbrev pub get_answer : Result (List ℕ) StoreFault → Answer
-get_answer (Ok bytes) = answer.Data bytes
-get_answer (Err refusal) = get_refused refusal
-
 abbrev pub read_refused : StoreFault → Answer
 read_refused fault.NotFound = answer.NotFound
 read_refused fault.IsDirectory = answer.IsDirectory
 read_refused other = failed other
+
+abbrev pub get_refused : StoreFault → Answer
+get_refused fault.TooLong = answer.TooLong
+get_refused other = read_refused other
+
+abbrev pub get_answer : Result (List ℕ) StoreFault → Answer
+get_answer (Ok bytes) = answer.Data bytes
+get_answer (Err refusal) = get_refused refusal
 
 abbrev pub read_answer : Result (List ℕ) StoreFault → Answer
 read_answer (Ok bytes) = answer.Data bytes

@@ -175,7 +175,7 @@ fn answer_query<D: Drive>(store: &mut Store, alloc: Global, drive: &mut D, query
             offset,
             count,
         } => match store.read(alloc, drive, path, *offset, count) {
-            Ok(data) => Answer::Data(data),
+            Ok(bytes) => Answer::Data(bytes),
             Err(fault) => read_refusal(fault),
         },
     }
@@ -200,10 +200,8 @@ fn get_refusal(fault: StoreFault) -> Answer
     ensures device { faults result ≡ device_failures fault }
 {
     match fault {
-        StoreFault::NotFound => Answer::NotFound,
-        StoreFault::IsDirectory => Answer::IsDirectory,
         StoreFault::TooLong => Answer::TooLong,
-        other => failure(other),
+        other => read_refusal(other),
     }
 }
 

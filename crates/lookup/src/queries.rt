@@ -57,9 +57,10 @@ impl<D: Drive> Lookup<'_, '_, D> {
     {
         let node = self.node(path)?;
         if node.is_directory() {
-            return Err(StoreFault::IsDirectory);
+            Err(StoreFault::IsDirectory)
+        } else {
+            self.file_piece(node.address, offset, count.bytes())
         }
-        self.file_piece(node.address, offset, count.bytes())
     }
 
     /// The names in a directory, in their stored order. `NotFound` if the path leads to nothing, `NotDirectory` if it

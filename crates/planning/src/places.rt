@@ -189,7 +189,8 @@ pub(crate) fn outside_of(bytes: &[u8]) -> &[u8]
 
 /// Where the bytes of a file are. If they are outside the entry, they begin at block number `first`.
 fn place_of_bytes(bytes: &[u8], first: u32) -> Place<'_>
-    requires { first + div_ceil (length (outside bytes.now)) BLOCK_BYTES ≤ PARTITION_BLOCKS }
+    requires few { length bytes.now ≤ FILE_BYTES }
+    requires room { first + div_ceil (length (outside bytes.now)) BLOCK_BYTES ≤ PARTITION_BLOCKS }
     ensures fits { FitsPlace File (length bytes.now) (place_of result) }
     ensures places { (from : ℕ) (blocks : List (List ℕ)) → IsPlaced udf (outside bytes.now) from first blocks → PlacesFile udf bytes.now from blocks (said_place (place_of result)) }
 {

@@ -5,7 +5,7 @@ use std::fmt::Write;
 use words::show_bytes;
 
 /// The answers that are a word, and a number of so many bytes where that is not 0, by their codes.
-const WORDS: [(u16, usize, &str); 11] = [
+const WORDS: [(u16, usize, &str); 12] = [
     (32, 8, "stale"),
     (33, 8, "gap"),
     (34, 0, "clients full"),
@@ -17,6 +17,7 @@ const WORDS: [(u16, usize, &str); 11] = [
     (96, 0, "not found"),
     (97, 0, "is directory"),
     (98, 0, "not directory"),
+    (99, 0, "too long"),
 ];
 
 /// Appends the answers in the bytes of a stream, separated by semicolons. What is left after the last complete one is

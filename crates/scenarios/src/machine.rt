@@ -370,6 +370,14 @@ fn answer_now(alloc: Global, store: &mut Store, drive: &mut MemDrive, query: &Qu
             Ok(status) => Answer::Node(status),
             Err(fault) => refusal(fault),
         },
+        Query::Read {
+            path,
+            offset,
+            count,
+        } => match store.read(alloc, drive, path, *offset, count) {
+            Ok(data) => Answer::Data(data),
+            Err(fault) => refusal(fault),
+        },
     }
 }
 
@@ -405,6 +413,14 @@ fn answer_then(
             Ok(status) => Answer::Node(status),
             Err(fault) => refusal(fault),
         },
+        Query::Read {
+            path,
+            offset,
+            count,
+        } => match snapshot.read(alloc, store, drive, path, *offset, count) {
+            Ok(data) => Answer::Data(data),
+            Err(fault) => refusal(fault),
+        },
     }
 }
 
@@ -415,6 +431,7 @@ fn refusal(fault: StoreFault) -> Answer {
         StoreFault::NotFound => Answer::NotFound,
         StoreFault::IsDirectory => Answer::IsDirectory,
         StoreFault::NotDirectory => Answer::NotDirectory,
+        StoreFault::TooLong => Answer::TooLong,
         StoreFault::Device => Answer::Fault,
         StoreFault::Memory => Answer::Memory,
         _ => Answer::Damaged,
