@@ -85,13 +85,13 @@ part_there M at size offset count all within =
     let start = at + offset / BLOCK_BYTES in
     let place : BLOCK_BYTES * start + skip ≡ BLOCK_BYTES * at + offset = omega arith in
     let read : drop skip (medium_bytes_at M start (skip + count)) ≡ take count (drop (BLOCK_BYTES * start + skip) (flat M)) =
-        ap (drop skip) (there M start (skip + count) all)
-        ∙ drop-take skip count (drop (BLOCK_BYTES * start) (flat M))
-        ∙ ap (take count) (drop-drop skip (BLOCK_BYTES * start) (flat M)) in
+    ap (drop skip) (there M start (skip + count) all)
+    ∙ drop-take skip count (drop (BLOCK_BYTES * start) (flat M))
+    ∙ ap (take count) (drop-drop skip (BLOCK_BYTES * start) (flat M)) in
     let said : take count (drop offset (medium_bytes_at M at size)) ≡ take count (drop (BLOCK_BYTES * at + offset) (flat M)) =
-        ap (λ (bytes : List ℕ). take count (drop offset bytes)) (there M at size all)
-        ∙ part_of_first count offset size (drop (BLOCK_BYTES * at) (flat M)) within
-        ∙ ap (take count) (drop-drop offset (BLOCK_BYTES * at) (flat M)) in
+    ap (λ (bytes : List ℕ). take count (drop offset bytes)) (there M at size all)
+    ∙ part_of_first count offset size (drop (BLOCK_BYTES * at) (flat M)) within
+    ∙ ap (take count) (drop-drop offset (BLOCK_BYTES * at) (flat M)) in
     read ∙ ap (λ (n : ℕ). take count (drop n (flat M))) place ∙ sym said
 
 -- ---- several extents
@@ -118,10 +118,10 @@ from_extent M all zero size first (one ∷ firsts) h e =
     record {
       some = subst (λ (n : ℕ). 0 < n) left h.0;
       within = subst (λ (n : ℕ). n + PARTITION_START + div_ceil (extent_size size 0) BLOCK_BYTES ≤ length M) same
-        (subst (λ (n : ℕ). one + PARTITION_START + div_ceil (min n FILE_BYTES) BLOCK_BYTES ≤ length M) left h.1);
+          (subst (λ (n : ℕ). one + PARTITION_START + div_ceil (min n FILE_BYTES) BLOCK_BYTES ≤ length M) left h.1);
       later = bytes_in_extents M (size - FILE_BYTES) firsts;
       bytes = ap (λ (n : ℕ). medium_bytes_at M (n + PARTITION_START) (min size FILE_BYTES) ++ bytes_in_extents M (size - FILE_BYTES) firsts) same
-        ∙ ap (λ (n : ℕ). medium_bytes_at M (first + PARTITION_START) (min n FILE_BYTES) ++ bytes_in_extents M (size - FILE_BYTES) firsts) left;
+          ∙ ap (λ (n : ℕ). medium_bytes_at M (first + PARTITION_START) (min n FILE_BYTES) ++ bytes_in_extents M (size - FILE_BYTES) firsts) left;
     }
 from_extent M all (suc k) size first [] h e = absurd cc
 from_extent M all (suc k) size first (one ∷ firsts) h e =
@@ -137,7 +137,7 @@ from_extent M all (suc k) size first (one ∷ firsts) h e =
       within = subst (λ (n : ℕ). first + PARTITION_START + div_ceil (min n FILE_BYTES) BLOCK_BYTES ≤ length M) left r.within;
       later = r.later;
       bytes = ap (λ (n : ℕ). drop n (e0 ++ others)) count ∙ drop-append-add e0 others (FILE_BYTES * k) ∙ r.bytes
-        ∙ ap (λ (n : ℕ). medium_bytes_at M (first + PARTITION_START) (min n FILE_BYTES) ++ r.later) left;
+          ∙ ap (λ (n : ℕ). medium_bytes_at M (first + PARTITION_START) (min n FILE_BYTES) ++ r.later) left;
     }
 
 -- so many bytes are in them
@@ -179,8 +179,8 @@ piece_in_two M all k size first next offset count more firsts h e f ends within 
     let later_long : length there ≡ extent_size size (suc k) = first_length M next (extent_size size (suc k)) all s.within in
     -- what is after this extent begins with the next one
     let after : r.later ≡ there ++ s.later =
-        sym (drop-append_seam here r.later) ∙ ap (λ (n : ℕ). drop n (here ++ r.later)) (long ∙ full) ∙ ap (drop FILE_BYTES) (sym r.bytes)
-        ∙ drop-drop FILE_BYTES (FILE_BYTES * k) whole ∙ ap (λ (n : ℕ). drop n whole) (the_next k) ∙ s.bytes in
+    sym (drop-append_seam here r.later) ∙ ap (λ (n : ℕ). drop n (here ++ r.later)) (long ∙ full) ∙ ap (drop FILE_BYTES) (sym r.bytes)
+    ∙ drop-drop FILE_BYTES (FILE_BYTES * k) whole ∙ ap (λ (n : ℕ). drop n whole) (the_next k) ∙ s.bytes in
     let cut : drop offset here ≡ take count (drop offset here) = sym (take_all count (drop offset here) (omega (arith, length-drop offset here, long, ends))) in
     let length_cut : length (drop offset here) ≡ count = omega (arith, length-drop offset here, long, ends) in
     ap (take (count + more)) (sym (drop-drop offset (FILE_BYTES * k) whole) ∙ ap (drop offset) r.bytes ∙ drop-append-le offset here r.later (omega (arith, long, ends)))

@@ -168,12 +168,7 @@ impl<D: Drive> Lookup<'_, '_, D> {
     }
 
     /// The bytes of the file at a virtual address from the offset on, `count` or as many as there are.
-    fn file_piece(
-        &mut self,
-        address: u32,
-        offset: u64,
-        count: u32,
-    ) -> Result<FileData, StoreFault>
+    fn file_piece(&mut self, address: u32, offset: u64, count: u32) -> Result<FileData, StoreFault>
         requires { count ≤ FILE_BYTES }
         ensures read { Once (D.journal self.old.drive.now) → OfNode D.Drive self.old self.new address (λ s. is_directory s ≡ false → Answers result (λ bytes. (whole : List ℕ) → s.body ≡ Bytes whole → bytes ≡ take count (drop offset whole))) }
         ensures looks { Looks D.Drive (devices result) self.old self.new }

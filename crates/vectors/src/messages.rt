@@ -24,11 +24,13 @@ fn tell(message: &Message<'_>, out: &mut String) -> Result<(), Trouble> {
         Message::Query(Query::Get(path)) => tell_path("get path", path, out),
         Message::Query(Query::List(path)) => tell_path("list path", path, out),
         Message::Query(Query::Stat(path)) => tell_path("stat path", path, out),
-        Message::Query(Query::Read {
-            path,
-            offset,
-            count,
-        }) => {
+        Message::Query(
+            Query::Read {
+                path,
+                offset,
+                count,
+            },
+        ) => {
             write!(out, "read offset {offset} count {} ", count.bytes())?;
             tell_path("path", path, out)
         }
