@@ -1,9 +1,9 @@
 -- Look-ups that follow one another.
-use Rattle.std.proofs.Common.{◌≡◌, ◌∙◌, ℕ, true, List, None, Option, inl, inr, refl, sym, ap, subst}
+use Rattle.std.proofs.Common.{◌≡◌, ◌∙◌, ℕ, true, List, take, None, Option, inl, inr, refl, sym, ap, subst}
 use Rattle.std.specs.FinMap.{get}
 use Rattle.std.specs.Prelude.{⊤, IsTrue, IfOk, IfErr, Result, Ok, Err}
 use Rattle.std.specs.Result.{IsErrAnd}
-use Rattle.drive.specs.Journal.{Event}
+use Rattle.drive.specs.Journal.{Event, held}
 use Rattle.drive.specs.Reads.{ReadsOnly}
 use Rattle.drive.specs.declared.Drive.{Ghosts}
 use Rattle.drive.proofs.Reading.{reads_none, reads_then}
@@ -17,7 +17,7 @@ use Rattle.recover.specs.declared.fault.StoreFault.{StoreFault}
 use Rattle.recover.specs.declared.node.Node.{Node}
 use Rattle.lookup.specs.Cache.{AreKept, LiesThere}
 use Rattle.lookup.specs.Shows.{IsFound, IsFoundDirectory, IsNodeAt, graph_below}
-use Rattle.lookup.specs.Lookups.{IsDirectoryAt, IsReliable, KeepsToo, Looks, OpensDirectory, Sees, free_seen, graph_seen}
+use Rattle.lookup.specs.Lookups.{IsDirectoryAt, IsReliable, KeepsToo, Looks, OpensDirectory, Sees, below_seen, free_seen, graph_seen}
 use Rattle.lookup.specs.Queries.{IsMissing, IsQueryRefused}
 use Rattle.lookup.specs.declared.cache.DirectoryCache.{DirectoryCache}
 use Rattle.lookup.specs.declared.content.Content.{Content}
@@ -101,6 +101,11 @@ module _ {D : Type 0} {drive : Ghosts D} where
   graph_same {n} {a} {b} p =
       ap (λ (n : Nodes). graph_below n.vat_icb_address n.numbers.now (drive.journal b.drive.now)) p.nodes
       ∙ ap (λ (K : List Event). graph_below a.nodes.vat_icb_address a.nodes.numbers.now K) p.reads.journal
+
+  pub below_same : {n : ℕ} {a b : Lookup D drive} → Looks drive n a b → below_seen drive b ≡ below_seen drive a
+  below_same {n} {a} {b} p =
+      ap (λ (n : Nodes). take n.vat_icb_address (held (drive.journal b.drive.now))) p.nodes
+      ∙ ap (λ (K : List Event). take a.nodes.vat_icb_address (held K)) p.reads.journal
 
   pub free_same : {n : ℕ} {a b : Lookup D drive} → Looks drive n a b → free_seen b ≡ free_seen a
   free_same p = ap (λ (n : Nodes). free_address n.numbers.now) p.nodes

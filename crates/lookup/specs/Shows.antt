@@ -1,6 +1,5 @@
 -- What is at the nodes of a state, and what a walk through them finds.
-use Rattle.std.specs.Prelude.{◌≡◌, ℕ, Bool, true, false, IsTrue, List, [], take, Option, Some, None, nat_eq}
-use Rattle.std.specs.Cmp.Lexicographic.{pointwise}
+use Rattle.std.specs.Prelude.{◌≡◌, ℕ, Bool, true, false, IsTrue, List, [], take, Option, Some, None}
 use Rattle.std.specs.FinMap.{get}
 use Rattle.drive.specs.Journal.{Event, held}
 use Rattle.recover.specs.Nodes.{data_of}

@@ -1,4 +1,4 @@
-use Rattle.std.proofs.Common.{◌≡◌, ◌+◌, ◌≤◌, ◌∙◌, sym, ap, refl, subst, List, inl, inr}
+use Rattle.std.proofs.Common.{◌≡◌, ◌+◌, ◌≤◌, ◌∙◌, sym, ap, refl, subst, length, List, inl, inr, arith}
 use Rattle.std.specs.Int.{div_ceil}
 use Rattle.std.specs.Prelude.{IsOkAnd}
 use Rattle.std.proofs.lemmas.Bool.{false≢true}
@@ -9,22 +9,25 @@ use Rattle.icb.specs.Entry as icb
 use Rattle.udf.specs.Words.{icb_fields}
 use Rattle.model.specs.Graph.Body.{Bytes}
 use Rattle.lookup.specs.declared.nodes.Nodes.{Nodes}
+use Rattle.icb.specs.declared.entry.Place as source
+use Rattle.recover.proofs.Held.{length-held}
+use Rattle.lookup.proofs.FileSizes.{size_is}
 use Rattle.lookup.proofs.FileBytes.{has_bytes, stored_nowhere, stored_inside, stored_extent}
 use Rattle.lookup.proofs.Looking.{failed, looks_failed, looks_then}
 use Rattle.lookup.proofs.StoredNodes.{decoded}
 use Rattle.lookup.proofs.lookup.Lookup.file_data.Goals as goal
 
 pub returns-in_err-block-clause-read : goal.returns-in_err-block-clause-read
-returns-in_err-block-clause-read g c honest s there file = failed c.from_residual.result _ _ _ c.from_residual.ensures.1 (inl (c.in_err-block.ensures.refused s there))
+returns-in_err-block-clause-read g c once honest s there file = failed c.from_residual.result _ _ _ c.from_residual.ensures.1 (inr (inl (c.in_err-block.ensures.refused s there)))
 
 pub returns-in-Err-clause-read : goal.returns-in-Err-clause-read
-returns-in-Err-clause-read g c honest s there file =
+returns-in-Err-clause-read g c once honest s there file =
     let b = c.in_ok-block.ensures.block.block honest s there in
     let ok = decoded c.in_ok-block.block there.block c.args.address there.fields c.decode_fe.result b.0 there.entry c.decode_fe.ensures.only in
     absurd (subst (λ r. IsOkAnd r (λ e. icb.fields_of e ≡ icb_fields there.fields)) c.in-Err.is ok)
 
 pub returns-then-not-lies_below-clause-read : goal.returns-then-not-lies_below-clause-read
-returns-then-not-lies_below-clause-read g c honest s there file =
+returns-then-not-lies_below-clause-read g c once honest s there file =
     let J = g.D.Drive.journal c.args.self.now.drive.now in
     let at = c.args.self.now.nodes.vat_icb_address in
     let b = c.in_ok-block.ensures.block.block honest s there in
@@ -35,14 +38,14 @@ returns-then-not-lies_below-clause-read g c honest s there file =
     absurd (false≢true (sym c.if-not-lies_below.true ∙ c.lies_below.ensures.1 (subst (λ (n : Nodes). c.in-Extent.first + PARTITION_START + div_ceil c.in-Ok.entry.size BLOCK_BYTES ≤ n.vat_icb_address) (sym c.in_ok-block.ensures.looks.nodes) lies.0)))
 
 pub returns-in_err-to_vec-in-Inside-clause-read : goal.returns-in_err-to_vec-in-Inside-clause-read
-returns-in_err-to_vec-in-Inside-clause-read g c honest s there file = failed c.from_residual-in_err-to_vec-in-Inside.result _ _ _ c.from_residual-in_err-to_vec-in-Inside.ensures.1 (inr refl)
+returns-in_err-to_vec-in-Inside-clause-read g c once honest s there file = failed c.from_residual-in_err-to_vec-in-Inside.result _ _ _ c.from_residual-in_err-to_vec-in-Inside.ensures.1 (inr (inr refl))
 
 pub returns-in_err-bytes-in-Extent-clause-read : goal.returns-in_err-bytes-in-Extent-clause-read
-returns-in_err-bytes-in-Extent-clause-read g c honest s there file =
-    failed c.from_residual-in_err-bytes-in-Extent.result _ _ _ c.from_residual-in_err-bytes-in-Extent.ensures.1 c.in_err-bytes-in-Extent.ensures.refused
+returns-in_err-bytes-in-Extent-clause-read g c once honest s there file =
+    failed c.from_residual-in_err-bytes-in-Extent.result _ _ _ c.from_residual-in_err-bytes-in-Extent.ensures.1 (inr c.in_err-bytes-in-Extent.ensures.refused)
 
 pub returns-in-None-clause-read : goal.returns-in-None-clause-read
-returns-in-None-clause-read g c honest s there file =
+returns-in-None-clause-read g c once honest s there file =
     let J = g.D.Drive.journal c.args.self.now.drive.now in
     let at = c.args.self.now.nodes.vat_icb_address in
     let b = c.in_ok-block.ensures.block.block honest s there in
@@ -52,7 +55,7 @@ returns-in-None-clause-read g c honest s there file =
     (stored_nowhere at J s there.fields c.in-Ok.entry h same c.in-None.is ∙ ap Bytes (sym (c.new-in-None.ensures ∙ c.new.ensures.items)), tt)
 
 pub returns-in_ok-to_vec-in-Inside-clause-read : goal.returns-in_ok-to_vec-in-Inside-clause-read
-returns-in_ok-to_vec-in-Inside-clause-read g c honest s there file =
+returns-in_ok-to_vec-in-Inside-clause-read g c once honest s there file =
     let J = g.D.Drive.journal c.args.self.now.drive.now in
     let at = c.args.self.now.nodes.vat_icb_address in
     let b = c.in_ok-block.ensures.block.block honest s there in
@@ -63,7 +66,7 @@ returns-in_ok-to_vec-in-Inside-clause-read g c honest s there file =
     (stored_inside at J s there.fields c.in-Ok.entry h same c.in-Inside.bytes c.in-Inside.is ∙ ap Bytes (sym (c.new-in-Inside.ensures ∙ copied)), tt)
 
 pub returns-in_ok-bytes-in-Extent-clause-read : goal.returns-in_ok-bytes-in-Extent-clause-read
-returns-in_ok-bytes-in-Extent-clause-read g c honest s there file =
+returns-in_ok-bytes-in-Extent-clause-read g c once honest s there file =
     let J = g.D.Drive.journal c.args.self.now.drive.now in
     let at = c.args.self.now.nodes.vat_icb_address in
     let b = c.in_ok-block.ensures.block.block (c.in_ok-bytes-in-Extent.ensures.reads.honest honest) s there in
@@ -81,3 +84,22 @@ returns-in_err-bytes-in-Extent-clause-looks g c =
 pub returns-in_ok-bytes-in-Extent-clause-looks : goal.returns-in_ok-bytes-in-Extent-clause-looks
 returns-in_ok-bytes-in-Extent-clause-looks g c =
     looks_then c.in_ok-block.ensures.looks (record { same_drive = refl; same_cache = refl; nodes = refl; reads = c.in_ok-bytes-in-Extent.ensures.reads; kept = λ honest kept. kept })
+
+pub returns-in-Extents-clause-read : goal.returns-in-Extents-clause-read
+returns-in-Extents-clause-read g c once honest s there file =
+    let J = g.D.Drive.journal c.args.self.now.drive.now in
+    let at = c.args.self.now.nodes.vat_icb_address in
+    let b = c.in_ok-block.ensures.block.block honest s there in
+    let ok = decoded c.in_ok-block.block there.block c.args.address there.fields c.decode_fe.result b.0 there.entry c.decode_fe.ensures.only in
+    let same = subst (λ r. IsOkAnd r (λ e. icb.fields_of e ≡ icb_fields there.fields)) c.in-Ok.is ok in
+    let h = has_bytes at c.args.self.now.nodes.numbers.now J c.args.address s there file in
+    let within : at ≤ length (held J) = omega (arith, length-held J, c.args.self.now.within) in
+    let fits = subst (λ (p : source.Place). icb.FitsPlace c.in-Ok.entry.kind c.in-Ok.entry.size (icb.place_of p)) c.in-Extents.is c.in-Ok.ensures.found.fits.place in (
+      tt,
+      inl (
+        refl,
+        λ bytes body.
+            let size = size_is at J s there.fields c.in-Ok.entry c.in-Ok.entry.kind h same c.in-Ok.ensures.found.fits.place once c.in_ok-block.ensures.block.whole within bytes body in
+            omega (arith, size, fits.1),
+      ),
+    )
