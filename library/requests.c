@@ -12,7 +12,7 @@ enum kind { CREATE = 1, REPLACE = 2, MAKE_DIRECTORY = 3, RENAME = 4, REMOVE = 5,
 enum code {
     DONE = 0, LAST_RESULT = 10,
     STALE = 32, GAP = 33, CLIENTS_FULL = 34, FULL = 35, FAULT = 36, MEMORY = 37, MALFORMED = 38, DAMAGED = 39,
-    DATA = 64, NAMES = 65, NODE = 66, NOT_FOUND = 96, IS_DIRECTORY = 97, NOT_DIRECTORY = 98
+    DATA = 64, NAMES = 65, NODE = 66, NOT_FOUND = 96, IS_DIRECTORY = 97, NOT_DIRECTORY = 98, TOO_LONG = 99
 };
 
 /* The cause of a malformed message that is the fault of a path. */
@@ -215,6 +215,7 @@ static int32_t refusal(const struct answer *answer) {
     case NOT_FOUND: return UDFBURN_NOT_FOUND;
     case IS_DIRECTORY: return UDFBURN_IS_DIRECTORY;
     case NOT_DIRECTORY: return UDFBURN_NOT_DIRECTORY;
+    case TOO_LONG: return UDFBURN_TOO_LONG;
     default: return UDFBURN_DEVICE;
     }
 }
