@@ -81,20 +81,20 @@ returns-in-Ok-read-clause-queried g c volume S honest knows going =
     let store = c.args.store.now in
     let J = g.D.Drive.journal c.args.drive.now in
     let shown = shows (g.D.Drive.capacity c.args.drive.now) volume J S store knows (g.D.Drive.honest c.read.new.drive) honest in
-    let given = reads S c.in-Read.path c.in-Read.offset.now c.in-Read.count.now (Ok c.in-Ok-read.bytes) (c.in-Ok-read.ensures.reported S.tree knows.once shown) (c.in-Ok-read.ensures.refused S.tree knows.once shown going) in (
+    let given = reads S c.in-Read.path c.in-Read.offset c.in-Read.count (Ok c.in-Ok-read.bytes) (c.in-Ok-read.ensures.reported S.tree knows.once shown) (c.in-Ok-read.ensures.refused S.tree knows.once shown going) in (
       subst (λ (q : Query). IsQueried S q (answer.Data c.in-Ok-read.bytes)) (sym c.in-Read.is) (Ok c.in-Ok-read.bytes, given, refl),
       knows_again (g.D.Drive.capacity c.args.drive.now) volume J S store knows J c.read.new.self refl c.in-Ok-read.ensures.same.at c.in-Ok-read.ensures.same.vat c.in-Ok-read.ensures.same.capacity (c.in-Ok-read.ensures.kept honest knows.kept),
     )
 
 pub returns-in-Err-read-clause-reported : goal.returns-in-Err-read-clause-reported
-returns-in-Err-read-clause-reported g c = subst (λ (q : Query). CanBeAnswered q c.read_refusal.result) (sym c.in-Read.is) (c.read_refusal.ensures.reported c.in-Read.path c.in-Read.offset.now c.in-Read.count.now)
+returns-in-Err-read-clause-reported g c = subst (λ (q : Query). CanBeAnswered q c.read_refusal.result) (sym c.in-Read.is) (c.read_refusal.ensures.reported c.in-Read.path c.in-Read.offset c.in-Read.count)
 
 pub returns-in-Err-read-clause-queried : goal.returns-in-Err-read-clause-queried
 returns-in-Err-read-clause-queried g c volume S honest knows going =
     let store = c.args.store.now in
     let J = g.D.Drive.journal c.args.drive.now in
     let shown = shows (g.D.Drive.capacity c.args.drive.now) volume J S store knows (g.D.Drive.honest c.read.new.drive) honest in
-    let given = reads S c.in-Read.path c.in-Read.offset.now c.in-Read.count.now (Err c.in-Err-read.fault) (c.in-Err-read.ensures.reported S.tree knows.once shown) (c.in-Err-read.ensures.refused S.tree knows.once shown going) in (
+    let given = reads S c.in-Read.path c.in-Read.offset c.in-Read.count (Err c.in-Err-read.fault) (c.in-Err-read.ensures.reported S.tree knows.once shown) (c.in-Err-read.ensures.refused S.tree knows.once shown going) in (
       subst (λ (q : Query). IsQueried S q c.read_refusal.result) (sym c.in-Read.is) (Err c.in-Err-read.fault, given, c.read_refusal.ensures.refused),
       knows_again (g.D.Drive.capacity c.args.drive.now) volume J S store knows J c.read.new.self refl c.in-Err-read.ensures.same.at c.in-Err-read.ensures.same.vat c.in-Err-read.ensures.same.capacity (c.in-Err-read.ensures.kept honest knows.kept),
     )
