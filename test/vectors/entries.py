@@ -1,7 +1,7 @@
 """File entries and file set descriptors (entry.txt)."""
 
 import layouts
-from layouts import Changes, ENTRY, FILE_SET, changed, file_entry, seal
+from layouts import Changes, ENTRY, EXTENT as EXTENT_BYTES, FILE_SET, changed, file_entry, long_ad, seal, several
 from writing import Vectors, padded
 
 OLD = "codec_tests::entries::"
@@ -74,6 +74,35 @@ def _sizes(v: Vectors) -> None:
         assert int.from_bytes(block[64:72], "little") == blocks and block[10:12] == b"\xB0\0" and block[172] == 16
         _entry(v, f"in-an-extent-{size}", OLD + "files_of_each_size_in_extents", block, 2,
                f"file links 1 unique 16 moment 0 size {size} extent 5")
+    _several(v)
+
+
+def _several(v: Vectors) -> None:
+    v.about("Files in several extents, each but the last of 1,048,576 bytes: up to 117, as many as there is room for.")
+    size, last = EXTENT_BYTES + 1, 449_742
+    for name, size, firsts in [("in-two-extents", size, [7, 600]), ("in-two-whole-extents", 2 * EXTENT_BYTES, [600, 7]),
+                               ("in-117-extents", 117 * EXTENT_BYTES, [7] * 117), ("in-two-extents-up-to-the-last-block", size, [7, last])]:
+        block = file_entry("file", 1, 16, size, several(size, *firsts), 2)
+        _entry(v, name, "", block, 2, f"file links 1 unique 16 moment 0 size {size} extents {' '.join(map(str, firsts))}")
+    whole, size = long_ad(EXTENT_BYTES, 7), EXTENT_BYTES + 1
+    two = several(size, 7, 600)
+    for name, fault, size, descriptors in [
+        ("a-byte-more-than-117-extents", LENGTHS, 117 * EXTENT_BYTES + 1, [whole] * 117), ("one-extent-of-two", LENGTHS, size, [whole]),
+        ("three-extents-of-two", LENGTHS, size, two + [long_ad(1, 601)]), ("one-extent-of-all-bytes", LENGTHS, size, [long_ad(size, 7)]),
+        ("a-first-extent-of-a-block-less", LENGTHS, size, [long_ad(EXTENT_BYTES - 2048, 7), long_ad(2049, 600)]),
+        ("a-last-extent-that-is-whole", EXTENT, size, [whole, whole]), ("a-last-extent-of-no-byte", EXTENT, size, [whole, long_ad(0, 600)]),
+        ("a-last-extent-that-is-not-recorded", EXTENT, size, [whole, long_ad(1 | 1 << 30, 600)]),
+        ("a-last-extent-that-leads-on", EXTENT, size, [whole, long_ad(2048 | 3 << 30, 600)]),
+        ("a-last-extent-in-the-virtual-partition", EXTENT, size, [whole, long_ad(1, 600, 1)]),
+        ("a-last-extent-with-implementation-use", EXTENT, size, [whole, long_ad(1, 600, 0, 1)]),
+        ("a-last-extent-past-the-partition", EXTENT, size, [whole, long_ad(1, last + 1)]),
+    ]:
+        _fault(v, name, "", fault, file_entry("file", 1, 16, size, descriptors, 2), 2)
+    block = file_entry("file", 1, 16, EXTENT_BYTES + 1, two, 2)
+    _fault(v, "blocks-recorded-of-one-extent", "", LENGTHS, resealed(block, [(64, 0)], 208, 2), 2)
+    _fault(v, "a-byte-after-two-extents", "", TAIL, changed(block, [(208, 1)]), 2)
+    for kind, links, unique in [("directory", 1, 16), ("table", 0, 0)]:
+        _fault(v, f"a-{kind}-in-two-extents", "", LENGTHS, file_entry(kind, links, unique, EXTENT_BYTES + 1, two, 2), 2)
 
 
 def _fault(v: Vectors, name: str, of: str, fault: int, block: bytes, location: int) -> None:

@@ -11,6 +11,7 @@ Changes = List[Tuple[int, int]]
 """Bytes that are changed, each at a place and to a value."""
 
 BLOCK = 2048
+EXTENT = 1_048_576
 PARTITION_START = 257
 NONE = 0xFFFF_FFFF
 TERMINATING, FILE_SET, IDENTIFIER, ENTRY = 8, 256, 257, 261
@@ -103,13 +104,20 @@ def long_ad(length: int, number: int, partition: int = 0, unique: int = 0) -> by
     return struct.pack("<IIHHI", length, number, partition, 0, unique)
 
 
-def file_entry(kind: str, links: int, unique: int, size: int, first: "int | bytes | None", location: int,
+def several(size: int, *firsts: int) -> "list[bytes]":
+    """The long_ads of so many bytes in extents from these block numbers on, each but the last of a mebibyte."""
+    return [long_ad(min(size - index * EXTENT, EXTENT), first) for index, first in enumerate(firsts)]
+
+
+def file_entry(kind: str, links: int, unique: int, size: int, first: "int | bytes | list[bytes] | None", location: int,
                moment: int = 0) -> bytes:
-    """The block of a file entry (ECMA-167 4/14.9). Where `first` is bytes they are inside it."""
+    """The block of a file entry (ECMA-167 4/14.9). Where `first` is bytes they are inside it, and a list is its long_ads."""
     file_type = {"directory": 4, "file": 5, "table": 248}[kind]
     inside = isinstance(first, bytes)
     blocks = 0 if inside or first is None else -(-size // BLOCK)
-    behind = first if isinstance(first, bytes) else b"" if first is None else long_ad(size, first)
+    if isinstance(first, int):
+        first = [long_ad(size, first)]
+    behind = first if isinstance(first, bytes) else b"".join(first or [])
     stamp = timestamp(moment)
     strategy = struct.pack("<IHHHBB", 0, 4, 0, 1, 0, file_type)
     parts = [bytes(16), strategy, bytes(6), struct.pack("<H", 3 if inside else 1), b"\xFF" * 8,

@@ -7,7 +7,7 @@ import entries
 import fronts
 import layouts
 import tables
-from layouts import BLOCK, NONE, block, changed, file_entry, file_set, front, lay, table
+from layouts import BLOCK, EXTENT, NONE, block, changed, file_entry, file_set, front, lay, several, table
 from writing import Vectors, digits, padded
 
 OLD = "recover_tests::"
@@ -108,6 +108,7 @@ def _sound(v: Vectors) -> None:
               entry_of_table(208, 9, 10)]
     v.case("a-small-file-in-an-extent", OLD + "states::a_small_file_in_a_block_of_its_own_is_read", "bytes {formatted}", "bytes " + words(blocks),
            "last -> 267", "state 267 -> " + SAID.replace("entries 0 7 5", "entries 0 8 6"))
+    _extents(v)
     v.about("A path has at most 16 names.")
     for depth in (16, 17):
         blocks, at = nested(depth)
@@ -116,6 +117,18 @@ def _sound(v: Vectors) -> None:
                  f"commits {depth} entries {entries_}"
         v.case(f"a-path-of-{depth}-names", OLD + "states::a_path_has_sixteen_names", "bytes {formatted}", "bytes " + words(blocks), f"last -> {at}",
                f"state {at} -> {answer if depth == 16 else told((263, TOO_DEEP))}")
+
+
+def _extents(v: Vectors) -> None:
+    v.about("A file in two extents, one of a mebibyte and one of a byte. Both must end below the VAT ICB, which has the block number 522.")
+    size = EXTENT + 1
+    for name, firsts, is_below in [("a-file-in-two-extents", (5, 517), True), ("a-first-extent-up-to-the-vat-icb", (10, 5), True),
+                                   ("a-last-extent-up-to-the-vat-icb", (5, 521), True), ("a-first-extent-past-the-vat-icb", (11, 5), False),
+                                   ("a-last-extent-past-the-vat-icb", (5, 522), False)]:
+        blocks = [file_entry("file", 1, 16, size, several(size, *firsts), 2), directory(519, 1, A), root_entry(1, 80, 519), used([0, 520, 518]),
+                  entry_of_table(208, 521, 522)]
+        answer = SAID.replace("entries 0 7 5", "entries 0 520 518") if is_below else told((775, RANGE))
+        v.case(name, "", "bytes {formatted}", f"bytes 00*{513 * BLOCK} " + words(blocks), "last -> 779", f"state 779 -> {answer}")
 
 
 def nested(depth: int) -> "tuple[list[bytes], int]":
