@@ -1,5 +1,6 @@
 -- What a query is answered of the state that a store knows, and what the store knows afterwards.
 use Rattle.std.proofs.Common.{◌≡◌, ◌⊎◌, inl, inr, ℕ, Bool, true, false, cond, ltb, List, length}
+use Rattle.std.specs.FinMap.{get}
 use Rattle.std.specs.Prelude.{IfOk, IfErr, Option, Some, None, Result, Ok, Err}
 use Rattle.limits.specs.declared.TheConstants.{FILE_BYTES}
 use Rattle.model.specs.Tree.{Content, Node, Path, Tree}
@@ -86,7 +87,7 @@ gets S path (Err fault) is refused = by refused
     by : IsQueryRefused (told S.tree (Get path)) fault → GetRefuses (told S.tree (Get path)) fault
     by (inl missing) = inr (inl missing)
     by (inr (inl directory)) = inr (inr (inl directory))
-    by (inr (inr (inl other))) = absurd (got_elsewhere _ other.1)
+    by (inr (inr (inl other))) = absurd (got_elsewhere (get S.tree path) other.1)
     by (inr (inr (inr (inl long)))) = inr (inr (inr long))
     by (inr (inr (inr (inr short)))) = inl short
 
@@ -98,8 +99,8 @@ reads S path offset count (Err fault) is refused = by refused
     by : IsQueryRefused (told S.tree (Read path offset count)) fault → ReadRefuses (told S.tree (Read path offset count)) fault
     by (inl missing) = inr (inl missing)
     by (inr (inl directory)) = inr (inr directory)
-    by (inr (inr (inl other))) = absurd (piece_elsewhere offset count _ (inl other.1))
-    by (inr (inr (inr (inl long)))) = absurd (piece_elsewhere offset count _ (inr long.1))
+    by (inr (inr (inl other))) = absurd (piece_elsewhere offset count (get S.tree path) (inl other.1))
+    by (inr (inr (inr (inl long)))) = absurd (piece_elsewhere offset count (get S.tree path) (inr long.1))
     by (inr (inr (inr (inr short)))) = inl short
 
 pub lists : (S : State) (path : Path) (result : Result (List Listed) StoreFault) → IfOk result (λ names. told S.tree (List_ path) ≡ runs.Answer.Names (said_names names)) → IfErr result (IsQueryRefused (told S.tree (List_ path))) → Lists S path result
@@ -108,9 +109,9 @@ lists S path (Err fault) is refused = by refused
   where
     by : IsQueryRefused (told S.tree (List_ path)) fault → ListRefuses (told S.tree (List_ path)) fault
     by (inl missing) = inr (inl missing)
-    by (inr (inl other)) = absurd (listed_elsewhere S.tree path _ (inl other.1))
+    by (inr (inl other)) = absurd (listed_elsewhere S.tree path (get S.tree path) (inl other.1))
     by (inr (inr (inl file))) = inr (inr file)
-    by (inr (inr (inr (inl long)))) = absurd (listed_elsewhere S.tree path _ (inr long.1))
+    by (inr (inr (inr (inl long)))) = absurd (listed_elsewhere S.tree path (get S.tree path) (inr long.1))
     by (inr (inr (inr (inr short)))) = inl short
 
 pub stats : (S : State) (path : Path) (result : Result NodeStatus StoreFault) → IfOk result (λ status. told S.tree (Stat path) ≡ runs.Answer.NodeIs (is_directory status.kind) status.moment status.size) → IfErr result (IsQueryRefused (told S.tree (Stat path))) → Stats S path result
@@ -119,7 +120,7 @@ stats S path (Err fault) is refused = by refused
   where
     by : IsQueryRefused (told S.tree (Stat path)) fault → StatRefuses (told S.tree (Stat path)) fault
     by (inl missing) = inr missing
-    by (inr (inl other)) = absurd (shown_elsewhere _ (inl other.1))
-    by (inr (inr (inl other))) = absurd (shown_elsewhere _ (inr (inl other.1)))
-    by (inr (inr (inr (inl long)))) = absurd (shown_elsewhere _ (inr (inr long.1)))
+    by (inr (inl other)) = absurd (shown_elsewhere (get S.tree path) (inl other.1))
+    by (inr (inr (inl other))) = absurd (shown_elsewhere (get S.tree path) (inr (inl other.1)))
+    by (inr (inr (inr (inl long)))) = absurd (shown_elsewhere (get S.tree path) (inr (inr long.1)))
     by (inr (inr (inr (inr short)))) = inl short
