@@ -85,7 +85,8 @@ enum udfburn_code {
      * may be committed or not: send it again with the same number, and it runs once. */
     UDFBURN_MEMORY = 1,         /* not enough memory */
     UDFBURN_DEVICE = 2,         /* the file or the drive cannot be opened, or failed: udfburn_reason() says why */
-    UDFBURN_TOO_LONG = 3,       /* a frame is longer than a frame may be: nothing after it is read */
+    UDFBURN_TOO_LONG = 3,       /* a frame is longer than a frame may be: nothing after it is read. To udfburn_get: the
+                                 * file has more than UDFBURN_FILE_LIMIT bytes */
     UDFBURN_TEXT = 4,           /* a label or a path is not valid */
     UDFBURN_VOLUME = 5,         /* no volume, a damaged one, or one that cannot be made with this moment or capacity */
     UDFBURN_ARGUMENT = 6,       /* NULL, or another argument that the call does not accept */
