@@ -30,7 +30,7 @@ class Names(unittest.TestCase):
         place = "".join(re.findall(r'put_all\(errors, b"( \w+ )"\)', self.source))
         self.assertEqual(place, " block  cause ")
         names["Damaged"] += " block {block} cause {cause}"
-        self.assertEqual(len(names), 13)
+        self.assertEqual(len(names), 14)
         self.assertEqual(names, shown("recover/src/fault.rt"))
 
     def test_a_fault_of_a_stream(self) -> None:
