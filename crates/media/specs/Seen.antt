@@ -19,6 +19,18 @@ abbrev pub found_by : LookLog → List ℕ → Option (List ℕ)
 found_by [] path = None
 found_by (look ∷ looks) path = if bytes_eq path look.0 then look.1 else found_by looks path
 
+-- What is taken to be known of image files: what each holds, how often something else was found, what looks found, and how
+-- many calls failed.
+pub record FileRecord : Type 0 where
+  pub images : ImageJournals
+  pub misses : ℕ
+  pub looks : LookLog
+  pub failures : ℕ
+
+-- of no image anything
+pub blank_record : FileRecord
+blank_record = record { images = []; misses = 0; looks = []; failures = 0 }
+
 -- the blocks that an image is taken to hold
 abbrev pub held_blocks : Option (List Event) → List (List ℕ)
 held_blocks None = []

@@ -1,9 +1,9 @@
 //! Images that are files. No clause can know what a file holds, so clauses speak of a record instead.
-ghost use Rattle.std.specs.Prelude.{◌≡◌, ◌==◌, ◌<◌, List, [], ℕ, true, Some, IsTrue};
+ghost use Rattle.std.specs.Prelude.{◌≡◌, ◌==◌, ◌<◌, List, ℕ, true, Some, IsTrue};
 ghost use Rattle.drive.specs.FileDrive.{BeginsWith, capacity_of, journal_of};
-ghost use Rattle.drive.specs.Journal.{Event};
+ghost use Rattle.drive.specs.Journal.{Event, counted};
 ghost use Rattle.media.specs.Held.{FoundAsHeld};
-ghost use Rattle.media.specs.Seen.{ImageJournals, lookup};
+ghost use Rattle.media.specs.Seen.{FileRecord, lookup};
 
 use crate::Media;
 use crate::seen::Seen;
@@ -18,22 +18,14 @@ pub struct FileMedia<'a, R: Files<File = File>> {
 }
 
 impl<'a, R: Files<File = File>> FileMedia<'a, R> {
-    /// The files of this runtime, of which nothing is known yet.
-    pub fn new(rt: &'a R) -> FileMedia<'a, R>
-        ensures held { result.seen.images ≡ [] }
-        ensures looked { result.seen.looks ≡ [] }
-        ensures honest { result.seen.misses ≡ 0 }
-    {
-        FileMedia::over(rt)
-    }
-
-    /// The files of this runtime, whatever they hold at first: each clause on what is held is for any images, under the
-    /// premise that what is found agrees with them.
+    /// The files of this runtime, whatever they hold and whatever was found there before. Each clause on what is held is
+    /// for any such record, under the premise that what is found agrees with it.
     pub fn over(rt: &'a R) -> FileMedia<'a, R>
-        ghost first: { ImageJournals }
-        ensures held { result.seen.images ≡ first }
-        ensures looked { result.seen.looks ≡ [] }
-        ensures honest { result.seen.misses ≡ 0 }
+        ghost first: { FileRecord }
+        ensures held { result.seen.images ≡ first.images }
+        ensures looked { result.seen.looks ≡ first.looks }
+        ensures honest { result.seen.misses ≡ first.misses }
+        ensures failures { result.seen.failures ≡ first.failures }
     {
         FileMedia {
             rt,
@@ -51,25 +43,37 @@ impl<'a, R: Files<File = File>> Media for FileMedia<'a, R> {
 
     ghost honest = { λ m. m.seen.misses == 0 };
 
+    ghost failures = { λ m. m.seen.failures };
+
     ghost looked = { λ m. found_by m.seen.looks };
 
     ghost takes_back = { λ _ _. true };
 
     fn open_to_read(&mut self, path: &str, capacity: u32) -> Result<FileDrive, DriveFault> {
-        let drive = FileDrive::open_to_read(self.rt, path, capacity)?;
+        let Ok(drive) = FileDrive::open_to_read(self.rt, path, capacity) else {
+            return Err(failed(&mut self.seen, path.as_bytes()));
+        };
         Ok(found(&mut self.seen, path.as_bytes(), drive))
     }
 
     fn open(&mut self, path: &str, capacity: u32) -> Result<FileDrive, DriveFault> {
-        let drive = FileDrive::open(self.rt, path, capacity)?;
+        let Ok(drive) = FileDrive::open(self.rt, path, capacity) else {
+            return Err(failed(&mut self.seen, path.as_bytes()));
+        };
         Ok(found(&mut self.seen, path.as_bytes(), drive))
     }
 
     fn create(&mut self, path: &str, capacity: u32) -> Result<FileDrive, DriveFault> {
-        let file = create_image(self.rt, path)?;
+        let Ok(file) = create_image(self.rt, path) else {
+            return Err(failed(&mut self.seen, path.as_bytes()));
+        };
         self.seen = Seen::after_made(&self.seen, path.as_bytes());
-        let drive = FileDrive::over(file, capacity)?;
-        sync_folder(self.rt, path)?;
+        let Ok(drive) = FileDrive::over(file, capacity) else {
+            return Err(failed(&mut self.seen, path.as_bytes()));
+        };
+        if sync_folder(self.rt, path).is_err() {
+            return Err(failed(&mut self.seen, path.as_bytes()));
+        }
         Ok(found(&mut self.seen, path.as_bytes(), drive))
     }
 
@@ -84,7 +88,9 @@ impl<'a, R: Files<File = File>> Media for FileMedia<'a, R> {
         into: &mut Block,
     ) -> Result<usize, DriveFault> {
         let mut look = Look::new(&[]);
-        let count = drive.part(into, &mut look)?;
+        let Ok(count) = drive.part(into, &mut look) else {
+            return Err(failed(&mut self.seen, path.as_bytes()));
+        };
         self.seen = Seen::after_look(&self.seen, path.as_bytes(), &look);
         Ok(count)
     }
@@ -97,6 +103,7 @@ fn found(seen: &mut Seen, path: &[u8], mut drive: FileDrive) -> FileDrive
     ensures capacity { capacity_of result ≡ capacity_of drive }
     ensures images { seen.new.images ≡ seen.old.images }
     ensures looks { seen.new.looks ≡ seen.old.looks }
+    ensures failures { seen.new.failures ≡ seen.old.failures }
     ensures opened { IsTrue (seen.new.misses == 0) → lookup seen.old.images path.now ≡ Some (journal_of result) }
     ensures alike { (J : List Event) → lookup seen.old.images path.now ≡ Some J → FoundAsHeld J (journal_of result) }
     ensures agreed { lookup seen.old.images path.now ≡ Some (journal_of result) → (seen.new.misses == 0) ≡ (seen.old.misses == 0) }
@@ -105,4 +112,15 @@ fn found(seen: &mut Seen, path: &[u8], mut drive: FileDrive) -> FileDrive
     drive.hold(&Seen::blocks(seen, path));
     *seen = Seen::after_open(seen, path, &drive);
     drive
+}
+
+/// Counts a call that failed, for the image at this path.
+fn failed(seen: &mut Seen, path: &[u8]) -> DriveFault
+    ensures images { seen.new.images ≡ seen.old.images }
+    ensures misses { seen.new.misses ≡ seen.old.misses }
+    ensures looks { seen.new.looks ≡ seen.old.looks }
+    ensures failures { seen.new.failures ≡ counted true seen.old.failures }
+{
+    *seen = Seen::after_failure(seen, path);
+    DriveFault
 }

@@ -10,8 +10,8 @@
 #![tactic(auto)]
 
 ghost use Rattle.limits.specs.declared.TheConstants.{BLOCK_BYTES};
-ghost use Rattle.std.specs.Prelude.{◌≡◌, ◌<◌, ℕ, Bool, List, Option, Some, take, IsTrue, IfOk, OnOk, OnErr};
-ghost use Rattle.drive.specs.Journal.{Event};
+ghost use Rattle.std.specs.Prelude.{◌≡◌, ◌<◌, ℕ, Bool, List, Option, Some, take, is_err, IsTrue, IfOk, OnOk, OnErr};
+ghost use Rattle.drive.specs.Journal.{Event, counted};
 ghost use Rattle.media.specs.Held.{FoundAsHeld, IsFresh, Same, SameBut, SameOrMade, initial_journal};
 
 mod files;
@@ -33,6 +33,9 @@ pub trait Media {
     /// Whether all that was found so far was what is held, and no read of a drive that was put back gave other bytes.
     ghost honest: { Self → Bool };
 
+    /// How many times an image could not be taken out, or looked at. It stops at 2^64 - 1.
+    ghost failures: { Self → ℕ };
+
     /// What the last call of `part` found after the last whole block of the image at a path. `None` before the first
     /// call.
     ghost looked: { Self → List ℕ → Option (List ℕ) };
@@ -53,6 +56,7 @@ pub trait Media {
         ensures err { OnErr result (Same (held self.old) (held self.new)) }
         ensures kept { OnErr result (Same (takes_back self.old) (takes_back self.new)) }
         ensures failed { OnErr result (honest self.new ≡ honest self.old) }
+        ensures failures { failures self.new ≡ counted (is_err result) (failures self.old) }
         ensures looked { looked self.new ≡ looked self.old }
         ensures honest { IsTrue (honest self.new) → IsTrue (honest self.old) };
 
@@ -68,6 +72,7 @@ pub trait Media {
         ensures err { OnErr result (Same (held self.old) (held self.new)) }
         ensures kept { OnErr result (Same (takes_back self.old) (takes_back self.new)) }
         ensures failed { OnErr result (honest self.new ≡ honest self.old) }
+        ensures failures { failures self.new ≡ counted (is_err result) (failures self.old) }
         ensures looked { looked self.new ≡ looked self.old }
         ensures honest { IsTrue (honest self.new) → IsTrue (honest self.old) };
 
@@ -84,6 +89,7 @@ pub trait Media {
         ensures err { OnErr result (SameOrMade path.now (held self.old) (held self.new)) }
         ensures kept { OnErr result (Same (takes_back self.old) (takes_back self.new)) }
         ensures failed { OnErr result (honest self.new ≡ honest self.old) }
+        ensures failures { failures self.new ≡ counted (is_err result) (failures self.old) }
         ensures looked { looked self.new ≡ looked self.old }
         ensures honest { IsTrue (honest self.new) → IsTrue (honest self.old) };
 
@@ -95,6 +101,7 @@ pub trait Media {
         ensures places { SameBut path.now (takes_back self.old) (takes_back self.new) }
         ensures misreads { IsTrue (honest self.new) → Self.Drive.misreads drive ≡ 0 }
         ensures agreed { Self.Drive.misreads drive ≡ 0 → honest self.new ≡ honest self.old }
+        ensures failures { failures self.new ≡ failures self.old }
         ensures looked { looked self.new ≡ looked self.old }
         ensures honest { IsTrue (honest self.new) → IsTrue (honest self.old) };
 
@@ -112,5 +119,6 @@ pub trait Media {
         ensures err { OnErr result (looked self.new ≡ looked self.old) }
         ensures held { held self.new ≡ held self.old }
         ensures places { takes_back self.new ≡ takes_back self.old }
+        ensures failures { failures self.new ≡ counted (is_err result) (failures self.old) }
         ensures honest { honest self.new ≡ honest self.old };
 }

@@ -1,6 +1,6 @@
 //! Images in memory. Such media are always honest.
-ghost use Rattle.std.specs.Prelude.{◌≡◌, ◌++◌, ◌∷◌, ◌<◌, ◌↔◌, List, ℕ, [], true, false, None, Some, length, IsTrue, IfOk, IfNone, IfSome, OnErr, OnOk};
-ghost use Rattle.drive.specs.Journal.{Event, InOrder};
+ghost use Rattle.std.specs.Prelude.{◌≡◌, ◌++◌, ◌∷◌, ◌<◌, ◌↔◌, List, ℕ, [], true, false, None, Some, is_err, length, IsTrue, IfOk, IfNone, IfSome, OnErr, OnOk};
+ghost use Rattle.drive.specs.Journal.{Event, InOrder, counted};
 ghost use Rattle.drive.specs.MemDrive.{journal_of, capacity_of, failures_of, writes_of};
 ghost use Rattle.media.specs.Held.{FoundAsHeld, IsFresh, Same, SameBut, SameOrMade, initial_journal};
 ghost use Rattle.media.specs.InMemory.{AreOthers, IsFit, IsPlace, IsUnfit, held_by, is_out, journal_in};
@@ -21,6 +21,7 @@ struct Slot {
 pub struct MemMedia {
     alloc: Global,
     slots: Vec<Slot>,
+    failures: u64,
 }
 
 impl MemMedia {
@@ -33,6 +34,7 @@ impl MemMedia {
         MemMedia {
             alloc,
             slots: Vec::new(alloc),
+            failures: 0,
         }
     }
 
@@ -49,6 +51,7 @@ impl MemMedia {
         ensures err { OnErr result (Same (held_by self.old) (held_by self.new)) }
         ensures kept { OnErr result (Same (is_out self.old) (is_out self.new)) }
         ensures refused { OnErr result (IsUnfit capacity (held_by self.old path.now)) }
+        ensures uncounted { self.new.failures ≡ self.old.failures }
     {
         let Some(place) = place_of(&self.slots, path) else {
             return Err(DriveFault);
@@ -68,6 +71,7 @@ impl MemMedia {
         ensures places { SameBut path.now (is_out self.old) (is_out self.new) }
         ensures err { OnErr result (Same (held_by self.old) (held_by self.new)) }
         ensures kept { OnErr result (Same (is_out self.old) (is_out self.new)) }
+        ensures uncounted { self.new.failures ≡ self.old.failures }
     {
         let Ok(own_path) = Vec::from_slice(self.alloc, path) else {
             return Err(DriveFault);
@@ -79,6 +83,35 @@ impl MemMedia {
         push_slot(&mut self.slots, slot)?;
         Ok(MemDrive::new(self.alloc, capacity, Vec::new(self.alloc)))
     }
+
+    /// Takes out the drive of the image at this path, which is made if it is missing.
+    fn take_or_add(&mut self, path: &str, capacity: u32) -> Result<MemDrive, DriveFault>
+        ensures opened { IfOk result (λ d. initial_journal (held_by self.old path.now) ≡ journal_of d) }
+        ensures alike { IfOk result (λ d. FoundAsHeld (initial_journal (held_by self.old path.now)) (journal_of d)) }
+        ensures fresh { IfOk result (λ d. IsFresh ⟦<MemDrive as Drive>⟧ capacity d) }
+        ensures place { OnOk result (IsTrue (is_out self.new path.now)) }
+        ensures others { SameBut path.now (held_by self.old) (held_by self.new) }
+        ensures places { SameBut path.now (is_out self.old) (is_out self.new) }
+        ensures err { OnErr result (SameOrMade path.now (held_by self.old) (held_by self.new)) }
+        ensures kept { OnErr result (Same (is_out self.old) (is_out self.new)) }
+        ensures refused { OnErr result (IsUnfit capacity (held_by self.old path.now)) }
+        ensures uncounted { self.new.failures ≡ self.old.failures }
+    {
+        match place_of(&self.slots, path.as_bytes()) {
+            Some(_) => self.take_out(path.as_bytes(), capacity),
+            None => self.add(path.as_bytes(), capacity),
+        }
+    }
+
+    /// Counts a call that failed.
+    fn count(&mut self, has_failed: bool)
+        ensures slots { self.new.slots ≡ self.old.slots }
+        ensures failures { self.new.failures ≡ counted has_failed self.old.failures }
+    {
+        if has_failed {
+            self.failures = self.failures.saturating_add(1);
+        }
+    }
 }
 
 impl Media for MemMedia {
@@ -89,6 +122,8 @@ impl Media for MemMedia {
     ghost held = { held_by };
 
     ghost honest = { λ _. true };
+
+    ghost failures = { λ m. m.failures };
 
     // A drive in memory has only whole blocks.
     ghost looked = { λ _ _. Some [] };
@@ -105,8 +140,11 @@ impl Media for MemMedia {
         ensures err { OnErr result (Same (held_by self.old) (held_by self.new)) }
         ensures kept { OnErr result (Same (is_out self.old) (is_out self.new)) }
         ensures refused { OnErr result (IsUnfit capacity (held_by self.old path.now)) }
+        ensures failures { self.new.failures ≡ counted (is_err result) self.old.failures }
     {
-        self.take_out(path.as_bytes(), capacity)
+        let taken = self.take_out(path.as_bytes(), capacity);
+        self.count(taken.is_err());
+        taken
     }
 
     fn open(&mut self, path: &str, capacity: u32) -> Result<MemDrive, DriveFault>
@@ -119,8 +157,11 @@ impl Media for MemMedia {
         ensures err { OnErr result (Same (held_by self.old) (held_by self.new)) }
         ensures kept { OnErr result (Same (is_out self.old) (is_out self.new)) }
         ensures refused { OnErr result (IsUnfit capacity (held_by self.old path.now)) }
+        ensures failures { self.new.failures ≡ counted (is_err result) self.old.failures }
     {
-        self.take_out(path.as_bytes(), capacity)
+        let taken = self.take_out(path.as_bytes(), capacity);
+        self.count(taken.is_err());
+        taken
     }
 
     fn create(&mut self, path: &str, capacity: u32) -> Result<MemDrive, DriveFault>
@@ -133,11 +174,11 @@ impl Media for MemMedia {
         ensures err { OnErr result (SameOrMade path.now (held_by self.old) (held_by self.new)) }
         ensures kept { OnErr result (Same (is_out self.old) (is_out self.new)) }
         ensures refused { OnErr result (IsUnfit capacity (held_by self.old path.now)) }
+        ensures failures { self.new.failures ≡ counted (is_err result) self.old.failures }
     {
-        match place_of(&self.slots, path.as_bytes()) {
-            Some(_) => self.take_out(path.as_bytes(), capacity),
-            None => self.add(path.as_bytes(), capacity),
-        }
+        let taken = self.take_or_add(path, capacity);
+        self.count(taken.is_err());
+        taken
     }
 
     fn put_back(&mut self, path: &str, drive: MemDrive) {

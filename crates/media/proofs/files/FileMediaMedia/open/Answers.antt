@@ -3,4 +3,4 @@ use Rattle.media.proofs.Finding.{fresh_file}
 use Rattle.media.proofs.files.FileMediaMedia.open.Goals as goal
 
 pub returns-clause-fresh : goal.returns-clause-fresh
-returns-clause-fresh g c = fresh_file c.args.capacity c.found.result c.found.ensures.image (c.found.ensures.capacity ∙ c.in_ok-drive.ensures.capacity)
+returns-clause-fresh g c = fresh_file c.args.capacity c.found.result c.found.ensures.image (c.found.ensures.capacity ∙ c.in-Ok.ensures.capacity)

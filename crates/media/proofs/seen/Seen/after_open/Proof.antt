@@ -47,7 +47,7 @@ module _ {M : Type 1} {𝓤 : Ura M} (𝓛 : Logic 𝓤) (mem : Memory → SProp
 
   module _ (κs : Lfts 3) (qs : Shares 3) (a : Args f.signature κs) where
     abbrev made : Seen
-    made = record { images = a.0.now.images; misses = a.0.now.misses + missed (lookup a.0.now.images a.1.0.now) a.1.1.0.now.contents.journal; looks = a.0.now.looks }
+    made = record { images = a.0.now.images; misses = a.0.now.misses + missed (lookup a.0.now.images a.1.0.now) a.1.1.0.now.contents.journal; looks = a.0.now.looks; failures = a.0.now.failures }
 
     abbrev bound : (walk_of 𝓛 f.ended stayed (f.clauses 𝓛 mem run)).Ghost
     bound = ((κs, qs, tt, a, ((vptr a.0.ref_ptr.0 a.0.ref_ptr.1) ∷ [], ((slice_val a.1.0.ref_ptr (length a.1.0.now)) ∷ [], ((vptr a.1.1.0.ref_ptr.0 a.1.1.0.ref_ptr.1) ∷ [], tt)))), tt)
@@ -62,7 +62,7 @@ module _ {M : Type 1} {𝓤 : Ura M} (𝓛 : Logic 𝓤) (mem : Memory → SProp
         alloc_all ! (λ l. pass_all ! refl ((tt, tt), ((tt, (tt, (record { fits = f1 }, tt))), ((tt, tt), tt))) $ sets ! (agg ! (no_more !)) refl (tt, tt) $
         returns ! (look_at ! 0 refl) $ free_all ! refl $
         suffices ! _ (ends_at 𝓛 f.ended stayed (f.clauses 𝓛 mem run) bound (vstruct vnil) made (tt, (tt, (tt, tt))) (tt, (tt, (tt, tt)))) $
-        says ! (refl, refl, refl) $ pure_i ! (seen.the_row.own_val made (vstruct vnil ∷ [])) ((λ vss. (tt, tt)), tt) ((tt, (refl, tt)), tt) $
+        says ! (refl, refl, refl, refl) $ pure_i ! (seen.the_row.own_val made (vstruct vnil ∷ [])) ((λ vss. (tt, tt)), tt) ((tt, (refl, tt)), tt) $
         move ! (1 ∷ 2 ∷ 0 ∷ []) $ done !)
 
   walks : Walks 𝓛 f.ended stayed (WpFn 𝓤 H C Λ code.function) (f.clauses 𝓛 mem run)

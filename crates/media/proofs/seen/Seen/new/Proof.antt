@@ -1,4 +1,4 @@
--- `new` makes a value of no bytes, at the images that the caller picks.
+-- `new` makes a value of no bytes, at the record that the caller picks.
 use Rattle.std.proofs.Common.{◌<◌, ◌^◌, length}
 use mathlib.Core.Path.{refl}
 use mathlib.Core.List.{[], ◌∷◌}
@@ -29,7 +29,7 @@ use denote.Triple.Entry.{on_entry, alive, Args}
 use denote.Triple.Spec.{Meets, triple_of}
 use denote.Triple.Table.{entered}
 use denote.Triple.Walked.{says, stay_none_slice, Stays, walk_of, Walks, ends_at, walked, Goes-none_slice, walk_Meets}
-use Rattle.media.specs.Seen.{ImageJournals}
+use Rattle.media.specs.Seen.{FileRecord}
 use Rattle.media.specs.declared.seen.Seen.{Seen}
 use Rattle.media.specs.contracts.seen.Seen as seen
 use Rattle.media.specs.contracts.seen.Seen.new.Key.{name as key}
@@ -43,9 +43,9 @@ stayed = (stay_none_slice (0 ∷ []) tt (plain (λ _. u8)) yes, tt)
 module _ {M : Type 1} {𝓤 : Ura M} (𝓛 : Logic 𝓤) (mem : Memory → SProp 𝓤) (run : Routine → Fun 𝓤) (C : Calls 𝓤 𝓛.H) (Λ : Loops 𝓤 𝓛.H) where
   open 𝓛 use {H}
 
-  module _ (κs : Lfts 1) (qs : Shares 1) (a : Args f.signature κs) (g : ImageJournals) where
+  module _ (κs : Lfts 1) (qs : Shares 1) (a : Args f.signature κs) (g : FileRecord) where
     abbrev made : Seen
-    made = record { images = g; misses = 0; looks = [] }
+    made = record { images = g.images; misses = g.misses; looks = g.looks; failures = g.failures }
 
     abbrev bound : (walk_of 𝓛 f.ended stayed (f.clauses 𝓛 mem run)).Ghost
     bound = ((κs, qs, tt, a, ((slice_val a.0.ref_ptr (length a.0.now)) ∷ [], tt)), g)
@@ -60,7 +60,7 @@ module _ {M : Type 1} {𝓤 : Ura M} (𝓛 : Logic 𝓤) (mem : Memory → SProp
         alloc_all ! (λ l. pass_all ! refl ((tt, (tt, (record { fits = f0 }, tt))), tt) $ sets ! (agg ! (no_more !)) refl (tt, tt) $
         returns ! (look_at ! 0 refl) $ free_all ! refl $
         suffices ! _ (ends_at 𝓛 f.ended stayed (f.clauses 𝓛 mem run) bound (vstruct vnil) made (tt, tt) (tt, tt)) $
-        says ! (refl, refl, refl) $ pure_i ! (seen.the_row.own_val made (vstruct vnil ∷ [])) ((λ vss. (tt, tt)), tt) ((tt, (refl, tt)), tt) $
+        says ! (refl, refl, refl, refl) $ pure_i ! (seen.the_row.own_val made (vstruct vnil ∷ [])) ((λ vss. (tt, tt)), tt) ((tt, (refl, tt)), tt) $
         move ! (1 ∷ 2 ∷ 0 ∷ []) $ done !)
 
   walks : Walks 𝓛 f.ended stayed (WpFn 𝓤 H C Λ code.function) (f.clauses 𝓛 mem run)

@@ -5,7 +5,7 @@ use Rattle.media.specs.declared.memory.Slot.{Slot}
 use Rattle.media.specs.Held.{initial_journal}
 use Rattle.media.specs.InMemory.{AreOthers, IsUnfit, journal_in}
 use Rattle.media.proofs.Places.{slot_none}
-use Rattle.media.proofs.memory.MemMediaMedia.create.Goals as goal
+use Rattle.media.proofs.memory.MemMedia.take_or_add.Goals as goal
 
 pub returns-in-None-clause-opened : goal.returns-in-None-clause-opened
 returns-in-None-clause-opened c =
