@@ -141,7 +141,7 @@ fn an_image_in_memory_is_in_order(rt: HostRuntime) -> Result<(), Fail> {
 fn files_are_images(rt: HostRuntime) -> Result<(), Fail> {
     let _ = fs::remove_file(&rt, "media_one.img");
     let _ = fs::remove_file(&rt, "media_other.img");
-    let mut media = FileMedia::new(&rt);
+    let mut media = FileMedia::over(&rt);
     assert_eq!(rt; failing(&mut media, &TWO_IMAGES), None);
     assert!(rt; holds(&rt, "media_one.img", 4096, &[(0, 7), (2048, 8)])?);
     fs::remove_file(&rt, "media_one.img")?;
@@ -162,7 +162,7 @@ fn part_of<M: Media>(media: &mut M, path: &str, into: &mut Block) -> Result<usiz
 fn a_part_of_a_block_is_shown(rt: HostRuntime) -> Result<(), Fail> {
     let path = "media_part.img";
     fs::write(&rt, path, [5; 2051])?;
-    let mut media = FileMedia::new(&rt);
+    let mut media = FileMedia::over(&rt);
     let mut part = block(0);
     assert_eq!(rt; part_of(&mut media, path, &mut part), Ok(3));
     assert_eq!(rt; (part[0], part[2], part[3]), (5, 5, 0));

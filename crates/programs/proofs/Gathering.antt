@@ -6,6 +6,7 @@ use Rattle.std.proofs.lemmas.List.{append-nil}
 use Rattle.std.proofs.Math.Seq.{take-append-add}
 use Rattle.limits.specs.declared.TheConstants.{GREATEST_CAPACITY}
 use Rattle.drive.specs.Journal.{Event}
+use Rattle.drive.specs.Reads.{CountsFailures}
 use Rattle.request.specs.Answers.{answer_frame}
 use Rattle.request.specs.declared.answer.Answer.{Answer}
 use Rattle.engine.specs.Served.{LastUntold, LeftAt, LeftBy, ServesAll, ServesUntil, frames_of}
@@ -21,7 +22,7 @@ use Rattle.programs.specs.Applied.{AppliesStream, AppliesToImage, AnswersInMemor
 use Rattle.programs.specs.Connections.{ServesPrefix}
 use Rattle.programs.specs.Copies.{SendsFrames, SendsSome}
 use Rattle.programs.specs.FaultLines.{Reports}
-use Rattle.programs.specs.Status.{status_of}
+use Rattle.programs.specs.Status.{drive_failures, status_of}
 use Rattle.programs.specs.Images.{Images, IsThere, IsThereOrMade, OnMedia, Unmade, Unopened}
 use Rattle.programs.specs.NewVolumes.{MakesVolume, MakesOn, MakesOnImage}
 use Rattle.programs.specs.Lines.{formatted_text}
@@ -66,9 +67,9 @@ module _ (i l o v w : Option (List ℕ)) (kept : Keeps v w) where
   makes_kept label moment capacity (Err (Stream streams.Write)) J K honest h = (h.0, front_kept o v w formatted_text h.1 kept)
   makes_kept label moment capacity (Err (Stream streams.Memory)) J K honest h = h
 
-  made_on_kept : {T : Type 0} (label : List ℕ) (moment capacity : ℕ) (outcome : Result T Fault) (look : Option (List ℕ)) (before afterwards : Situation) → MakesOn label moment capacity outcome before afterwards look o v → MakesOn label moment capacity outcome before afterwards look o w
-  made_on_kept label moment capacity outcome look before afterwards (inl k) = inl (record { refused = k.refused; why = k.why; journal = k.journal; writes = k.writes; unwritten = keeps_trans o v w k.unwritten kept })
-  made_on_kept label moment capacity outcome look before afterwards (inr k) = inr (k.0, makes_kept label moment capacity outcome before.journal afterwards.journal afterwards.honest k.1, k.2)
+  made_on_kept : {T : Type 0} (label : List ℕ) (moment capacity : ℕ) (outcome : Result T Fault) (look : Option (List ℕ)) (earlier later : ℕ) (before afterwards : Situation) → MakesOn label moment capacity outcome before afterwards look o v earlier later → MakesOn label moment capacity outcome before afterwards look o w earlier later
+  made_on_kept label moment capacity outcome look earlier later before afterwards (inl k) = inl (record { refused = k.refused; why = k.why; journal = k.journal; writes = k.writes; unwritten = keeps_trans o v w k.unwritten kept; failed = k.failed })
+  made_on_kept label moment capacity outcome look earlier later before afterwards (inr k) = inr (k.0, k.1, k.2, makes_kept label moment capacity outcome before.journal afterwards.journal afterwards.honest k.3, k.4)
 
   serves_kept : (before afterwards : Situation) → ServesAll before afterwards i l o v → ServesAll before afterwards i l o w
   serves_kept before afterwards h = record {
@@ -187,15 +188,15 @@ module _ (i l o v w : Option (List ℕ)) (kept : Keeps v w) where
 -- the same of the images that it was done on
 module _ (old new : Images) (i l o v w : Option (List ℕ)) (kept : Keeps v w) where
   unopened_kept : {T : Type 0} (outcome : Result T Fault) → Unopened outcome old new o v → Unopened outcome old new o w
-  unopened_kept outcome h = record { fault = h.fault; unwritten = keeps_trans o v w h.unwritten kept; untouched = h.untouched }
+  unopened_kept outcome h = record { fault = h.fault; unwritten = keeps_trans o v w h.unwritten kept; untouched = h.untouched; failed = h.failed }
 
   unmade_kept : {T : Type 0} (path : List ℕ) (outcome : Result T Fault) → Unmade path outcome old new o v → Unmade path outcome old new o w
-  unmade_kept path outcome h = record { fault = h.fault; unwritten = keeps_trans o v w h.unwritten kept; made = h.made }
+  unmade_kept path outcome h = record { fault = h.fault; unwritten = keeps_trans o v w h.unwritten kept; made = h.made; failed = h.failed }
 
   made_kept : {T : Type 0} (image label : List ℕ) (moment capacity : ℕ) (outcome : Result T Fault) → MakesOnImage image label moment capacity outcome old new o v → MakesOnImage image label moment capacity outcome old new o w
   made_kept image label moment capacity outcome (inl h) = inl (unmade_kept image outcome h)
   made_kept image label moment capacity outcome (inr h) =
-      inr (on_image IsThereOrMade capacity image (λ before afterwards. MakesOn label moment capacity outcome before afterwards (new.looked image) o v) (λ before afterwards. MakesOn label moment capacity outcome before afterwards (new.looked image) o w) old new (made_on_kept i l o v w kept label moment capacity outcome (new.looked image)) h)
+      inr (on_image IsThereOrMade capacity image (λ before afterwards. MakesOn label moment capacity outcome before afterwards (new.looked image) o v old.failures new.failures) (λ before afterwards. MakesOn label moment capacity outcome before afterwards (new.looked image) o w old.failures new.failures) old new (made_on_kept i l o v w kept label moment capacity outcome (new.looked image) old.failures new.failures) h)
 
   applied_kept : {T : Type 0} (image : List ℕ) (outcome : Result T Fault) → AppliesToImage image outcome old new i l o v → AppliesToImage image outcome old new i l o w
   applied_kept image outcome (inl (h, same)) = inl (unopened_kept outcome h, same)
@@ -204,9 +205,9 @@ module _ (old new : Images) (i l o v w : Option (List ℕ)) (kept : Keeps v w) w
   shown_kept : {T : Type 0} (question : Question) (image : List ℕ) (outcome : Result T Fault) → ShowsImage question image outcome old new o v → ShowsImage question image outcome old new o w
   shown_kept question image outcome (inl h) = inl (unopened_kept outcome h)
   shown_kept question image outcome (inr h) =
-      inr (on_image IsThere GREATEST_CAPACITY image (λ before afterwards. (afterwards.journal ≡ before.journal) × (afterwards.writes ≡ before.writes) × PrintsAnswer question outcome before.capacity before.journal afterwards.honest o v)
-      (λ before afterwards. (afterwards.journal ≡ before.journal) × (afterwards.writes ≡ before.writes) × PrintsAnswer question outcome before.capacity before.journal afterwards.honest o w) old new
-      (λ before afterwards k. (k.0, k.1, shows_kept i l o v w kept question outcome before.capacity before.journal afterwards.honest k.2)) h)
+      inr (on_image IsThere GREATEST_CAPACITY image (λ before afterwards. (afterwards.journal ≡ before.journal) × (afterwards.writes ≡ before.writes) × CountsFailures (drive_failures outcome) before.failures afterwards.failures × PrintsAnswer question outcome before.capacity before.journal afterwards.honest o v)
+      (λ before afterwards. (afterwards.journal ≡ before.journal) × (afterwards.writes ≡ before.writes) × CountsFailures (drive_failures outcome) before.failures afterwards.failures × PrintsAnswer question outcome before.capacity before.journal afterwards.honest o w) old new
+      (λ before afterwards k. (k.0, k.1, k.2, shows_kept i l o v w kept question outcome before.capacity before.journal afterwards.honest k.3)) h)
 
   path_kept : {T : Type 0} (question : tree.Path → Question) (image text : List ℕ) (outcome : Result T Fault) → ShowsPath question image text outcome old new o v → ShowsPath question image text outcome old new o w
   path_kept question image text outcome (inl (h, same, k)) = inl (h, same, keeps_trans o v w k kept)

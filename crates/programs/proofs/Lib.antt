@@ -2,6 +2,7 @@ pub mod Statuses
 pub mod Copying
 pub mod Opening
 pub mod Applying
+pub mod Failing
 pub mod Making
 pub mod Texts
 pub mod Saying
@@ -15,3 +16,4 @@ pub mod Telling
 pub mod Framing
 pub mod Tallies
 pub mod Processes
+pub mod OverFiles

@@ -9,7 +9,7 @@ use Rattle.recover.specs.declared.fault.StoreFault.TheVariants.{Device}
 use Rattle.engine.specs.Situation.{Situation, situation, situation_on}
 use Rattle.programs.specs.declared.fault.Fault.{Fault}
 use Rattle.programs.specs.declared.fault.Fault.TheVariants.{Store}
-use Rattle.programs.specs.Images.{AreUntouched, Images, IsOpened, IsPutBack, MayBeMade, OnMedia, Unmade, Unopened}
+use Rattle.programs.specs.Images.{AreUntouched, HasFailed, Images, IsOpened, IsPutBack, MayBeMade, OnMedia, Unmade, Unopened}
 
 pub keeps_self : (a : Option (List ℕ)) → Keeps a a
 keeps_self None = tt
@@ -42,10 +42,10 @@ same_fault : {T : Type 0} (outcome : Result T Fault) (fault : Fault) → IsErrAn
 same_fault (Ok x) fault is device = absurd is
 same_fault (Err f) fault is device = ap (λ (g : Fault). Err g) (is ∙ device)
 
-pub unopened : {T : Type 0} (outcome : Result T Fault) (fault : Fault) (before afterwards : Images) (output : Option (List ℕ)) → IsErrAnd outcome (λ f. f ≡ fault) → fault ≡ Store Device → AreUntouched before afterwards
+pub unopened : {T : Type 0} (outcome : Result T Fault) (fault : Fault) (before afterwards : Images) (output : Option (List ℕ)) → IsErrAnd outcome (λ f. f ≡ fault) → fault ≡ Store Device → AreUntouched before afterwards → HasFailed before afterwards
     → Unopened outcome before afterwards output output
-unopened outcome fault before afterwards output is device same = record { fault = same_fault outcome fault is device; unwritten = keeps_self output; untouched = same }
+unopened outcome fault before afterwards output is device same failed = record { fault = same_fault outcome fault is device; unwritten = keeps_self output; untouched = same; failed = failed }
 
-pub unmade : {T : Type 0} (path : List ℕ) (outcome : Result T Fault) (fault : Fault) (before afterwards : Images) (output : Option (List ℕ)) → IsErrAnd outcome (λ f. f ≡ fault) → fault ≡ Store Device → MayBeMade path before afterwards
+pub unmade : {T : Type 0} (path : List ℕ) (outcome : Result T Fault) (fault : Fault) (before afterwards : Images) (output : Option (List ℕ)) → IsErrAnd outcome (λ f. f ≡ fault) → fault ≡ Store Device → MayBeMade path before afterwards → HasFailed before afterwards
     → Unmade path outcome before afterwards output output
-unmade path outcome fault before afterwards output is device made = record { fault = same_fault outcome fault is device; unwritten = keeps_self output; made = made }
+unmade path outcome fault before afterwards output is device made failed = record { fault = same_fault outcome fault is device; unwritten = keeps_self output; made = made; failed = failed }

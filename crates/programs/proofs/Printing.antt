@@ -3,6 +3,7 @@ use Rattle.std.proofs.Common.{◌≡◌, ◌⊎◌, ℕ, ◌+◌, Bool, false, L
 use Rattle.std.specs.Prelude.{IsTrue, IsErrAnd}
 use Rattle.limits.specs.declared.TheConstants.{GREATEST_CAPACITY}
 use Rattle.drive.specs.Journal.{Event, Once, held}
+use Rattle.drive.specs.Reads.{CountsFailures}
 use Rattle.drive.specs.declared.Drive.{Ghosts}
 use Rattle.model.specs.Session.{State}
 use Rattle.model.specs.Tree.{Path, Tree}
@@ -35,7 +36,7 @@ use Rattle.programs.specs.Images.{Images, IsOpened, IsPutBack, IsThere}
 use Rattle.programs.specs.Lines.{PutsBytes, names_text, commits_text, sound_text}
 use Rattle.programs.specs.Questions.{Question, IsAnswerText, RefusesQuestion, IsQuestionAnswered, IsQuestionRefused, PrintsAnswer, ShowsImage, ShowsPath}
 use Rattle.programs.specs.Questions.Question.{Names_at, Bytes_at, Commits, Soundness}
-use Rattle.programs.specs.Status.{IsPathTold}
+use Rattle.programs.specs.Status.{IsPathTold, drive_failures}
 use Rattle.programs.proofs.Opening.{keeps_self, on_media, untouched}
 
 -- ---- by the outcome
@@ -155,9 +156,9 @@ module _ (capacity : ℕ) (J : List Event) (h : Type 0) where
 
 pub shows_image : {T D : Type 0} (drive : Ghosts D) (question : Question) (image : List ℕ) (outcome : Result T Fault) (d e : D) (before between afterwards : Images) (o w : Option (List ℕ))
     → IsOpened drive IsThere GREATEST_CAPACITY image d before between → IsPutBack drive image e between afterwards → drive.journal e ≡ drive.journal d → drive.writes e ≡ drive.writes d
-    → PrintsAnswer question outcome (drive.capacity d) (drive.journal d) (drive.honest e) o w → ShowsImage question image outcome before afterwards o w
-shows_image drive question image outcome d e before between afterwards o w opened back journal writes h =
-    inr (on_media drive IsThere GREATEST_CAPACITY image (λ first last. (last.journal ≡ first.journal) × (last.writes ≡ first.writes) × PrintsAnswer question outcome first.capacity first.journal last.honest o w) d e before between afterwards opened back (journal, writes, h))
+    → CountsFailures (drive_failures outcome) (drive.failures d) (drive.failures e) → PrintsAnswer question outcome (drive.capacity d) (drive.journal d) (drive.honest e) o w → ShowsImage question image outcome before afterwards o w
+shows_image drive question image outcome d e before between afterwards o w opened back journal writes failures h =
+    inr (on_media drive IsThere GREATEST_CAPACITY image (λ first last. (last.journal ≡ first.journal) × (last.writes ≡ first.writes) × CountsFailures (drive_failures outcome) first.failures last.failures × PrintsAnswer question outcome first.capacity first.journal last.honest o w) d e before between afterwards opened back (journal, writes, failures, h))
 
 pub shows_path : {T : Type 0} (question : Path → Question) (image text : List ℕ) (path : Path) (outcome : Result T Fault) (before afterwards : Images) (o w : Option (List ℕ)) → IsPath path × (text ≡ path_text path)
     → ShowsImage (question path) image outcome before afterwards o w → ShowsPath question image text outcome before afterwards o w

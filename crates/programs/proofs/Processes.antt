@@ -6,6 +6,7 @@ use Rattle.std.proofs.lemmas.Option.{none-some}
 use Rattle.std.proofs.lemmas.List.{append_cancel_left, drop_all, take_all}
 use Rattle.limits.specs.declared.TheConstants.{GREATEST_CAPACITY}
 use Rattle.drive.specs.Journal.{Event, Once, held, next_of, written}
+use Rattle.drive.specs.Reads.{CountsFailures}
 use Rattle.drive.specs.Writes.{IsLeft}
 use Rattle.request.specs.declared.answer.Answer.{Answer}
 use Rattle.request.specs.declared.message.Message.{Message}
@@ -44,6 +45,7 @@ use Rattle.programs.specs.Processes.{AllDid, AllRan, AnswersInput, Did, IsLifeCu
 use Rattle.programs.specs.Processes.Process.{Command, CutCommand, CutDaemon, Daemon}
 use Rattle.programs.specs.Questions.{Question, PrintsAnswer, ShowsImage, ShowsPath}
 use Rattle.programs.specs.Questions.Question.{Names_at, Bytes_at, Commits, Soundness}
+use Rattle.programs.specs.Status.{drive_failures}
 use Rattle.programs.specs.Tasks.{IsTaskDone, Task}
 use Rattle.programs.specs.Tasks.Task.{Format, Apply_to_image, Apply_in_memory, List_names, Get_bytes, Log, Check, Send}
 use Rattle.programs.proofs.Copying.{whole_front}
@@ -96,7 +98,7 @@ module _ (old new : Images) (honest : IsTrue new.honest) where
   did_honest (CutCommand task i l o w) h = cut_honest task i l o w h
   did_honest (CutDaemon image before afterwards) h = h.honest honest
 
-all_honest : (processes : List Process) (old new : Images) → IsTrue new.honest → AllDid processes old new → IsTrue old.honest
+pub all_honest : (processes : List Process) (old new : Images) → IsTrue new.honest → AllDid processes old new → IsTrue old.honest
 all_honest [] old new honest h = untouched_honest old new honest h
 all_honest (process ∷ processes) old new honest (between, did, rest) = did_honest old between (all_honest processes between new honest rest) process did
 
@@ -335,7 +337,7 @@ module _ (path : List ℕ) (volume : ℕ) (S : State) (J : List Event) (once : O
 
   shown : {T : Type 0} (question : Question) (image : List ℕ) (outcome : Result T Fault) (o w : Option (List ℕ)) (Are : List Life → Type 0) → ShowsImage question image outcome old new o w → Are [] → Left path volume S J new Are
   shown question image outcome o w Are (inl h) are = untouched_stays Are h.untouched are
-  shown question image outcome o w Are (inr h) are = quiet IsThere same_there GREATEST_CAPACITY image (λ first last. (last.journal ≡ first.journal) × (last.writes ≡ first.writes) × PrintsAnswer question outcome first.capacity first.journal last.honest o w) h Are (λ did. did.0) are
+  shown question image outcome o w Are (inr h) are = quiet IsThere same_there GREATEST_CAPACITY image (λ first last. (last.journal ≡ first.journal) × (last.writes ≡ first.writes) × CountsFailures (drive_failures outcome) first.failures last.failures × PrintsAnswer question outcome first.capacity first.journal last.honest o w) h Are (λ did. did.0) are
 
   shown_at : {T : Type 0} (question : tree.Path → Question) (image text : List ℕ) (outcome : Result T Fault) (o w : Option (List ℕ)) (Are : List Life → Type 0) → ShowsPath question image text outcome old new o w → Are [] → Left path volume S J new Are
   shown_at question image text outcome o w Are (inl h) are = untouched_stays Are h.1 are
@@ -351,8 +353,8 @@ module _ (path : List ℕ) (volume : ℕ) (S : State) (J : List Event) (once : O
   made : {T : Type 0} (image label : List ℕ) (moment capacity : ℕ) (outcome : Result T Fault) (o w : Option (List ℕ)) (Are : List Life → Type 0) → MakesOnImage image label moment capacity outcome old new o w → Are [] → Left path volume S J new Are
   made image label moment capacity outcome o w Are (inl h) are = stays Are (made_none image h.made.same) are
   made image label moment capacity outcome o w Are (inr h) are =
-      quiet IsThereOrMade same_made capacity image (λ first last. MakesOn label moment capacity outcome first last (new.looked image) o w) h Are
-      (λ did. elim did [ inl unbegun ↦ unbegun.journal | inr makes ↦ makes_none label moment capacity outcome J h.last.journal h.last.honest o w volume S stands (h.drive_honest honest) makes.1 ]) are
+      quiet IsThereOrMade same_made capacity image (λ first last. MakesOn label moment capacity outcome first last (new.looked image) o w old.failures new.failures) h Are
+      (λ did. elim did [ inl unbegun ↦ unbegun.journal | inr makes ↦ makes_none label moment capacity outcome J h.last.journal h.last.honest o w volume S stands (h.drive_honest honest) makes.3 ]) are
 
   applied : {T : Type 0} (image : List ℕ) (outcome : Result T Fault) (i l o w : Option (List ℕ)) (Are : List Life → Type 0) → AppliesToImage image outcome old new i l o w → (Unopened outcome old new o w → Are []) → ((path ≡ image → ⊥) → Are [])
       → (path ≡ image → (messages : List Message) (answers : List Answer) → AnswersInput i l o w messages answers → Are (life_of messages answers ∷ [])) → Left path volume S J new Are

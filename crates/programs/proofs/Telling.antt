@@ -15,7 +15,7 @@ use Rattle.engine.specs.Situation.{Situation, situation_on}
 use Rattle.programs.specs.Connections.{LeavesConnection}
 use Rattle.programs.specs.FaultLines.{Reports, ReportsOutcome, fault_line}
 use Rattle.programs.specs.Refusals.{IsDaemonReported, IsEarly, IsLeaving, OnAsked, RefusesDaemon, ReportsEach, ReportsFaults, ServesImage, ReportsEarly, ReportsRefusal}
-use Rattle.programs.specs.Images.{AreUntouched, Images, IsOpened, IsPutBack, IsThere, IsUnchanged}
+use Rattle.programs.specs.Images.{AreUntouched, HasFailed, Images, IsOpened, IsPutBack, IsThere, IsUnchanged}
 use Rattle.programs.specs.Status.{AreWordsTold, fault_status, status_of}
 use Rattle.programs.proofs.Opening.{on_media, untouched}
 
@@ -53,7 +53,7 @@ unserved words asked Did (Ok x) old new asks h = tt
 unserved words asked Did (Err Usage) old new asks h = absurd h
 unserved words asked Did (Err Path) old new asks h = h
 unserved words asked Did (Err Socket) old new asks h = (asked, asks, h)
-unserved words asked Did (Err (Store fault)) old new asks h = (h.0, inr (h.1, (asked, asks)))
+unserved words asked Did (Err (Store fault)) old new asks h = (h.0, inr (h.1, h.2, (asked, asks)))
 unserved words asked Did (Err (Stream fault)) old new asks h = h
 
 -- or it served, what they name
@@ -88,10 +88,10 @@ serves_unheard {T} drive image Did (Err fault) d e before between afterwards ope
     subst (λ (f : Fault). ServesImage {T = T} image Did (Err f) before afterwards) (sym refused) (on_media drive IsThere GREATEST_CAPACITY image IsUnchanged d e before between afterwards opened back unchanged)
 
 -- the image cannot
-pub serves_unopened : {T : Type 0} (image : List ℕ) (Did : Situation → Situation → Type 0) (outcome : Result T Fault) (fault : Fault) (before afterwards : Images) → IsErrAnd outcome (λ f. f ≡ fault) → fault ≡ Store stores.Device → AreUntouched before afterwards
+pub serves_unopened : {T : Type 0} (image : List ℕ) (Did : Situation → Situation → Type 0) (outcome : Result T Fault) (fault : Fault) (before afterwards : Images) → IsErrAnd outcome (λ f. f ≡ fault) → fault ≡ Store stores.Device → AreUntouched before afterwards → HasFailed before afterwards
     → ServesImage image Did outcome before afterwards
-serves_unopened {T} image Did (Ok x) fault before afterwards is device same = absurd is
-serves_unopened {T} image Did (Err f) fault before afterwards is device same = subst (λ (g : Fault). ServesImage {T = T} image Did (Err g) before afterwards) (sym (is ∙ device)) (same, refl)
+serves_unopened {T} image Did (Ok x) fault before afterwards is device same failed = absurd is
+serves_unopened {T} image Did (Err f) fault before afterwards is device same failed = subst (λ (g : Fault). ServesImage {T = T} image Did (Err g) before afterwards) (sym (is ∙ device)) (same, refl, failed)
 
 -- a fault was said before anything was begun
 pub told_early : (name : List ℕ) (status : ℕ) (fault : Fault) (e d f : Option (List ℕ)) → IsEarly fault → d ≡ e → status ≡ fault_status fault → Reports {T = Unit {0}} name (Err fault) d f → ReportsEarly name status e f

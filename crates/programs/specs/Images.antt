@@ -1,7 +1,7 @@
 -- What media hold before and after a command on one of the images.
 use Rattle.std.specs.Prelude.{◌≡◌, ℕ, true, Bool, List, [], Option, Some, None, Result, Err, IsTrue}
 use Rattle.std.specs.Io.KnownBytes.{Keeps}
-use Rattle.drive.specs.Journal.{Event, Once}
+use Rattle.drive.specs.Journal.{Event, Once, counted}
 use Rattle.drive.specs.declared.Drive.{Ghosts as DriveGhosts}
 use Rattle.media.specs.Held.{Held, IsFresh, Same, SameBut, SameOrMade, initial_journal}
 use Rattle.media.specs.declared.Media.{Ghosts}
@@ -10,20 +10,25 @@ use Rattle.engine.specs.Situation.{Situation, situation}
 use Rattle.programs.specs.declared.fault.Fault.{Fault}
 use Rattle.programs.specs.declared.fault.Fault.TheVariants.{Store}
 
--- the journal of the image at each path, whether all that was found there so far is what was held, and what the last look after
--- the last whole block of each found
+-- the journal of the image at each path, whether all that was found there so far is what was held, what the last look after
+-- the last whole block of each found, and how many calls failed
 pub record Images : Type 0 where
   pub held : Held
   pub honest : Bool
   pub looked : List ℕ → Option (List ℕ)
+  pub failures : ℕ
 
 abbrev pub images_on : {M D : Type 0} → Ghosts M D → M → Images
-images_on media m = record { held = media.held m; honest = media.honest m; looked = media.looked m }
+images_on media m = record { held = media.held m; honest = media.honest m; looked = media.looked m; failures = media.failures m }
 
 -- each path holds what it held, and the media are as honest as before
 pub record AreUntouched (before afterwards : Images) : Type 0 where
   pub same : Same before.held afterwards.held
   pub honest : afterwards.honest ≡ before.honest
+
+-- a call on the media failed
+abbrev pub HasFailed : Images → Images → Type 0
+HasFailed before afterwards = afterwards.failures ≡ counted true before.failures
 
 -- what a drive has at first is what is held at its path
 abbrev pub IsThere : Option (List Event) → List Event → Type 0
@@ -50,6 +55,7 @@ pub record IsPutBack {D : Type 0} (drive : DriveGhosts D) (path : List ℕ) (d :
   pub agreed : IsTrue (drive.honest d) → afterwards.honest ≡ before.honest
   pub honest : IsTrue afterwards.honest → IsTrue before.honest
   pub looked : afterwards.looked ≡ before.looked
+  pub failures : afterwards.failures ≡ before.failures
 
 -- The image at this path was looked at, and nothing else is another.
 pub record MayLook (path : List ℕ) (before afterwards : Images) : Type 0 where
@@ -81,6 +87,7 @@ pub record Unopened {T : Type 0} (outcome : Result T Fault) (before afterwards :
   pub fault : outcome ≡ Err (Store Device)
   pub unwritten : Keeps output written
   pub untouched : AreUntouched before afterwards
+  pub failed : HasFailed before afterwards
 
 -- no image was changed, but that one of no blocks may have been made at this path, where none was
 pub record MayBeMade (path : List ℕ) (before afterwards : Images) : Type 0 where
@@ -92,3 +99,4 @@ pub record Unmade {T : Type 0} (path : List ℕ) (outcome : Result T Fault) (bef
   pub fault : outcome ≡ Err (Store Device)
   pub unwritten : Keeps output written
   pub made : MayBeMade path before afterwards
+  pub failed : HasFailed before afterwards

@@ -3,6 +3,7 @@ use Rattle.std.specs.Prelude.{◌≡◌, ◌⊎◌, ℕ, ◌+◌, Bool, IsTrue, 
 use Rattle.std.specs.Io.KnownBytes.{Appends, Keeps}
 use Rattle.limits.specs.declared.TheConstants.{GREATEST_CAPACITY}
 use Rattle.drive.specs.Journal.{Event, Once, held}
+use Rattle.drive.specs.Reads.{CountsFailures}
 use Rattle.model.specs.Session.{State}
 use Rattle.model.specs.Tree.{Name, Path}
 use Rattle.durability.specs.Volume.{RecoversTo}
@@ -24,6 +25,7 @@ use Rattle.programs.specs.declared.fault.Fault.{Fault}
 use Rattle.programs.specs.declared.fault.Fault.TheVariants as faults
 use Rattle.programs.specs.Images.{AreUntouched, Images, IsThere, OnMedia, Unopened}
 use Rattle.programs.specs.Lines.{names_text, commits_text, sound_text}
+use Rattle.programs.specs.Status.{drive_failures}
 
 -- what is asked of a volume
 pub data Question : Type 0 where
@@ -87,11 +89,11 @@ PrintsAnswer question (Err (faults.Stream stream.Read)) capacity journal honest 
 PrintsAnswer question (Err (faults.Stream stream.Write)) capacity journal honest output written = PrintsPrefix question capacity journal honest output written
 PrintsAnswer question (Err (faults.Stream stream.Memory)) capacity journal honest output written = ⊥
 
--- the same on the image at a path, to which no write is made
+-- the same on the image at a path, to which no write is made; its drive failed where that is told
 abbrev pub ShowsImage : {T : Type 0} → Question → List ℕ → Result T Fault → Images → Images → Option (List ℕ) → Option (List ℕ) → Type 0
 ShowsImage question image outcome old new output written =
     Unopened outcome old new output written
-    ⊎ OnMedia IsThere GREATEST_CAPACITY image (λ before afterwards. (afterwards.journal ≡ before.journal) × (afterwards.writes ≡ before.writes) × PrintsAnswer question outcome before.capacity before.journal afterwards.honest output written) old new
+    ⊎ OnMedia IsThere GREATEST_CAPACITY image (λ before afterwards. (afterwards.journal ≡ before.journal) × (afterwards.writes ≡ before.writes) × CountsFailures (drive_failures outcome) before.failures afterwards.failures × PrintsAnswer question outcome before.capacity before.journal afterwards.honest output written) old new
 
 -- The text is that of no path, or there was no memory for it.
 abbrev pub IsUnread : {T : Type 0} → List ℕ → Result T Fault → Type 0

@@ -9,7 +9,7 @@ use Rattle.recover.specs.declared.fault.StoreFault.TheVariants as stores
 use Rattle.programs.specs.declared.fault.Fault.{Fault}
 use Rattle.programs.specs.declared.fault.Fault.TheVariants.{Usage, Path, Socket, Store, Stream}
 use Rattle.programs.specs.FaultLines.{fault_line}
-use Rattle.programs.specs.Images.{AreUntouched, Images, IsThere, IsUnchanged, OnMedia}
+use Rattle.programs.specs.Images.{AreUntouched, HasFailed, Images, IsThere, IsUnchanged, OnMedia}
 use Rattle.programs.specs.Status.{fault_status}
 
 -- these are words of the daemon
@@ -25,7 +25,7 @@ abbrev pub RefusesDaemon : List (List ℕ) → Fault → Images → Images → T
 RefusesDaemon words Usage old new = AreUntouched old new × ((asked : DaemonWords) → AsksDaemon words asked → ⊥)
 RefusesDaemon words Path old new = ⊥
 RefusesDaemon words Socket old new = OnAsked words (λ asked. IsUnchanged) old new
-RefusesDaemon words (Store fault) old new = AreUntouched old new × ((fault ≡ stores.Memory) ⊎ ((fault ≡ stores.Device) × AreDaemonWords words))
+RefusesDaemon words (Store fault) old new = AreUntouched old new × ((fault ≡ stores.Memory) ⊎ ((fault ≡ stores.Device) × HasFailed old new × AreDaemonWords words))
 RefusesDaemon words (Stream fault) old new = ⊥
 
 -- by the outcome, of the image at this path: this was done, the socket could not be had, or the image could not
@@ -34,7 +34,7 @@ ServesImage image Did (Ok x) old new = OnMedia IsThere GREATEST_CAPACITY image D
 ServesImage image Did (Err Usage) old new = ⊥
 ServesImage image Did (Err Path) old new = ⊥
 ServesImage image Did (Err Socket) old new = OnMedia IsThere GREATEST_CAPACITY image IsUnchanged old new
-ServesImage image Did (Err (Store fault)) old new = AreUntouched old new × (fault ≡ stores.Device)
+ServesImage image Did (Err (Store fault)) old new = AreUntouched old new × (fault ≡ stores.Device) × HasFailed old new
 ServesImage image Did (Err (Stream fault)) old new = ⊥
 
 -- this is its status, and the line that is said of it, or a prefix where the stream fails

@@ -1,5 +1,6 @@
 -- The statuses with which the programs end.
 use Rattle.std.specs.Prelude.{◌≡◌, ℕ, Result, Ok, Err}
+use Rattle.recover.specs.Faults.{device_failures}
 use Rattle.recover.specs.declared.fault.StoreFault.TheVariants as store
 use Rattle.request.specs.declared.path.PathFault.{PathFault}
 use Rattle.request.specs.declared.path.PathFault.TheVariants as paths
@@ -18,6 +19,15 @@ fault_status (Stream fault) = 1
 abbrev pub status_of : {T : Type 0} → Result T Fault → ℕ
 status_of (Ok x) = 0
 status_of (Err fault) = fault_status fault
+
+-- how many failures of a drive an outcome stands for
+abbrev pub drive_failures : {T : Type 0} → Result T Fault → ℕ
+drive_failures (Ok x) = 0
+drive_failures (Err Usage) = 0
+drive_failures (Err Path) = 0
+drive_failures (Err Socket) = 0
+drive_failures (Err (Store fault)) = device_failures fault
+drive_failures (Err (Stream fault)) = 0
 
 -- a program that has a command's words was refused
 abbrev pub IsRefusal : Fault → Type 0

@@ -2,7 +2,7 @@
 
 ghost use Rattle.limits.specs.declared.TheConstants.{GREATEST_CAPACITY};
 ghost use Rattle.std.specs.Prelude.{◌≡◌, IfErr, IfOk, IsTrue, OnErr, OnOk};
-ghost use Rattle.programs.specs.Images.{AreUntouched, IsOpened, IsPutBack, IsThere, IsThereOrMade, MayBeMade, images_on};
+ghost use Rattle.programs.specs.Images.{AreUntouched, HasFailed, IsOpened, IsPutBack, IsThere, IsThereOrMade, MayBeMade, images_on};
 
 use crate::fault::Fault;
 use limits::GREATEST_CAPACITY;
@@ -13,6 +13,7 @@ use store::StoreFault;
 pub(crate) fn open_image<M: Media>(media: &mut M, path: &str) -> Result<M::Drive, Fault>
     ensures device { IfErr result (λ fault. fault ≡ Fault.Store StoreFault.Device) }
     ensures untouched { OnErr result (AreUntouched (images_on M.Media media.old) (images_on M.Media media.new)) }
+    ensures failed { OnErr result (HasFailed (images_on M.Media media.old) (images_on M.Media media.new)) }
     ensures opened { IfOk result (λ drive. IsOpened M.Drive.Drive IsThere GREATEST_CAPACITY path.now drive (images_on M.Media media.old) (images_on M.Media media.new)) }
     ensures place { OnOk result (IsTrue (M.takes_back media.new path.now)) }
 {
@@ -26,6 +27,7 @@ pub(crate) fn open_image<M: Media>(media: &mut M, path: &str) -> Result<M::Drive
 pub(crate) fn read_image<M: Media>(media: &mut M, path: &str) -> Result<M::Drive, Fault>
     ensures device { IfErr result (λ fault. fault ≡ Fault.Store StoreFault.Device) }
     ensures untouched { OnErr result (AreUntouched (images_on M.Media media.old) (images_on M.Media media.new)) }
+    ensures failed { OnErr result (HasFailed (images_on M.Media media.old) (images_on M.Media media.new)) }
     ensures opened { IfOk result (λ drive. IsOpened M.Drive.Drive IsThere GREATEST_CAPACITY path.now drive (images_on M.Media media.old) (images_on M.Media media.new)) }
     ensures place { OnOk result (IsTrue (M.takes_back media.new path.now)) }
 {
@@ -43,7 +45,9 @@ pub(crate) fn create_image<M: Media>(
 ) -> Result<M::Drive, Fault>
     ensures device { IfErr result (λ fault. fault ≡ Fault.Store StoreFault.Device) }
     ensures made { OnErr result (MayBeMade path.now (images_on M.Media media.old) (images_on M.Media media.new)) }
+    ensures failed { OnErr result (HasFailed (images_on M.Media media.old) (images_on M.Media media.new)) }
     ensures opened { IfOk result (λ drive. IsOpened M.Drive.Drive IsThereOrMade capacity path.now drive (images_on M.Media media.old) (images_on M.Media media.new)) }
+    ensures uncounted { OnOk result (M.failures media.new ≡ M.failures media.old) }
     ensures place { OnOk result (IsTrue (M.takes_back media.new path.now)) }
 {
     match media.create(path, capacity) {

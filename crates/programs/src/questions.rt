@@ -1,10 +1,11 @@
 //! What is printed about the volume on an image. Nothing is written to the image.
 
 ghost use Rattle.std.specs.Prelude.{◌≡◌, IfErr, IsTrue};
+ghost use Rattle.drive.specs.Reads.{CountsFailures};
 ghost use Rattle.programs.specs.Images.{images_on};
 ghost use Rattle.programs.specs.Questions.{PrintsAnswer, ShowsImage, ShowsPath};
 ghost use Rattle.programs.specs.Questions.Question.{Names_at, Bytes_at, Commits, Soundness};
-ghost use Rattle.programs.specs.Status.{IsRefusal};
+ghost use Rattle.programs.specs.Status.{IsRefusal, drive_failures};
 
 use crate::fault::Fault;
 use crate::images::{put_back, read_image};
@@ -95,6 +96,7 @@ fn list<D: Drive, O: Write>(
     ensures prints { PrintsAnswer (Names_at path.now) result (D.capacity drive.old) (D.journal drive.old) (D.honest drive.new) (O.contents output.old) (O.contents output.new) }
     ensures journal { D.journal drive.new ≡ D.journal drive.old }
     ensures writes { D.writes drive.new ≡ D.writes drive.old }
+    ensures failures { CountsFailures (drive_failures result) (D.failures drive.old) (D.failures drive.new) }
     ensures honest { IsTrue (D.honest drive.new) → IsTrue (D.honest drive.old) }
 {
     let mut store = Store::open(alloc, drive)?;
@@ -114,6 +116,7 @@ fn get<D: Drive, O: Write>(
     ensures prints { PrintsAnswer (Bytes_at path.now) result (D.capacity drive.old) (D.journal drive.old) (D.honest drive.new) (O.contents output.old) (O.contents output.new) }
     ensures journal { D.journal drive.new ≡ D.journal drive.old }
     ensures writes { D.writes drive.new ≡ D.writes drive.old }
+    ensures failures { CountsFailures (drive_failures result) (D.failures drive.old) (D.failures drive.new) }
     ensures honest { IsTrue (D.honest drive.new) → IsTrue (D.honest drive.old) }
 {
     let mut store = Store::open(alloc, drive)?;
@@ -128,6 +131,7 @@ fn log<D: Drive, O: Write>(alloc: Global, drive: &mut D, output: &mut O) -> Resu
     ensures prints { PrintsAnswer Commits result (D.capacity drive.old) (D.journal drive.old) (D.honest drive.new) (O.contents output.old) (O.contents output.new) }
     ensures journal { D.journal drive.new ≡ D.journal drive.old }
     ensures writes { D.writes drive.new ≡ D.writes drive.old }
+    ensures failures { CountsFailures (drive_failures result) (D.failures drive.old) (D.failures drive.new) }
     ensures honest { IsTrue (D.honest drive.new) → IsTrue (D.honest drive.old) }
 {
     let store = Store::open(alloc, drive)?;
@@ -142,6 +146,7 @@ fn check<D: Drive, O: Write>(alloc: Global, drive: &mut D, output: &mut O) -> Re
     ensures prints { PrintsAnswer Soundness result (D.capacity drive.old) (D.journal drive.old) (D.honest drive.new) (O.contents output.old) (O.contents output.new) }
     ensures journal { D.journal drive.new ≡ D.journal drive.old }
     ensures writes { D.writes drive.new ≡ D.writes drive.old }
+    ensures failures { CountsFailures (drive_failures result) (D.failures drive.old) (D.failures drive.new) }
     ensures honest { IsTrue (D.honest drive.new) → IsTrue (D.honest drive.old) }
 {
     let commits = check_volume(alloc, drive)?;

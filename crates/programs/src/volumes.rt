@@ -1,13 +1,15 @@
 //! New volumes on images.
 
 ghost use Rattle.limits.specs.declared.TheConstants.{MOMENT_LIMIT};
-ghost use Rattle.std.specs.Prelude.{◌≡◌, ◌<◌, IfErr, OnOk};
+ghost use Rattle.std.specs.Prelude.{◌≡◌, ◌⊎◌, ◌<◌, true, IfErr, OnOk};
+ghost use Rattle.drive.specs.Journal.{counted};
+ghost use Rattle.drive.specs.Reads.{CountsFailures};
 ghost use Rattle.engine.specs.Situation.{situation_on};
 ghost use Rattle.formatting.specs.Beginning.{IsBegun};
 ghost use Rattle.formatting.specs.NewVolume.{FormatSurvivesPowerLoss, words_on};
 ghost use Rattle.programs.specs.Images.{MayLook, images_on};
-ghost use Rattle.programs.specs.NewVolumes.{IsLookRefused, MakesVolume, MakesOn, MakesOnImage};
-ghost use Rattle.programs.specs.Status.{IsRefusal};
+ghost use Rattle.programs.specs.NewVolumes.{AreWordsRefused, IsLookRefused, MakesVolume, MakesOn, MakesOnImage};
+ghost use Rattle.programs.specs.Status.{IsRefusal, drive_failures};
 
 use crate::fault::Fault;
 use crate::images::{create_image, put_back};
@@ -56,7 +58,7 @@ fn make_or_finish<M: Media, O: Write>(
     ensures refusal { IfErr result IsRefusal }
     ensures looks { MayLook image.now (images_on M.Media media.old) (images_on M.Media media.new) }
     ensures places { M.takes_back media.new ≡ M.takes_back media.old }
-    ensures makes { MakesOn label.now moment (M.Drive.capacity drive.old) result (situation_on M.Drive.Drive None drive.old) (situation_on M.Drive.Drive None drive.new) (M.looked media.new image.now) (O.contents output.old) (O.contents output.new) }
+    ensures makes { MakesOn label.now moment (M.Drive.capacity drive.old) result (situation_on M.Drive.Drive None drive.old) (situation_on M.Drive.Drive None drive.new) (M.looked media.new image.now) (O.contents output.old) (O.contents output.new) (M.failures media.old) (M.failures media.new) }
 {
     require_beginning_of(alloc, media, image, drive, label, moment)?;
     make(alloc, drive, label, moment, output)
@@ -73,7 +75,9 @@ fn make<D: Drive, O: Write>(
     requires { moment < MOMENT_LIMIT }
     ensures refusal { IfErr result IsRefusal }
     ensures makes { MakesVolume label.now moment (D.capacity drive.old) result (D.journal drive.old) (D.journal drive.new) (D.honest drive.new) (O.contents output.old) (O.contents output.new) }
+    ensures words { AreWordsRefused label.now (D.capacity drive.old) result }
     ensures withstands { FormatSurvivesPowerLoss (D.capacity drive.old) (words_on (D.capacity drive.old) label.now moment) (D.journal drive.old) (D.writes drive.old) (D.writes drive.new) (D.honest drive.new) }
+    ensures failures { CountsFailures (drive_failures result) (D.failures drive.old) (D.failures drive.new) }
 {
     format(alloc, drive, label, moment)?;
     put(output, b"formatted\n")
@@ -97,6 +101,9 @@ fn require_beginning_of<M: Media>(
     ensures writes { M.Drive.writes drive.new ≡ M.Drive.writes drive.old }
     ensures capacity { M.Drive.capacity drive.new ≡ M.Drive.capacity drive.old }
     ensures honest { M.Drive.honest drive.new ≡ M.Drive.honest drive.old }
+    ensures counted { CountsFailures 0 (M.Drive.failures drive.old) (M.Drive.failures drive.new) }
+    // A failure is reported only if the drive has failed, or the look at the image.
+    ensures failures { CountsFailures (drive_failures result) (M.Drive.failures drive.old) (M.Drive.failures drive.new) ⊎ (M.failures media.new ≡ counted true (M.failures media.old)) }
     ensures begun { OnOk result (IsBegun (M.Drive.capacity drive.old) label.now moment (M.Drive.journal drive.old) (M.looked media.new image.now)) }
     ensures refused { IfErr result (IsLookRefused (M.Drive.capacity drive.old) label.now moment (M.Drive.journal drive.old) (M.looked media.new image.now)) }
 {

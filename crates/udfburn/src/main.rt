@@ -1,15 +1,13 @@
-//! The program `udfburn`: `programs::run_command` over files, with the words and the streams of the process.
+//! The program `udfburn`: `programs::command_over_files`, with the words and the streams of the process.
 #![tactic(auto)]
 
-use media::FileMedia;
-use programs::run_command;
+use programs::command_over_files;
 use std::process::ExitCode;
 
 fn main(rt: HostRuntime) -> ExitCode {
-    let mut media = FileMedia::new(&rt);
     let mut input = rt.stdin();
     let output = rt.stdout();
     let mut errors = rt.stderr();
-    let (status, _) = run_command(&rt, &mut media, &mut input, output, &mut errors);
+    let (status, _) = command_over_files(&rt, &mut input, output, &mut errors);
     ExitCode::from(status)
 }

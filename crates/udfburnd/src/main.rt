@@ -1,13 +1,11 @@
-//! The program `udfburnd`: `programs::run_daemon` over files and a socket, with the words of the process.
+//! The program `udfburnd`: `programs::daemon_over_files` on a socket, with the words of the process.
 #![tactic(auto)]
 
-use media::FileMedia;
-use programs::{Sockets, run_daemon};
+use programs::{Sockets, daemon_over_files};
 use std::process::ExitCode;
 
 fn main(rt: HostRuntime) -> ExitCode {
-    let mut media = FileMedia::new(&rt);
     let mut sockets = Sockets::new(&rt);
     let mut errors = rt.stderr();
-    ExitCode::from(run_daemon(&rt, &mut media, &mut sockets, &mut errors))
+    ExitCode::from(daemon_over_files(&rt, &mut sockets, &mut errors))
 }

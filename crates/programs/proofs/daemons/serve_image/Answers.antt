@@ -2,7 +2,7 @@ use Rattle.programs.proofs.Telling.{serves_unheard, serves_unopened}
 use Rattle.programs.proofs.daemons.serve_image.Goals as goal
 
 pub returns-in_err-drive-clause-serves : goal.returns-in_err-drive-clause-serves
-returns-in_err-drive-clause-serves g c = serves_unopened _ _ c.from_residual.result _ _ _ c.from_residual.ensures.1 c.in_err-drive.ensures.device c.in_err-drive.ensures.untouched
+returns-in_err-drive-clause-serves g c = serves_unopened _ _ c.from_residual.result _ _ _ c.from_residual.ensures.1 c.in_err-drive.ensures.device c.in_err-drive.ensures.untouched c.in_err-drive.ensures.failed
 
 pub returns-clause-serves : goal.returns-clause-serves
 returns-clause-serves g c =

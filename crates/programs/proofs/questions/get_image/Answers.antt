@@ -12,9 +12,9 @@ returns-in_err-path-clause-prints g c =
 pub returns-in_err-drive-clause-prints : goal.returns-in_err-drive-clause-prints
 returns-in_err-drive-clause-prints g c =
     shows_path Bytes_at c.args.image.now c.args.path.now c.in_ok-path.path c.from_residual-in_err-drive.result _ _ _ _ c.in_ok-path.ensures.found
-    (inl (unopened c.from_residual-in_err-drive.result _ _ _ _ c.from_residual-in_err-drive.ensures.1 c.in_err-drive.ensures.device c.in_err-drive.ensures.untouched))
+    (inl (unopened c.from_residual-in_err-drive.result _ _ _ _ c.from_residual-in_err-drive.ensures.1 c.in_err-drive.ensures.device c.in_err-drive.ensures.untouched c.in_err-drive.ensures.failed))
 
 pub returns-clause-prints : goal.returns-clause-prints
 returns-clause-prints g c =
     shows_path Bytes_at c.args.image.now c.args.path.now c.in_ok-path.path c.get-shown.result _ _ _ _ c.in_ok-path.ensures.found
-    (shows_image g.M.Drive.Drive (Bytes_at c.in_ok-path.path) c.args.image.now c.get-shown.result _ _ _ _ _ _ _ c.in_ok-drive.ensures.opened c.put_back.ensures c.get-shown.ensures.journal c.get-shown.ensures.writes c.get-shown.ensures.prints)
+    (shows_image g.M.Drive.Drive (Bytes_at c.in_ok-path.path) c.args.image.now c.get-shown.result _ _ _ _ _ _ _ c.in_ok-drive.ensures.opened c.put_back.ensures c.get-shown.ensures.journal c.get-shown.ensures.writes c.get-shown.ensures.failures c.get-shown.ensures.prints)

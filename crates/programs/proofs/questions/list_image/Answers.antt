@@ -12,9 +12,9 @@ returns-in_err-path-clause-prints g c =
 pub returns-in_err-drive-clause-prints : goal.returns-in_err-drive-clause-prints
 returns-in_err-drive-clause-prints g c =
     shows_path Names_at c.args.image.now c.args.path.now c.in_ok-path.path c.from_residual-in_err-drive.result _ _ _ _ c.in_ok-path.ensures.found
-    (inl (unopened c.from_residual-in_err-drive.result _ _ _ _ c.from_residual-in_err-drive.ensures.1 c.in_err-drive.ensures.device c.in_err-drive.ensures.untouched))
+    (inl (unopened c.from_residual-in_err-drive.result _ _ _ _ c.from_residual-in_err-drive.ensures.1 c.in_err-drive.ensures.device c.in_err-drive.ensures.untouched c.in_err-drive.ensures.failed))
 
 pub returns-clause-prints : goal.returns-clause-prints
 returns-clause-prints g c =
     shows_path Names_at c.args.image.now c.args.path.now c.in_ok-path.path c.list-shown.result _ _ _ _ c.in_ok-path.ensures.found
-    (shows_image g.M.Drive.Drive (Names_at c.in_ok-path.path) c.args.image.now c.list-shown.result _ _ _ _ _ _ _ c.in_ok-drive.ensures.opened c.put_back.ensures c.list-shown.ensures.journal c.list-shown.ensures.writes c.list-shown.ensures.prints)
+    (shows_image g.M.Drive.Drive (Names_at c.in_ok-path.path) c.args.image.now c.list-shown.result _ _ _ _ _ _ _ c.in_ok-drive.ensures.opened c.put_back.ensures c.list-shown.ensures.journal c.list-shown.ensures.writes c.list-shown.ensures.failures c.list-shown.ensures.prints)

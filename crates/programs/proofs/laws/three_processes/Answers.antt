@@ -1,0 +1,5 @@
+use Rattle.programs.proofs.OverFiles.{three_processes}
+use Rattle.programs.proofs.laws.three_processes.Goals as goal
+
+pub returns : goal.returns
+returns c = three_processes

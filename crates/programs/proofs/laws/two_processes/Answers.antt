@@ -1,0 +1,5 @@
+use Rattle.programs.proofs.OverFiles.{two_processes}
+use Rattle.programs.proofs.laws.two_processes.Goals as goal
+
+pub returns : goal.returns
+returns c = two_processes
