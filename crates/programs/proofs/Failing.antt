@@ -1,5 +1,5 @@
 -- What fails is counted, by the outcome of a command.
-use Rattle.std.proofs.Common.{◌≡◌, ◌↔◌, ◌∙◌, ℕ, List, Option, Result, Ok, Err, ap, sym, subst, arith}
+use Rattle.std.proofs.Common.{◌≡◌, ◌↔◌, ◌∙◌, ℕ, List, Option, Result, Ok, Err, refl, ap, sym, subst, arith}
 use Rattle.std.specs.Prelude.{⊤, IsErrAnd}
 use Rattle.drive.specs.Reads.{CountsFailures}
 use Rattle.recover.specs.Faults.{device_failures}
@@ -34,37 +34,30 @@ counts_put (Err (Stream fault)) o w bytes a b puts counts = counts
 
 -- ---- a refusal of the words of a format
 
+abbrev error_or : {T E : Type 0} → E → Result T E → E
+error_or other (Ok x) = other
+error_or other (Err x) = x
+
+same_error : {T E : Type 0} (x y : E) (r s : Result T E) → r ≡ Err x → s ≡ Err y → r ≡ s → x ≡ y
+same_error x y r s p q e = ap (error_or x) (sym p ∙ e ∙ q)
+
+abbrev cause_or : StoreFault → Fault → StoreFault
+cause_or other Usage = other
+cause_or other Path = other
+cause_or other Socket = other
+cause_or other (Store x) = x
+cause_or other (Stream x) = other
+
+same_cause : (x y : StoreFault) (f : Fault) → f ≡ Store x → f ≡ Store y → x ≡ y
+same_cause x y f p q = ap (cause_or x) (sym p ∙ q)
+
 -- it is passed on
 pub refused_words : {T U : Type 0} (outcome : Result T Fault) (made : Result U StoreFault) (fault cause : StoreFault) (P : Type 0) → IsErrAnd outcome (λ f. f ≡ Store fault) → made ≡ Err fault → ((made ≡ Err cause) ↔ P) → (outcome ≡ Err (Store cause)) ↔ P
 refused_words (Ok x) made fault cause P is told exact = absurd is
 refused_words {T} {U} (Err f) made fault cause P is told exact = (
-  λ e. exact.0 (told ∙ ap (λ (x : StoreFault). Err x) (same_cause fault cause (sym is ∙ same_fault f (Store cause) e))),
-  λ p. ap (λ (g : Fault). Err g) (is ∙ ap (λ (x : StoreFault). Store x) (same_error U fault cause (sym told ∙ exact.1 p))),
+  λ e. exact.0 (told ∙ ap (λ (x : StoreFault). Err x) (same_cause fault cause f is (same_error {T = T} f (Store cause) (Err f) (Err (Store cause)) refl refl e))),
+  λ p. ap (λ (g : Fault). Err g) (is ∙ ap (λ (x : StoreFault). Store x) (same_error {T = U} fault cause made made told (exact.1 p) refl)),
 )
-  where
-    fault_or : Fault → Result T Fault → Fault
-    fault_or other (Ok x) = other
-    fault_or other (Err g) = g
-
-    same_fault : (g h : Fault) → Err g ≡ Err h → g ≡ h
-    same_fault g h e = ap (fault_or g) e
-
-    cause_or : StoreFault → Fault → StoreFault
-    cause_or other Usage = other
-    cause_or other Path = other
-    cause_or other Socket = other
-    cause_or other (Store x) = x
-    cause_or other (Stream x) = other
-
-    same_cause : (x y : StoreFault) → Store x ≡ Store y → x ≡ y
-    same_cause x y e = ap (cause_or x) e
-
-    error_or : (V : Type 0) → StoreFault → Result V StoreFault → StoreFault
-    error_or V other (Ok x) = other
-    error_or V other (Err x) = x
-
-    same_error : (V : Type 0) (x y : StoreFault) → Err x ≡ Err y → x ≡ y
-    same_error V x y e = ap (error_or V x) e
 
 -- there is none where the format was made, and then something written
 pub made_words : {T U : Type 0} (outcome : Result T Fault) (made : Result U StoreFault) (x : U) (cause : StoreFault) (P : Type 0) (o w : Option (List ℕ)) (bytes : List ℕ) → PutsBytes outcome o w bytes → made ≡ Ok x → ((made ≡ Err cause) ↔ P) → (outcome ≡ Err (Store cause)) ↔ P
