@@ -1,23 +1,30 @@
 -- A volume that is made on a drive, or on the file under a descriptor.
-use Rattle.std.specs.Prelude.{◌≡◌, ◌⊎◌, ◌≤◌, ℕ, Bool, List, [], IsUtf8, Option, Result, Ok, Err}
-use Rattle.limits.specs.declared.TheConstants.{MOMENT_LIMIT}
+use Rattle.std.specs.Prelude.{◌≡◌, ◌⊎◌, ◌<◌, ◌≤◌, ℕ, Bool, true, List, [], IsSome, IsUtf8, Option, Result, Ok, Err}
+use Rattle.limits.specs.declared.TheConstants.{LEAST_CAPACITY, MOMENT_LIMIT}
 use Rattle.drive.specs.Journal.{Event}
-use Rattle.drive.specs.FileDrive.{journal_of, capacity_of, honest_of, BeginsWith}
+use Rattle.drive.specs.FileDrive.{journal_of, capacity_of, honest_of, writes_of, BeginsWith}
 use Rattle.drive.specs.MemDrive as memory
 use Rattle.drive.specs.declared.file.FileDrive.{FileDrive}
 use Rattle.drive.specs.declared.memory.MemDrive.{MemDrive}
+use Rattle.osta.specs.FirstFault.{first_text_fault}
+use Rattle.osta.specs.Label.{label_faults}
 use Rattle.recover.specs.declared.fault.StoreFault.{StoreFault}
-use Rattle.formatting.specs.NewVolume.{words_on, IsFormatted, IsFormatRefused}
+use Rattle.recover.specs.declared.fault.StoreFault.TheVariants as stores
+use Rattle.formatting.specs.NewVolume.{words_on, FormatSurvivesPowerLoss, IsFormatted, IsFormatRefused}
 use Rattle.formatting.specs.Beginning.{IsBegun, IsUnbegun}
 use Rattle.embedding.specs.declared.fault.Fault.{Fault}
 use Rattle.embedding.specs.declared.fault.Fault.TheVariants.{Device, Text, Volume}
 use Rattle.embedding.specs.Numbers.{fault_of_store}
 
+-- the label is wrong where it is refused, and the capacity too small
+abbrev pub AreWordsWrong : ℕ → List ℕ → StoreFault → Type 0
+AreWordsWrong capacity label cause = (cause ≡ stores.Label → IsSome (first_text_fault (label_faults label))) × (cause ≡ stores.Small → capacity < LEAST_CAPACITY)
+
 -- The format was finished, so that on an honest drive the new volume is recovered, or what a refusal leaves.
 abbrev pub Makes : {T : Type 0} → List ℕ → ℕ → ℕ → Result T Fault → List Event → List Event → Bool → Type 0
 Makes label moment capacity (Ok x) before afterwards honest = IsFormatted capacity (words_on capacity label moment) before afterwards honest
 Makes label moment capacity (Err fault) before afterwards honest =
-    (cause : StoreFault) × (fault ≡ fault_of_store cause) × IsFormatRefused capacity (words_on capacity label moment) before afterwards honest cause
+    (cause : StoreFault) × (fault ≡ fault_of_store cause) × IsFormatRefused capacity (words_on capacity label moment) before afterwards honest cause × AreWordsWrong capacity label cause
 
 -- no volume can have these words
 abbrev pub AreNoWords : {T : Type 0} → List ℕ → ℕ → Result T Fault → Type 0
@@ -29,13 +36,16 @@ pub record IsForeign {T : Type 0} (label : List ℕ) (moment : ℕ) (outcome : R
   pub told : outcome ≡ Err (fault_of_store cause)
   pub why : IsUnbegun (capacity_of before) label moment (journal_of before) look cause
   pub journal : journal_of afterwards ≡ journal_of before
+  pub writes : writes_of afterwards ≡ writes_of before
 
--- What a format on a file does, by its outcome and by what a look found after the last whole block.
+-- What a format on a file does, by its outcome and by what a look found after the last whole block. A power loss leaves nothing or
+-- the new volume of its writes.
 abbrev pub FormatsOn : {T : Type 0} → List ℕ → ℕ → Result T Fault → Option (List ℕ) → FileDrive → FileDrive → Type 0
 FormatsOn label moment outcome look before afterwards =
     (AreNoWords label moment outcome × (afterwards ≡ before))
     ⊎ (IsForeign label moment outcome look before afterwards
-    ⊎ (IsBegun (capacity_of before) label moment (journal_of before) look × Makes label moment (capacity_of before) outcome (journal_of before) (journal_of afterwards) (honest_of afterwards)))
+    ⊎ (IsBegun (capacity_of before) label moment (journal_of before) look × Makes label moment (capacity_of before) outcome (journal_of before) (journal_of afterwards) (honest_of afterwards)
+    × FormatSurvivesPowerLoss (capacity_of before) (words_on (capacity_of before) label moment) (journal_of before) (writes_of before) (writes_of afterwards) (honest_of afterwards)))
 
 -- This was done on a drive over the file, from its opening on. What the file has no clause can know: it is whatever blocks the
 -- drive's reads agree with, and whatever the look found.
@@ -58,9 +68,9 @@ abbrev pub IsMadeInMemory : List ℕ → ℕ → ℕ → MemDrive → Type 0
 IsMadeInMemory label moment capacity drive =
     IsFormatted capacity (words_on capacity label moment) [] (memory.journal_of drive) (memory.honest_of drive) × (memory.capacity_of drive ≡ capacity)
 
--- why it was not made: no volume can have these words, or a format on a blank drive in memory was refused
+-- why it was not made: no volume can have these words, or a format on a blank drive in memory, which is honest, was refused
 abbrev pub IsNotMade : List ℕ → ℕ → ℕ → Fault → Type 0
 IsNotMade label moment capacity fault =
     ((fault ≡ Text) × (IsUtf8 label → ⊥))
     ⊎ (((fault ≡ Volume) × (MOMENT_LIMIT ≤ moment))
-    ⊎ ((cause : StoreFault) × (fault ≡ fault_of_store cause) × (afterwards : List Event) × (honest : Bool) × IsFormatRefused capacity (words_on capacity label moment) [] afterwards honest cause))
+    ⊎ ((cause : StoreFault) × (fault ≡ fault_of_store cause) × (afterwards : List Event) × IsFormatRefused capacity (words_on capacity label moment) [] afterwards true cause × AreWordsWrong capacity label cause))

@@ -2,8 +2,9 @@
 
 ghost use Rattle.limits.specs.declared.TheConstants.{MOMENT_LIMIT};
 ghost use Rattle.std.specs.Prelude.{◌≡◌, ◌<◌, ℕ, List, IfOk, IfErr, OnOk};
-ghost use Rattle.drive.specs.FileDrive.{capacity_of, honest_of, journal_of, BeginsWith};
+ghost use Rattle.drive.specs.FileDrive.{capacity_of, honest_of, journal_of, writes_of, BeginsWith};
 ghost use Rattle.formatting.specs.Beginning.{IsBegun, IsUnbegun};
+ghost use Rattle.formatting.specs.NewVolume.{FormatSurvivesPowerLoss, words_on};
 ghost use Rattle.embedding.specs.declared.fault.Fault.TheVariants as faults;
 ghost use Rattle.embedding.specs.Formats.{FormatsFile, FormatsOn, IsMadeInMemory, IsNotMade, Makes};
 
@@ -77,6 +78,7 @@ fn require_beginning_of(
 ) -> Result<(), StoreFault>
     requires { moment < MOMENT_LIMIT }
     ensures journal { journal_of drive.new ≡ journal_of drive.old }
+    ensures writes { writes_of drive.new ≡ writes_of drive.old }
     ensures capacity { capacity_of drive.new ≡ capacity_of drive.old }
     ensures honest { honest_of drive.new ≡ honest_of drive.old }
     ensures begun { OnOk result (IsBegun (capacity_of drive.old) label.now moment (journal_of drive.old) look.new.part) }
@@ -116,6 +118,7 @@ pub(crate) fn format_memory(
 fn make<D: Drive>(alloc: Global, drive: &mut D, label: &str, moment: u64) -> Result<(), Fault>
     requires { moment < MOMENT_LIMIT }
     ensures makes { Makes label.now moment (D.capacity drive.old) result (D.journal drive.old) (D.journal drive.new) (D.honest drive.new) }
+    ensures withstands { FormatSurvivesPowerLoss (D.capacity drive.old) (words_on (D.capacity drive.old) label.now moment) (D.journal drive.old) (D.writes drive.old) (D.writes drive.new) (D.honest drive.new) }
     ensures capacity { D.capacity drive.new ≡ D.capacity drive.old }
 {
     match format(alloc, drive, label, moment) {
