@@ -11,4 +11,5 @@ returns-in-Err-clause-refused c =
     let Is : List ℕ → ℕ → List Event → Type 0 = λ l n K. IsFormatRefused n (words_on n l c.args.moment) K J true cause × AreWordsWrong n l cause in
     let sized = subst (λ (n : ℕ). Is c.in-Ok.text.now n (journal_of c.new-drive.result)) c.new-drive.ensures.capacity (refused, wrong) in
     let blank = subst (λ (K : List Event). Is c.in-Ok.text.now c.args.capacity K) c.new-drive.ensures.journal sized in
-    inr (inr (cause, told, J, subst (λ (l : List ℕ). Is l c.args.capacity []) c.in-Ok.ensures.cases.0 blank))
+    let here = subst (λ (l : List ℕ). Is l c.args.capacity []) c.in-Ok.ensures.cases.0 blank in
+    inr (inr (cause, told, J, here.0, here.1))

@@ -7,6 +7,5 @@ returns-in-Err-clause-makes g c = (
   c.in-Err.fault,
   c.fault_of.ensures,
   c.in-Err.ensures.err,
-  (λ e. c.in-Err.ensures.label.0 (ap (λ (f : StoreFault). Err f) e)),
-  (λ e. (c.in-Err.ensures.small.0 (ap (λ (f : StoreFault). Err f) e)).1),
+  (λ e. c.in-Err.ensures.label.0 (ap (λ (f : StoreFault). Err f) e), λ e. (c.in-Err.ensures.small.0 (ap (λ (f : StoreFault). Err f) e)).1),
 )
