@@ -5,8 +5,8 @@ from __future__ import annotations
 from typing import Dict, List, Optional, Tuple
 
 from udfburn.protocol import (
-    CLIENTS_FULL, IS_DIRECTORY, NOT_DIRECTORY, NOT_FOUND, Answer, Code, Committed, Create, Data, Fault, Gap, Get, List as ListQuery,
-    MakeDir, Malformed, Message, Name, Names, Node, NodeKind, Path, Remove, Rename, Replace, Request, Stale, decode_message,
+    CLIENTS_FULL, IS_DIRECTORY, NOT_DIRECTORY, NOT_FOUND, TOO_LONG, Answer, Code, Committed, Create, Data, Fault, Gap, Get, List as ListQuery,
+    MakeDir, Malformed, Message, Name, Names, Node, NodeKind, Path, Read, Remove, Rename, Replace, Request, Stale, decode_message, limits,
 )
 
 
@@ -147,7 +147,11 @@ class Volume:
         if node is None:
             return NOT_FOUND
         if isinstance(message, Get):
+            if isinstance(node, File) and len(node.data) > limits.FILE:
+                return TOO_LONG
             return Data(node.data) if isinstance(node, File) else IS_DIRECTORY
+        if isinstance(message, Read):
+            return Data(node.data[message.offset : message.offset + message.count]) if isinstance(node, File) else IS_DIRECTORY
         if isinstance(message, ListQuery):
             if not isinstance(node, Directory):
                 return NOT_DIRECTORY

@@ -14,6 +14,7 @@ NAME_FAULTS = {number: fault for number, fault in enumerate(p.NameFault, 1)}
 BARE: Dict[str, p.Bare] = {
     "clients-full": p.CLIENTS_FULL, "full": p.FULL, "failed": p.FAULT, "memory": p.MEMORY, "damaged": p.DAMAGED,
     "not-found": p.NOT_FOUND, "is-directory": p.IS_DIRECTORY, "not-directory": p.NOT_DIRECTORY,
+    "too-long": p.TOO_LONG,
 }
 QUERIES = {p.Get: "get", p.List: "list", p.Stat: "stat"}
 REQUESTS = {p.Create: "create", p.Replace: "replace", p.MakeDir: "make", p.Rename: "rename", p.Remove: "remove"}
@@ -25,6 +26,8 @@ def names(path: p.Path) -> List[str]:
 
 def said(message: p.Message) -> List[str]:
     """The words of a message."""
+    if isinstance(message, p.Read):
+        return ["read", "offset", str(message.offset), "count", str(message.count), "path", *names(message.path)]
     if isinstance(message, (p.Get, p.List, p.Stat)):
         return [QUERIES[type(message)], "path", *names(message.path)]
     words = [REQUESTS[type(message)], "client", str(message.client), "number", str(message.number), "moment", str(message.moment)]

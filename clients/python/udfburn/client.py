@@ -2,17 +2,18 @@
 
 from __future__ import annotations
 
-from contextlib import contextmanager
+from contextlib import closing, contextmanager
 from typing import TYPE_CHECKING, Dict, Generator, Iterable, Iterator, List, Optional, Tuple, Type, Union
 
 from .connection import LONGEST
 from .endpoint import Endpoint
-from .errors import Exists, IsDirectory, NotDirectory, NotFound, UdfburnError, UsageError
+from .errors import Exists, IsDirectory, NotDirectory, NotFound, TooLong, UdfburnError, UsageError
 from .retrying import RetryingConnection
 from .operations import Operation, Outcome, now
+from .pieces import data_of, queries_of
 from .protocol import (
     Answer, AnyRequest, Code, Create, Data, Get, List as ListQuery, MakeDir, Name, Names, Node, NodeKind, Path, PathLike, Query,
-    Remove, Rename, Replace, Stat, path_of, show, shown,
+    Read, Remove, Rename, Replace, Stat, path_of, show, shown,
 )
 from .refusals import Answered, commit_of, expected, met
 
@@ -201,7 +202,22 @@ class Client:
 
     def get(self, path: PathLike) -> bytes:
         """The bytes of a file."""
-        return self._asked(Data, Get(path_of(path))).data
+        try:
+            return self._asked(Data, Get(path_of(path))).data
+        except TooLong:
+            return b"".join(self.pieces(path))
+
+    def read(self, path: PathLike, offset: int, count: int) -> bytes:
+        """So many bytes of a file, at most 1,048,576, from a byte on; fewer where it ends."""
+        return self._asked(Data, Read(path_of(path), offset, count)).data
+
+    def pieces(self, path: PathLike) -> Iterator[bytes]:
+        """The bytes of a file, a mebibyte at a time."""
+        with self.held():
+            queries = queries_of([path_of(path)], self.stat(path).size)
+            with closing(self.ask_all(queries)) as answers:
+                for query, answer in zip(queries, answers):
+                    yield data_of(query, answer)
 
     def list(self, path: PathLike = "/") -> Tuple[Name, ...]:
         """The names in a directory, with their kinds, in stored order."""

@@ -3,11 +3,12 @@
 from __future__ import annotations
 
 from contextlib import closing
-from typing import TYPE_CHECKING, Callable, Dict, List, Optional, Tuple
+from typing import TYPE_CHECKING, Callable, Dict, List, Optional, Set, Tuple
 
 from .errors import IsDirectory, NotFound, SourceError
 from .jobs import same_bytes
-from .protocol import Get, NodeKind, Path, printed, show
+from .pieces import queries_of
+from .protocol import Node, NodeKind, Path, Stat, limits, printed, show
 from .sources import Scan, Source, scan
 from .split import base_of, part_folders, stored_paths
 from .stored import find_file
@@ -96,18 +97,28 @@ def compare_parts(client: Client, source: Source, result: Comparison) -> None:
         result.differences.append((show(source.path), f"is there, but with --split {printed(others[0])} is read as a part of it"))
 
 
+def of_other_size(client: Client, sources: List[Source], split: bool) -> Set[Path]:
+    """The files of more than a mebibyte that have another size on the volume: they are read piece by piece, as far as the local ones go."""
+    large = [source for source in sources if not split and source.identity.size > limits.FILE]
+    with closing(client.ask_all(Stat(source.path) for source in large)) as answers:
+        return {source.path for source, node in zip(large, answers) if not isinstance(node, Node) or node.size != source.identity.size}
+
+
 def compare_files(client: Client, sources: List[Source], split: bool, result: Comparison, told: Told) -> List[Source]:
     """Compares the bytes of local files with those that are stored. Gives those with the same bytes."""
     equal: List[Source] = []
-    counts = [len(stored_paths(source.path, source.identity.size, split)) for source in sources]
-    queries = (Get(part) for source in sources for part in stored_paths(source.path, source.identity.size, split))
-    with closing(client.ask_all(queries)) as answers:
-        for source, count in zip(sources, counts):
+    others = of_other_size(client, sources, split)
+    asked = [
+        [] if source.path in others else queries_of(stored_paths(source.path, source.identity.size, split), source.identity.size) for source in sources
+    ]
+    with closing(client.ask_all(query for queries in asked for query in queries)) as answers:
+        for source, count in zip(sources, map(len, asked)):
             try:
                 same = same_bytes(source, count, answers)
             except SourceError as error:
                 result.differences.append((show(source.path), str(error)))
                 continue
+            same = same and source.path not in others
             result.files += 1
             result.bytes += source.identity.size
             told("same" if same else "differs", source.path, source.identity.size, 0)

@@ -48,6 +48,10 @@ class NotDirectory(Refused):
     text = "is not a directory"
 
 
+class TooLong(Refused):
+    text = "has more than 1,048,576 bytes, and one answer does not hold them"
+
+
 class NotEmpty(Refused):
     text = "is a directory with names (rm -r removes them too)"
 
@@ -89,6 +93,7 @@ MISSES: Dict[AnswerCode, Type[Refused]] = {
     AnswerCode.NOT_FOUND: NotFound,
     AnswerCode.IS_DIRECTORY: IsDirectory,
     AnswerCode.NOT_DIRECTORY: NotDirectory,
+    AnswerCode.TOO_LONG: TooLong,
 }
 
 

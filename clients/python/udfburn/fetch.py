@@ -12,8 +12,8 @@ from .compare import Comparison, verify_tree
 from .disk import is_full
 from .errors import DiskFull, SourceError
 from .escape import decode
-from .protocol import Data, Get, Path, shown
-from .refusals import expected
+from .pieces import data_of, queries_of
+from .protocol import Path, shown
 from .saving import PREFIX, Saver, remove_leftovers, save, why_not_written
 from .stored import Stored, Tree, find_file
 from .walk import Told, quiet
@@ -24,16 +24,10 @@ if TYPE_CHECKING:
 
 @contextmanager
 def parts_of(client: Client, files: Sequence[Stored]) -> Iterator[Iterator[Tuple[Stored, Iterator[bytes]]]]:
-    """Files with their bytes, part by part. The parts of one are to be taken before the next."""
-    queries = [Get(part) for file in files for part in file.parts]
-    with closing(client.ask_all(queries)) as answers:
-        asked = zip(answers, queries)
-
-        def data() -> bytes:
-            answer, query = next(asked)
-            return expected(Data, query, answer).data
-
-        yield ((file, (data() for _ in file.parts)) for file in files)
+    """Files with their bytes, part by part or piece by piece. Those of one are to be taken before the next."""
+    asked = [queries_of(file.parts, file.size) for file in files]
+    with closing(client.ask_all(query for queries in asked for query in queries)) as answers:
+        yield ((file, (data_of(query, next(answers)) for query in queries)) for file, queries in zip(files, asked))
 
 
 class Target(NamedTuple):

@@ -13,7 +13,7 @@ from .disk import room_left
 from .endpoint import Endpoint
 from .errors import DAMAGE, ConnectionFailed, Damaged, DiskFull, DriveFailed, OutOfMemory, UdfburnError, UsageError
 from .protocol import (
-    DAMAGED, FAULT, MEMORY, Answer, BadAnswer, Bare, Data, Gap, Get, List as ListQuery, Malformed, Names, Node, Query, Committed,
+    DAMAGED, FAULT, MEMORY, Answer, BadAnswer, Bare, Data, Gap, Get, List as ListQuery, Malformed, Names, Node, Query, Read, Committed,
     Stale, encode_message, frame, shown,
 )
 
@@ -224,7 +224,7 @@ def check_query(query: Query, answer: Answer) -> None:
     """Raises where an answer is none to the query."""
     if answer == DAMAGED:
         raise Damaged(DAMAGE)
-    fits = {Get: Data, ListQuery: Names}.get(type(query), Node)
+    fits = {Get: Data, Read: Data, ListQuery: Names}.get(type(query), Node)
     if isinstance(answer, Bare) and answer.code >= 96:
         return
     if isinstance(answer, (Committed, Stale, Gap, Malformed)) or not isinstance(answer, fits):

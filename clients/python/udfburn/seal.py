@@ -16,7 +16,8 @@ from .client import Client
 from .digests import Known
 from .errors import Differs, NotDirectory, TooLarge, UsageError
 from .operations import Operation, now
-from .protocol import AnyRequest, Code, Create, Data, Get, Node, NodeKind, Path, Query, Replace, Stat, limits, printed, show
+from .pieces import data_of, queries_of
+from .protocol import AnyRequest, Code, Create, Node, NodeKind, Path, Replace, Stat, limits, printed, show
 from .refusals import expected, refusal
 from .walk import Told, quiet, walk
 
@@ -113,13 +114,12 @@ def read_back(client: Client, paths: List[Path], sent: Dict[Path, Known]) -> Fou
 
 def with_data(client: Client, paths: List[Path]) -> Iterator[Tuple[Path, Node, bytes]]:
     """Files with their nodes and their bytes."""
-    queries: List[Query] = []
-    for path in paths:
-        queries += [Stat(path), Get(path)]
-    with closing(client.ask_all(queries)) as answers:
-        for path in paths:
-            node = expected(Node, Stat(path), next(answers))
-            yield path, node, expected(Data, Get(path), next(answers)).data
+    with closing(client.ask_all(map(Stat, paths))) as answers:
+        nodes = [expected(Node, Stat(path), answer) for path, answer in zip(paths, answers)]
+    asked = [queries_of([path], node.size) for path, node in zip(paths, nodes)]
+    with closing(client.ask_all(query for queries in asked for query in queries)) as answers:
+        for path, node, queries in zip(paths, nodes, asked):
+            yield path, node, b"".join(data_of(query, next(answers)) for query in queries)
 
 
 def require_agreement(found: Found) -> None:

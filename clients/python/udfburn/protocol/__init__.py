@@ -7,13 +7,13 @@ stream into payloads.
 
 from . import limits
 from .answers import (
-    BARE, CLIENTS_FULL, DAMAGED, FAULT, FULL, IS_DIRECTORY, MEMORY, NOT_DIRECTORY, NOT_FOUND,
+    BARE, CLIENTS_FULL, DAMAGED, FAULT, FULL, IS_DIRECTORY, MEMORY, NOT_DIRECTORY, NOT_FOUND, TOO_LONG,
     Answer, AnswerCode, BadAnswer, Bare, Code, Committed, Data, Gap, Malformed, Name, Names, Node, NodeKind, Stale,
     decode_answer, encode_answer,
 )
 from .frames import LENGTH, Frames, frame, prefix
 from .messages import (
-    AnyRequest, Cause, Create, Fault, Get, Kind, List, MakeDir, Message, Query, Remove, Rename, Replace, Request, Stat,
+    AnyRequest, Cause, Create, Fault, Get, Kind, List, MakeDir, Message, Query, Read, Remove, Rename, Replace, Request, Stat,
     decode_message, encode_message,
 )
 from .names import (
@@ -24,7 +24,7 @@ __all__ = [
     "Answer", "AnswerCode", "AnyRequest", "BARE", "BadAnswer", "Bare", "CLIENTS_FULL", "Cause", "Code", "Committed",
     "Create", "DAMAGED", "Data", "FAULT", "FULL", "Fault", "Frames", "Gap", "Get", "IS_DIRECTORY", "InvalidName",
     "InvalidPath", "Kind", "LENGTH", "List", "MEMORY", "MakeDir", "Malformed", "Message", "NOT_DIRECTORY",
-    "NOT_FOUND", "Name", "NameFault", "Names", "Node", "NodeKind", "Path", "PathLike", "Query", "Remove", "Rename",
-    "Replace", "Request", "Stale", "Stat", "as_text", "decode_answer", "decode_message", "encode_answer", "encode_message",
+    "NOT_FOUND", "Name", "NameFault", "Names", "Node", "NodeKind", "Path", "PathLike", "Query", "Read", "Remove", "Rename",
+    "Replace", "Request", "Stale", "Stat", "TOO_LONG", "as_text", "decode_answer", "decode_message", "encode_answer", "encode_message",
     "escaped", "frame", "has_spelling", "is_bytes", "limits", "name_fault", "path_of", "prefix", "printed", "show", "shown", "spelled_size",
 ]

@@ -46,6 +46,7 @@ class AnswerCode(IntEnum):
     NOT_FOUND = 96
     IS_DIRECTORY = 97
     NOT_DIRECTORY = 98
+    TOO_LONG = 99
 
 
 class NodeKind(IntEnum):
@@ -106,10 +107,11 @@ DAMAGED = Bare(AnswerCode.DAMAGED)
 NOT_FOUND = Bare(AnswerCode.NOT_FOUND)
 IS_DIRECTORY = Bare(AnswerCode.IS_DIRECTORY)
 NOT_DIRECTORY = Bare(AnswerCode.NOT_DIRECTORY)
+TOO_LONG = Bare(AnswerCode.TOO_LONG)
 
 BARE: Dict[int, Bare] = {
     bare.code: bare
-    for bare in (CLIENTS_FULL, FULL, FAULT, MEMORY, DAMAGED, NOT_FOUND, IS_DIRECTORY, NOT_DIRECTORY)
+    for bare in (CLIENTS_FULL, FULL, FAULT, MEMORY, DAMAGED, NOT_FOUND, IS_DIRECTORY, NOT_DIRECTORY, TOO_LONG)
 }
 
 
@@ -124,7 +126,7 @@ class Malformed(Record):
 
 
 class Data(Record):
-    """The bytes of a file."""
+    """The bytes of a file, or of a piece of it."""
 
     code: ClassVar[AnswerCode] = AnswerCode.DATA
     __slots__ = ("data",)
@@ -236,7 +238,7 @@ def decode_node(fields: Fields) -> Node:
     """What is known of a path."""
     kind, moment, size = fields.unpack(NODE)
     node = Node(node_kind(kind), moment, size)
-    most = limits.NAMES if node.kind is NodeKind.DIRECTORY else limits.FILE
+    most = limits.NAMES if node.kind is NodeKind.DIRECTORY else limits.GREATEST_FILE
     if node.moment >= limits.MOMENT or node.size > most:
         raise BadAnswer("a node is past the limits of a volume")
     return node

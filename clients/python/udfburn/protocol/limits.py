@@ -9,7 +9,10 @@ PAYLOAD = 1_114_112
 """Bytes of a frame's payload, at most."""
 
 FILE = 1_048_576
-"""Bytes of a file, at most."""
+"""Bytes of a file in one message, at most: a longer one is read piece by piece."""
+
+GREATEST_FILE = 122_683_392
+"""Bytes of a file on a volume, at most."""
 
 MOMENT = 4_102_444_800_000_000
 """The first moment that cannot be said: 2100-01-01 UTC, in microseconds from 1970."""

@@ -24,6 +24,7 @@ class Kind(IntEnum):
     GET = 16
     LIST = 17
     STAT = 18
+    READ = 19
 
 
 class Cause(IntEnum):
@@ -143,20 +144,33 @@ class Stat(Question):
     __slots__ = ()
 
 
-Query = Union[Get, List, Stat]
+class Read(Question):
+    """Asks for so many bytes of a file from a byte on, counted from 0, or as many as there are."""
+
+    kind = Kind.READ
+    __slots__ = ("offset", "count")
+
+    def __init__(self, path: Path, offset: int, count: int):
+        super().__init__(path)
+        self.offset = offset
+        self.count = count
+
+
+Query = Union[Get, List, Stat, Read]
 AnyRequest = Union[Create, Replace, MakeDir, Rename, Remove]
 Message = Union[AnyRequest, Query]
 
 REQUESTS: Dict[int, Type[AnyRequest]] = {
     Kind.CREATE: Create, Kind.REPLACE: Replace, Kind.MAKE_DIR: MakeDir, Kind.RENAME: Rename, Kind.REMOVE: Remove,
 }
-QUERIES: Dict[int, Type[Query]] = {Kind.GET: Get, Kind.LIST: List, Kind.STAT: Stat}
+QUERIES: Dict[int, Type[Query]] = {Kind.GET: Get, Kind.LIST: List, Kind.STAT: Stat, Kind.READ: Read}
 
 
 # ---- written
 
 HEAD = struct.Struct("<BQQQ")
 SIZE = struct.Struct("<I")
+PIECE = struct.Struct("<QI")
 
 
 def name_field(name: str) -> bytes:
@@ -177,6 +191,10 @@ def encode_path(path: Path) -> bytes:
 
 def encode_message(message: Message) -> bytes:
     """The one payload of a message."""
+    if isinstance(message, Read):
+        if not 0 <= message.offset <= limits.U64 or not 0 <= message.count <= limits.FILE:
+            raise Fault(Cause.EXTRA)
+        return bytes((message.kind,)) + encode_path(message.path) + PIECE.pack(message.offset, message.count)
     if not isinstance(message, Request):
         return bytes((message.kind,)) + encode_path(message.path)
     check_request(message)
@@ -226,6 +244,17 @@ def decode_data(fields: Fields) -> bytes:
     return fields.take(size)
 
 
+def decode_query(kind: Type[Query], fields: Fields) -> Query:
+    """The query of a kind, its fields in their order."""
+    path = decode_path(fields)
+    if kind is not Read:
+        return kind(path)  # type: ignore[call-arg]
+    offset, count = fields.number(8), fields.number(4)
+    if count > limits.FILE:
+        raise Fault(Cause.EXTRA)
+    return Read(path, offset, count)
+
+
 def decode_request(kind: Type[AnyRequest], fields: Fields) -> AnyRequest:
     """The request of a kind, its fields in their order."""
     client = fields.number(8)
@@ -256,7 +285,7 @@ def decode_message(payload: bytes) -> Message:
         if kind in REQUESTS:
             message = decode_request(REQUESTS[kind], fields)
         elif kind in QUERIES:
-            message = QUERIES[kind](decode_path(fields))
+            message = decode_query(QUERIES[kind], fields)
         else:
             raise Fault(Cause.KIND)
     except Short:
