@@ -25,7 +25,9 @@ def entry_said(read: entry.Entry) -> List[str]:
     said = list(map(str, words))
     if read.inside is not None:
         return said + ["inside", *shown(read.inside)]
-    return said + (["nowhere"] if read.first is None else ["extent", str(read.first)])
+    if read.first is None:
+        return said + ["nowhere"]
+    return said + (["extents", str(read.first), *map(str, read.others)] if read.others else ["extent", str(read.first)])
 
 
 def table_said(data: bytes) -> List[str]:
