@@ -86,7 +86,7 @@ def made(given: argparse.Namespace, counts: Counts) -> List[Volume]:
     maker = Maker(os.path.abspath(given.udfburn), given.room)
     volumes: List[Volume] = []
     try:
-        volumes = [maker.volume(plan) for plan in PLANS] + maker.cut() + [maker.nested()]
+        volumes = [maker.volume(plan) for plan in PLANS] + maker.cut() + [maker.nested(), maker.appended()]
     except RuntimeError as fault:
         counts.check("the images", [str(fault)])
     print("readers: %d images, %.1f s" % (len(volumes), time.monotonic() - began), flush=True)

@@ -4,11 +4,16 @@ from __future__ import annotations
 
 import random
 import subprocess
+import sys
 from dataclasses import dataclass, field
 from pathlib import Path
 from typing import Callable, Dict, List, Optional, Tuple
 
-from protocol import BLOCK, DONE, FRONT, Directory, Script, Tree
+sys.path.insert(0, str(Path(__file__).resolve().parent.parent.parent / "clients/python"))
+
+from protocol import BLOCK, DONE, FRONT, Directory, File, Script, Tree  # noqa: E402
+from tests.appended import MOMENT, Appender  # noqa: E402
+from udfburn.reader.basics import EXTENTS, FILE_BYTES  # noqa: E402
 
 # Names of all kinds. Those of characters up to U+00FF are spelled with one byte each, others with two.
 NAMES = (
@@ -276,6 +281,23 @@ class Maker:
         volume = Volume("nested", script, image, script.tree)
         volume.last = self.addresses(image)[script.commits]
         return volume
+
+
+    def appended(self) -> Volume:
+        """Files of 2, 3 and 117 extents, as appends leave them."""
+        script = Script("APPENDED", capacity=66_000)
+        image = self.room / "appended.img"
+        self.format(image, script)
+        cast, tree, earlier = random.Random(11), Tree(MOMENT), []
+        appender = Appender(str(image))
+        for name, size in (("two", FILE_BYTES + 1), ("three", 3 * FILE_BYTES), ("117", EXTENTS * FILE_BYTES - 777)):
+            data = some_bytes(cast, size)
+            appender.file(name, data)
+            tree.root.names[name] = File(data, MOMENT)
+            tree.nodes += 1
+            earlier.append((appender.previous + FRONT, tree.copy()))
+        appender.write()
+        return Volume("appended", script, image, tree, earlier[:1], 0, earlier[-1][0])
 
 
 def sealed(block: bytes, location: int) -> bytes:

@@ -35,7 +35,8 @@ class Appender:
         self.begin = self.number = self.table.address + 1 - PARTITION
         self.commit, self.previous = self.table.commit, self.table.address - PARTITION
         self.unique = self.table.next_unique
-        self.contents: Dict[str, Tuple[bytes, List[int]]] = {}
+        self.contents: Dict[str, Tuple[int, List[int]]] = {}
+        """Of each file that was added: its size, and where its extents begin."""
 
     def put(self, data: bytes) -> int:
         """Puts bytes into blocks of their own, and gives the number of the first."""
@@ -50,7 +51,7 @@ class Appender:
         self.added.append((name, virtual, self.unique))
         self.unique += 1
         self.words.append(0)
-        self.contents[name] = (b"", [])
+        self.contents[name] = (0, [])
         self._piece(name, data)
         first = self.number
         listing = [write_identifier("", 10, 1, 0, 0, first)]
@@ -76,12 +77,12 @@ class Appender:
 
     def _piece(self, name: str, data: bytes) -> None:
         old, firsts = self.contents[name]
-        assert len(old) % FILE_BYTES == 0 and 0 < len(data) <= FILE_BYTES
+        assert old % FILE_BYTES == 0 and 0 < len(data) <= FILE_BYTES
         firsts = [*firsts, self.put(data)]
-        whole = old + data
+        size = old + len(data)
         _, virtual, unique = next(known for known in self.added if known[0] == name)
-        self.words[virtual] = self.put(write_entry(Entry(Kind.FILE, MOMENT, 1, unique, len(whole), firsts[0], None, virtual, 0, True, tuple(firsts[1:]))))
-        self.contents[name] = (whole, firsts)
+        self.words[virtual] = self.put(write_entry(Entry(Kind.FILE, MOMENT, 1, unique, size, firsts[0], None, virtual, 0, True, tuple(firsts[1:]))))
+        self.contents[name] = (size, firsts)
 
     def _table(self) -> None:
         self.commit += 1
