@@ -125,7 +125,7 @@ two_processes image text first second last volume S before i l o e f j k p d q g
     let b = did_of (Get_bytes image text) second last j k p shown d q got in
     let processes : List Process = Command (Apply_to_image image) (Ok tt) i l o (text_in given) ∷ Command (Get_bytes image text) (Ok tt) j k p (text_in shown) ∷ [] in
     let runs : AreRuns image processes volume S before (files_of last) =
-        processes_are_runs image processes (files_of first) (files_of last) volume S before honest (files_of second, a, (files_of last, b, untouched (files_of last))) there once stands in
+    processes_are_runs image processes (files_of first) (files_of last) volume S before honest (files_of second, a, (files_of last, b, untouched (files_of last))) there once stands in
     let what = gets image text (files_of second) (files_of last) volume _ runs.afterwards p (text_in shown) b.1 honest runs.held_is runs.survives.stands in
     record { runs = runs; path = what.0; is_path = what.1; text_is = what.2; bytes = what.3.0; said = what.3.1; shown = what.3.2 }
 
