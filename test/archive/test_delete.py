@@ -90,9 +90,25 @@ class Acknowledged(WithCopies):
         self.require_left([], "")
 
     def test_an_image_that_cannot_be_read(self) -> None:
-        os.unlink(self.image)
-        os.symlink("/proc/self/mem", self.image)
+        os.chmod(self.image, 0o600)
+        os.truncate(self.image, 5000)
         self.require_left(list(self.before), "does not have them as they were stored")
+        # A file that is there, and gives an error of the disk when it is read.
+        if os.geteuid() != 0 or subprocess.call(["mount", "--bind", f"/proc/{os.getpid()}/mem", self.image], stderr=subprocess.DEVNULL):
+            self.skipTest("a file cannot be mounted here")
+        self.addCleanup(subprocess.call, ["umount", "-l", self.image])
+        self.require_left(list(self.before), "does not have them as they were stored")
+
+    def test_no_regular_file_has_the_image_s_name(self) -> None:
+        for make in (
+            lambda: os.symlink("/proc/self/mem", self.image), lambda: os.symlink(self.copy(0), self.image), lambda: os.symlink("nowhere", self.image),
+            lambda: os.mkfifo(self.image), lambda: os.mkdir(self.image),
+        ):
+            os.unlink(self.image)
+            make()
+            self.require_left(list(self.before), "T-000001 has no regular file as its image: 'repair T-000001'")
+        os.rmdir(self.image)
+        self.require_left([], "")
 
 
 class Copied(WithCopies):

@@ -10,7 +10,7 @@ from itertools import zip_longest
 from typing import Dict, Iterator, List, Optional, Sequence
 
 from ..sources import Source, read_parts, shown
-from .catalogue import CLOSED, RETIRED, Catalogue, Copy, Held, VolumeRow, image_of, part_count
+from .catalogue import CLOSED, RETIRED, Catalogue, Copy, Held, VolumeRow, image_of, odd_image, part_count
 from .config import Config
 from .contents import Contents, File
 from .errors import CopyFailed, VolumeDiffers
@@ -105,10 +105,13 @@ class Places:
         self._open = {}
 
     def why_not(self, source: Source, held: Held, volume: VolumeRow) -> Optional[str]:
-        """Why nothing shows now that a volume has the bytes of a source; None where something does."""
+        """Why nothing shows now that a volume has the bytes of a source; None where something does. Copies are looked at only where no image
+        is at hand: one that is damaged, or has a link in its place, is repaired before sources go."""
         image = image_of(self.config, volume)
         if image is not None:
             return None if self._has(image, source, held) else f"since {volume.label} does not have them as they were stored: check it"
+        if odd_image(self.config, volume) is not None:
+            return f"since {volume.label} has no regular file as its image: 'repair {volume.label}'"
         copies = [copy for copy in self.catalogue.on_remotes(volume.number) if copy.trouble is None]
         for copy in copies:
             path = self._in_folder(volume, copy)
