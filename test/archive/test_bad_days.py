@@ -183,10 +183,10 @@ class Assembled(WithCopies):
         return [write(self.path(f"damaged {index}"), bytes(image)) for index, image in enumerate(images)]
 
     def test_two_and_three_images(self) -> None:
-        wanted, target = print_of_file(self.image), self.path("made")
+        wanted = print_of_file(self.image)
         for copies, seed in ((2, 1), (2, 2), (2, 3), (3, 4), (3, 5)):
             with self.subTest(copies=copies, seed=seed):
-                chance = random.Random(seed)
+                chance, target = random.Random(seed), self.path(f"made {seed}")
                 images = self.damaged(chance, 9, [chance.randrange(copies) for _ in range(9)], copies)
                 self.assertTrue(assembled(images, wanted, target))
                 self.assertEqual(print_of_file(target), wanted)

@@ -207,7 +207,8 @@ class Commands(WithArchive):
     def test_bad_words(self) -> None:
         self.do("ls", status=1)
         self.do("init", self.source + "/x", "--label", "A" * 24, status=1)
-        self.do("init", self.source + "/x", "--capacity", "511", status=1)
+        for capacity, why in (("511", "a volume has 512 to 450,000"), ("450001", "a volume has 512 to 450,000"), ("many", "'many'")):
+            self.assertIn(why, self.do("init", self.source + "/x", "--capacity", capacity, status=2).errors)
         write(os.path.join(self.source, "f"), b"")
         self.do("init", self.source, status=1)
         self.init()
