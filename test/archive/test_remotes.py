@@ -104,12 +104,20 @@ class Copies(WithRemotes):
             change(self.image(1), file.read().index(data) + 77)
         done = self.do("check", "--data", status=1)
         self.assertIn("the one is not as it was stored", done.errors)
+        # A copy in a folder has it.
+        self.assertEqual(self.do("get", "/s", self.path("whole")).last()["files"], 31)
+        self.assertEqual(digests(self.path("whole", "s")), digests(self.source))
+        # Only remotes of rclone have it.
+        copy = os.path.join(self.copies()[0], "T-000001.img")
+        with open(copy, "rb") as file:
+            change(copy, file.read().index(data) + 4000)
         get = self.do("get", "/s", self.path("back"), status=1)
-        self.assertIn("/s/the one", get.errors)
+        self.assertRegex(get.errors, "/s/the one: .*'repair'")
         self.assertEqual(get.last()["files"], 30)
         self.assertFalse(os.path.exists(self.path("back", "s", "the one")))
         self.do("repair")
         self.assertEqual(self.get_all(), digests(self.source))
+        self.do("check", "--data", "--remotes")
 
     def test_damaged_and_lost_copies(self) -> None:
         make_tree(self.source, 60, 44)
@@ -205,7 +213,7 @@ class Copies(WithRemotes):
         self.rclone('[ "$1" != cat ] || head -c 200000 /dev/zero | tr "\\0" x >&2')
         process = start("close", "--archive", self.archive)
         try:
-            self.assertEqual(process.wait(30), 0)
+            self.assertEqual(process.wait(PATIENCE), 0)
         finally:
             if process.poll() is None:
                 os.killpg(process.pid, signal.SIGKILL)

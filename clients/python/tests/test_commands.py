@@ -64,7 +64,6 @@ class Commands(Local):
             output, terminal = StringIO(), Terminal()
             bar = Progress(False, False, output, terminal)
             bar.begin(4, 4096)
-            bar.shown -= 1.0
             bar.told("stored", ("a",), 1024, 1)
             self.assertRegex(terminal.getvalue(), r"\[######\.{18}\]  25%  1 of 4 files  1.0 KiB of 4.0 KiB  .*/s  \d+:\d\d left")
             # The difference of other moments may be a little less.
@@ -88,7 +87,6 @@ class Commands(Local):
             with mock.patch.dict("sys.modules", {"tqdm": None}), mock.patch("udfburn.progress.os.get_terminal_size", lambda _, size=size: size):
                 tell = Tell(False, False, StringIO(), terminal)
                 tell.begin(2, total)
-                tell.shown -= 1.0
                 tell.step("got", ("a",), 1024)
             self.assertRegex(terminal.getvalue(), shown)
 

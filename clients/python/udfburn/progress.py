@@ -90,6 +90,8 @@ class Progress:
     def begin(self, files: int, total: int) -> None:
         """So many files and bytes are to come."""
         self.files, self.bytes, self.began = files, total, time.monotonic()
+        # The first step is shown at once.
+        self.shown = 0.0
         if self.bar and total:
             try:
                 from tqdm import tqdm
