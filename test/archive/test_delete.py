@@ -110,6 +110,13 @@ class Acknowledged(WithCopies):
         os.rmdir(self.image)
         self.require_left([], "")
 
+    def test_a_link_is_no_copy(self) -> None:
+        os.unlink(self.copy(1))
+        os.rename(self.copy(0), self.path("elsewhere"))
+        os.symlink(self.path("elsewhere"), self.copy(0))
+        os.unlink(self.image)
+        self.require_left(list(self.before), "T-000001 is not at hand")
+
 
 class Copied(WithCopies):
     """Where each copy counts."""
@@ -129,6 +136,11 @@ class Copied(WithCopies):
         os.unlink(self.copy(0))
         os.link(self.image, self.copy(0))
         self.require_left(list(self.before), "is the image itself")
+
+    def test_a_copy_that_became_a_link_to_the_other(self) -> None:
+        os.unlink(self.copy(0))
+        os.symlink(self.copy(1), self.copy(0))
+        self.require_left(list(self.before), f"{self.copy(0)}: is no regular file")
 
     def test_a_disk_that_is_not_mounted(self) -> None:
         os.rename(self.copies[0], self.copies[0] + ".disk")

@@ -58,7 +58,7 @@ ALLOWED: Dict[str, Dict[str, str]] = {
         "os.access": KIND, "os.path.isfile": KIND, "os.path.lexists": FOLDER, "os.rename": FOLDER, "tempfile.mkdtemp": OURS, "shutil.rmtree": OURS, "sqlite3.connect": OWN,
     },
     "archive.remotes": {
-        "os.replace": FOLDER, "os.scandir": KIND, "os.stat": KIND, "os.path.samefile": KIND, "os.unlink": FOLDER, "tempfile.TemporaryFile": OURS,
+        "os.replace": FOLDER, "os.scandir": KIND, "os.lstat": KIND, "os.path.samefile": KIND, "os.unlink": FOLDER, "tempfile.TemporaryFile": OURS,
     },
     "archive.scan": {"os.stat": KIND, "os.path.isdir": KIND},
     "archive.status": {"os.path.isfile": KIND},

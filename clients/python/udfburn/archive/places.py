@@ -9,6 +9,7 @@ import os
 from itertools import zip_longest
 from typing import Dict, Iterator, List, Optional, Sequence
 
+from ..beneath import is_own
 from ..sources import Source, read_parts, shown
 from .catalogue import CLOSED, RETIRED, Catalogue, Copy, Held, VolumeRow, image_of, odd_image, part_count
 from .config import Config
@@ -132,7 +133,7 @@ class Places:
         try:
             remote = remote_of(self.catalogue, copy.remote)
             path = remote.path_of(volume.label + ".img")
-            if path is not None and os.path.isfile(path):
+            if path is not None and is_own(path):
                 remote.require_own()
                 return path
         except CopyFailed:

@@ -5,6 +5,7 @@ from __future__ import annotations
 import errno
 import json
 import os
+import stat
 import subprocess
 from contextlib import suppress
 from hashlib import sha256
@@ -128,14 +129,19 @@ class FolderRemote(Remote):
             raise CopyFailed(f"{shown(self.name)}: {error.strerror or error}") from error
 
     def length(self, name: str) -> Optional[int]:
+        path = os.path.join(self.name, name)
         try:
-            return os.stat(os.path.join(self.name, name)).st_size
+            status = os.lstat(path)
         except FileNotFoundError:
             # Of a disk that is not mounted nothing is known.
             self.require_own()
             return None
         except OSError as error:
-            raise CopyFailed(f"{shown(os.path.join(self.name, name))}: {error.strerror or error}") from error
+            raise CopyFailed(f"{shown(path)}: {error.strerror or error}") from error
+        if not stat.S_ISREG(status.st_mode):
+            # A link may lead to the image, or to another copy.
+            raise CopyFailed(f"{shown(path)}: is no regular file")
+        return status.st_size
 
     def send(self, local: str, name: str) -> None:
         target = os.path.join(self.name, name)
