@@ -98,6 +98,10 @@ pub record Heard : Type 0 where
   pub ended : List (List ℕ)
   pub missed : ℕ
 
+-- Of a socket of the system nobody knows what was written on its connections.
+pub nothing_known : List (List ℕ)
+nothing_known = []
+
 abbrev pub heard_on : {L I O : Type 0} → Ghosts L I O → L → Heard
 heard_on listener l = record { given = listener.given l; ended = listener.ended l; missed = listener.missed l }
 

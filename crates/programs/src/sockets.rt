@@ -1,6 +1,7 @@
 //! The connections of a socket.
 
-ghost use Rattle.std.specs.Prelude.{◌≡◌, ◌+◌, [], None, IfSome, replicate};
+ghost use Rattle.std.specs.Prelude.{◌≡◌, ◌+◌, None, IfSome, replicate};
+ghost use Rattle.programs.specs.Listening.{nothing_known};
 
 use crate::listening::{Listener, NoConnection};
 use std::alloc::Global;
@@ -59,7 +60,7 @@ impl<'a, R: Files<File = File> + Net> Listener for Sockets<'a, R> {
 
     ghost given = { λ s. replicate s.given None };
 
-    ghost ended = { λ _. [] };
+    ghost ended = { λ _. nothing_known };
 
     ghost missed = { λ s. s.missed };
 
