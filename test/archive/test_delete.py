@@ -100,14 +100,14 @@ class Acknowledged(WithCopies):
         self.require_left(list(self.before), "does not have them as they were stored")
 
     def test_no_regular_file_has_the_image_s_name(self) -> None:
-        for make in (
-            lambda: os.symlink("/proc/self/mem", self.image), lambda: os.symlink(self.copy(0), self.image), lambda: os.symlink("nowhere", self.image),
-            lambda: os.mkfifo(self.image), lambda: os.mkdir(self.image),
-        ):
+        for leads_to in ("/proc/self/mem", self.copy(0), "nowhere", None):
             os.unlink(self.image)
-            make()
+            if leads_to is None:
+                os.mkfifo(self.image)
+            else:
+                os.symlink(leads_to, self.image)
             self.require_left(list(self.before), "T-000001 has no regular file as its image: 'repair T-000001'")
-        os.rmdir(self.image)
+        os.unlink(self.image)
         self.require_left([], "")
 
     def test_a_link_is_no_copy(self) -> None:
@@ -141,6 +141,14 @@ class Copied(WithCopies):
         os.unlink(self.copy(0))
         os.symlink(self.copy(1), self.copy(0))
         self.require_left(list(self.before), f"{self.copy(0)}: is no regular file")
+
+    def test_copies_that_are_one_file(self) -> None:
+        os.unlink(self.copy(1))
+        os.link(self.copy(0), self.copy(1))
+        self.require_left(list(self.before), f"the copy on {self.copies[1]} is the file of another copy")
+        os.unlink(self.copy(1))
+        self.do("repair", "T-000001")
+        self.require_left([], "")
 
     def test_a_disk_that_is_not_mounted(self) -> None:
         os.rename(self.copies[0], self.copies[0] + ".disk")

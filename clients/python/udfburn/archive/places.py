@@ -188,31 +188,37 @@ class Places:
             return f"since {volume.label} is retired"
         if volume.state != CLOSED:
             return f"until {volume.label} is closed and on {wanted} remotes"
-        good = 0
+        good: List[Optional[str]] = []
         told: List[str] = []
         for copy in self.catalogue.on_remotes(volume.number):
-            if good < wanted and copy.trouble is None and copy.remote in self.config.copies:
-                why = self._why_no_copy(volume, copy)
+            if len(good) < wanted and copy.trouble is None and copy.remote in self.config.copies:
+                why = self._why_no_copy(volume, copy, good)
                 if why is None:
-                    good += 1
+                    good.append(remote_of(self.catalogue, copy.remote).path_of(volume.label + ".img"))
                 else:
                     told.append(why)
-        if good >= wanted:
+        if len(good) >= wanted:
             return None
         return f"until {volume.label} is closed and on {wanted} remotes" + "".join(f"; {why}" for why in told)
 
-    def _why_no_copy(self, volume: VolumeRow, copy: Copy) -> Optional[str]:
+    def _why_no_copy(self, volume: VolumeRow, copy: Copy, others: Sequence[Optional[str]]) -> Optional[str]:
+        """Why a copy does not count beside others, of which those in folders have paths."""
         name, image = volume.label + ".img", image_of(self.config, volume)
         try:
             remote = remote_of(self.catalogue, copy.remote)
             remote.require_own()
             length = remote.length(name)
-            itself = image is not None and remote.is_file(image, name)
         except CopyFailed as error:
             return str(error)
-        if length != volume.length or itself:
-            return f"the copy on {copy.remote} {'is the image itself' if itself else 'is not there' if length is None else 'has another length'}: 'repair {volume.label}'"
-        return None
+        if image is not None and remote.is_file(image, name):
+            why = "is the image itself: remove its name there, then"
+        elif any(other is not None and remote.is_file(other, name) for other in others):
+            why = "is the file of another copy: remove its name there, then"
+        elif length != volume.length:
+            why = "is not there:" if length is None else "has another length:"
+        else:
+            return None
+        return f"the copy on {copy.remote} {why} 'repair {volume.label}'"
 
 
 __all__ = ["Places", "Reading", "readable", "same_bytes"]
