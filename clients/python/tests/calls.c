@@ -88,6 +88,20 @@ int unlink(const char *path) {
     return failed;
 }
 
+int unlinkat(int folder, const char *name, int flags) {
+    REAL(int, unlinkat, int, const char *, int);
+    int failed = real(folder, name, flags);
+    if (!failed) {
+        char link[64], path[PATH_MAX];
+        snprintf(link, sizeof link, "/proc/self/fd/%d", folder);
+        ssize_t count = folder == AT_FDCWD || *name == '/' ? -1 : readlink(link, path, sizeof path - 1);
+        if (count < 0) count = 0;
+        snprintf(path + count, sizeof path - (size_t)count, "%s%s", count ? "/" : "", name);
+        note(REMOVED, path, 0, "", 0);
+    }
+    return failed;
+}
+
 int rename(const char *path, const char *to) {
     REAL(int, rename, const char *, const char *);
     int failed = real(path, to);
