@@ -9,10 +9,11 @@ from __future__ import annotations
 
 import errno
 import os
+import select
 import stat
 from contextlib import contextmanager, suppress
 from threading import RLock
-from typing import Callable, Dict, Iterator, List, NamedTuple, Optional, Tuple
+from typing import Any, Callable, Dict, Iterator, List, NamedTuple, Optional, Tuple
 
 from .errors import SourceError
 from .protocol import shown
@@ -44,6 +45,28 @@ class Level(NamedTuple):
 
     name: str
     descriptor: int
+    owner: Any
+
+
+class Owner:
+    """Closes a descriptor once nothing refers to this, where the system has no `epoll`."""
+
+    def __init__(self, descriptor: int):
+        self._descriptor = descriptor
+
+    def close(self) -> None:
+        descriptor, self._descriptor = self._descriptor, -1
+        if descriptor >= 0:
+            os.close(descriptor)
+
+    __del__ = close
+
+
+def owner_of(descriptor: int) -> Any:
+    """What closes a descriptor once nothing refers to it. An object of `epoll` takes any, and does it without a line of Python: an
+    interrupt that comes in `__del__` is lost."""
+    epoll: Any = getattr(select, "epoll", None)
+    return epoll.fromfd(descriptor) if epoll is not None else Owner(descriptor)
 
 
 class Root:
@@ -53,7 +76,7 @@ class Root:
         self.path = path
         self.made = False
         """Whether it was made just now, so that its own name is durable."""
-        self._descriptor = descriptor
+        self._descriptor, self._owner = descriptor, owner_of(descriptor)
         self._levels: List[Level] = []
         self._lock = RLock()
 
@@ -81,17 +104,13 @@ class Root:
     def close(self) -> None:
         """Closes what is open."""
         self._drop(0)
-        if self._descriptor >= 0:
-            os.close(self._descriptor)
-            self._descriptor = -1
+        self._owner.close()
+        self._descriptor = -1
 
     def __enter__(self) -> "Root":
         return self
 
     def __exit__(self, *_: object) -> None:
-        self.close()
-
-    def __del__(self) -> None:
         self.close()
 
     def real(self) -> str:
@@ -122,9 +141,10 @@ class Root:
             kept = 0
         self._drop(kept)
         for name in names[kept:]:
-            self._levels.append(Level(name, open_folder(name, self._last(), make)))
-            if len(self._levels) > KEPT and self._levels[-KEPT].descriptor >= 0:
-                os.close(self._levels[-KEPT].descriptor)
+            descriptor = open_folder(name, self._last(), make)
+            self._levels.append(Level(name, descriptor, owner_of(descriptor)))
+            if len(self._levels) > KEPT:
+                self._levels[-KEPT].owner.close()
                 self._levels[-KEPT] = self._levels[-KEPT]._replace(descriptor=-1)
         return self._last()
 
@@ -134,9 +154,7 @@ class Root:
     def _drop(self, kept: int) -> None:
         """Closes the levels after the first so many."""
         while len(self._levels) > kept:
-            descriptor = self._levels.pop().descriptor
-            if descriptor >= 0:
-                os.close(descriptor)
+            self._levels.pop().owner.close()
 
     def sync(self, names: Names) -> None:
         """Makes the names in a folder durable, where its file system can do that and this user may."""
