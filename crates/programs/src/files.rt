@@ -46,3 +46,13 @@ where
     let mut media = FileMedia::over(rt);
     run_daemon(rt, &mut media, listener, errors)
 }
+
+/// `daemon_over_files` for a `main`: it names no record, since any will do.
+pub fn daemon_of_files<R, L, E>(rt: &R, listener: &mut L, errors: &mut E) -> u8
+where
+    R: Files<File = File> + Clock + Env + AllocGlobal,
+    L: Listener,
+    E: Write,
+{
+    daemon_over_files(rt, listener, errors)
+}

@@ -25,7 +25,7 @@ mod volumes;
 pub use commands::command_on;
 pub use daemons::{daemon_on, serve_one};
 pub use fault::{Fault, report};
-pub use files::{command_over_files, daemon_over_files};
+pub use files::{command_over_files, daemon_of_files, daemon_over_files};
 pub use laws::{frames_are_messages, processes_are_runs, three_processes, two_processes};
 pub use listening::{Listener, NoConnection};
 pub use process::{run_command, run_daemon};
