@@ -112,7 +112,7 @@ class Faults(unittest.TestCase):
     def test_each_cause(self) -> None:
         good = p.encode_message(p.Create(7, 1, 0, ("a",), b"hello"))
         self.assertEqual(self.fault(b"\x10" + bytes(p.limits.PAYLOAD)), p.Cause.TOO_LONG)
-        for kind in (0, 6, 9, 15, 19, 255):
+        for kind in (0, 6, 9, 15, 20, 255):
             self.assertEqual(self.fault(bytes((kind,)) + good[1:]), p.Cause.KIND)
         for end in range(len(good)):
             self.assertEqual(self.fault(good[:end]), p.Cause.SHORT, end)
@@ -159,7 +159,7 @@ class Answers(unittest.TestCase):
     def test_nonsense(self) -> None:
         bad = ["", "00", "0000", "0B00", "0B00 00000000", "0000 0100", "2000", "2600 0000", "2600 3B00", "4000 01000000", "4000 00000000 00", "4000 01001000",
                "4100 0100 02 0100 61", "4100 0100 00 0200 2E2E", "4100 0100 00 0100 2F", "4100 0200 00 0100 61 01 0100 61", "4100 0102", "4200 02", "4200 00",
-               "4200 00 0000000000000000 0100100000000000", "4200 00 FFFFFFFFFFFFFFFF 0000000000000000", "4200 01 0000000000000000 0102000000000000", "6000 00", "FFFF"]
+               "4200 00 0000000000000000 0100500700000000", "4200 00 FFFFFFFFFFFFFFFF 0000000000000000", "4200 01 0000000000000000 0102000000000000", "6000 00", "FFFF"]
         for text in bad:
             with self.assertRaises(p.BadAnswer, msg=text):
                 p.decode_answer(unhex(text))

@@ -331,7 +331,7 @@ class Trouble(WithServer):
         """Answers that are none, to requests, to questions and to the probe: each is an error, and nothing is taken for a reply."""
         frames = [
             p.frame(b"\x0b\x00\x01\x00\x00\x00"), b"\xff\xff\xff\xff", p.frame(b""), p.frame(b"\x00"), p.frame(p.encode_answer(p.Data(b"x"))), p.frame(b"\x00\x00\x01\x00\x00\x00x"),
-            p.frame(p.encode_answer(p.NOT_FOUND)), os.urandom(64).replace(b"\x00", b"\x01"), p.frame(b"\x63\x00"),
+            p.frame(p.encode_answer(p.NOT_FOUND)), os.urandom(64).replace(b"\x00", b"\x01"), p.frame(b"\x64\x00"),
         ]
         for nonsense in frames:
             answers_get = nonsense in (p.frame(p.encode_answer(p.Data(b"x"))), p.frame(p.encode_answer(p.NOT_FOUND)))
