@@ -6,11 +6,13 @@
 #        test/edits.sh --count
 #        test/edits.sh --outdated
 #        test/edits.sh --list [CRATE..]
+#        test/edits.sh --promises [CRATE..]
 # Without words it tries the edits of every crate; with --since, those of the crates whose files differ from the commit. The last
 # line is then 'edits: N passed, M failed'. The other options try none. --count prints how many edits each crate has in
 # must-fail/ and here. --outdated names those of both whose text is not in its file exactly once, and its status is 1 if there is
 # one. --list prints them all, each with the promise that it breaks, the clause that refuses it, and the test that refuses it too;
-# 'gate' is at those of must-fail/. It takes a POSIX shell, the tools of a base system, and to try edits the Rattle kit.
+# 'gate' is at those of must-fail/. --promises prints each promise once, with its clause and how many edits break it. It takes a
+# POSIX shell, the tools of a base system, and to try edits the Rattle kit.
 #
 # The edits are in test/edits/CRATE, and those that change a definition in test/edits/laws/CRATE. They are tried on a copy of
 # the tree in which they are in crates/CRATE/must-fail. What rt check keeps for this tree serves the copy too.
@@ -85,6 +87,19 @@ list() {
     done
 }
 
+# promises [CRATE..]: prints each promise that edits name, with its clause and the number of these edits, in the order of list.
+promises() {
+    list "$@" | awk '
+        /^[a-z_]+: / { crate = $1; promise = ""; edits++; next }
+        /^    promise: / { promise = crate " " substr($0, 14); if (!(promise in number)) order[++count] = promise; number[promise]++; named++; next }
+        /^    clause: / && promise != "" && !(promise in clause) { clause[promise] = substr($0, 13) }
+        END {
+            for (i = 1; i <= count; i++)
+                printf "%s\n    clause: %s\n    edits: %d\n", order[i], clause[order[i]], number[order[i]]
+            printf "promises: %d, named by %d of %d edits\n", count, named, edits
+        }'
+}
+
 # refuse WORD..: says what is wrong with the words, and ends.
 refuse() {
     echo "edits: $*"
@@ -108,9 +123,13 @@ case ${1:-} in
         outdated
         exit
         ;;
-    --list)
+    --list | --promises)
+        printed=${1#--}
         shift
-        list "$@"
+        for crate; do
+            [ -d "crates/$crate" ] || refuse "there is no crate $crate"
+        done
+        "$printed" "$@"
         exit 0
         ;;
     --since)
