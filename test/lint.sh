@@ -1,6 +1,6 @@
 #!/bin/sh
-# What static checkers say of the Python and shell of the repository (mypy --strict, pyflakes, shellcheck), and whether each edit that
-# must fail still applies to the code.
+# What static checkers say of the Python and shell of the repository (mypy --strict, pyflakes, shellcheck), whether each edit that
+# must fail still applies to the code, and whether the plan of the client is that of its imports.
 #
 # usage: test/lint.sh
 # Its last line is 'lint: N passed, M failed'. The checkers are installed where they are missing and we may; what cannot be had is
@@ -39,7 +39,7 @@ apart() {
 
 # all_are_looked_at: whether each Python file is in a folder that mypy looks at below.
 all_are_looked_at() {
-    find . -name '*.py' ! -path '*/out/*' | sed 's|^\./||' | grep -v -E '^(clients/python/(udfburn|tests)/|clients/python/bench(_calls)?\.py$|test/(commands|faults|vectors|archive|library|bad_day|copies|disc|readers|documents)/|test/protocol\.py$|bench/[a-z]+/)' > "$room/others"
+    find . -name '*.py' ! -path '*/out/*' | sed 's|^\./||' | grep -v -E '^(clients/python/(udfburn|tests)/|clients/python/bench(_calls)?\.py$|test/(commands|faults|vectors|archive|library|bad_day|copies|disc|readers|documents)/|test/(protocol|modules)\.py$|bench/[a-z]+/)' > "$room/others"
     cat "$room/others"
     ! [ -s "$room/others" ]
 }
@@ -55,7 +55,7 @@ if have mypy mypy; then
     holds 'the tests of the library are typed' apart test "$top/test:$top/clients/python" --config-file ../clients/python/pyproject.toml -p library
     holds 'the tests of damaged images are typed' apart test/bad_day "$top/clients/python:$top/test" --config-file ../../clients/python/pyproject.toml bad_day.py images.py
     others=$top/test:$top/test/readers:$top/bench/apply:$top/clients/python
-    holds 'the other tests are typed' apart "$top" "$others" --config-file clients/python/pyproject.toml test/protocol.py test/copies/*.py test/readers/*.py test/documents/*.py
+    holds 'the other tests are typed' apart "$top" "$others" --config-file clients/python/pyproject.toml test/protocol.py test/modules.py test/copies/*.py test/readers/*.py test/documents/*.py
     holds 'the tests of discs are typed' apart test/disc "$top/test/disc:$top/test/readers:$top/clients/python" --config-file ../../clients/python/pyproject.toml discs.py
     holds 'what burns discs in the machine is typed' apart test/disc "$top/clients/python" --config-file ../../clients/python/pyproject.toml --python-version 3.11 guest.py
     # Some of these have the same name, so each folder is looked at apart.
@@ -73,4 +73,5 @@ if have shellcheck shellcheck; then
     done
 fi
 holds 'each edit applies to the code' test/edits.sh --outdated
+holds 'docs/ARCHITECTURE.md has the modules of the client as they import each other' test/modules.py check
 counted

@@ -258,7 +258,7 @@ class Reading(WithArchive):
             self.assertEqual(common(entries), set.intersection(*sets))
 
     def test_the_index_is_not_of_another_writing(self) -> None:
-        """Its tables are those of docs/ARCHIVE.md, in SQLite without a copy of the key."""
+        """Its tables are those of docs/ARCHITECTURE.md, in SQLite without a copy of the key."""
         self.init()
         base = sqlite3.connect(os.path.join(self.archive, "catalogue.sqlite"))
         (made,) = base.execute("SELECT sql FROM sqlite_master WHERE name = 'trigram'").fetchone()
