@@ -3,22 +3,31 @@
 #
 # usage: test/edits.sh [CRATE..]
 #        test/edits.sh --since COMMIT
+#        test/edits.sh --slice NUMBER
+#        test/edits.sh --behind
 #        test/edits.sh --count
 #        test/edits.sh --outdated
 #        test/edits.sh --list [CRATE..]
 #        test/edits.sh --promises [CRATE..]
-# Without words it tries the edits of every crate; with --since, those of the crates whose files differ from the commit. The last
-# line is then 'edits: N passed, M failed'. The other options try none. --count prints how many edits each crate has in
+# Without arguments it tries the edits of every crate; with --since, those of the crates whose files differ from the commit; with
+# --slice, so many that follow one another, from a place on that the hash of the last commit chooses: of the crates that --behind
+# names, if there are any, else of all. The last line is then 'edits: N passed, M failed'. A crate of which all edits were refused is
+# noted in test/edits/tried with a sum of its contracts: its specs/, and the signatures in its src/. --behind names the crates whose
+# contracts are others by now. It and the options after it try no edit. --count prints how many edits each crate has in
 # must-fail/ and here. --outdated names those of both whose text is not in its file exactly once, and its status is 1 if there is
 # one. --list prints them all, each with the promise that it breaks, the clause that refuses it, and the test that refuses it too;
 # 'gate' is at those of must-fail/. --promises prints each promise once, with its clause and how many edits break it. It takes a
 # POSIX shell, the tools of a base system, and to try edits the Rattle kit.
 #
 # The edits are in test/edits/CRATE, and those that change a definition in test/edits/laws/CRATE. They are tried on a copy of
-# the tree in which they are in crates/CRATE/must-fail. What rt check keeps for this tree serves the copy too.
+# the tree in which they are in crates/CRATE/must-fail, by rt ci, which takes what it has passed on this machine.
 set -u
 
 cd "$(dirname "$0")/.." || exit 1
+record=test/edits/tried
+room=$(mktemp -d) || exit 1
+trap 'rm -rf "$room"' EXIT
+trap 'exit 1' HUP INT PIPE TERM
 
 # crates: the crates that have edits here.
 crates() {
@@ -32,6 +41,42 @@ edits() {
     for edit in "test/edits/$1"/*.edit "test/edits/laws/$1"/*.edit; do
         if [ -f "$edit" ]; then echo "$edit"; fi
     done
+}
+
+# contracts CRATE: a sum of what callers of a crate know: its specs, and the signatures of its functions with their clauses.
+contracts() {
+    {
+        find "crates/$1/specs" -name '*.antt' 2> /dev/null | LC_ALL=C sort | xargs -r cat
+        find "crates/$1/src" -name '*.rt' | LC_ALL=C sort | xargs awk '
+            /(^| )fn [a-z_]/ && !/^ *\/\// { signature = 1 }
+            signature || /^ *ghost / { print }
+            signature && (/[{;]$/ || /fn .*}$/) { signature = 0 }'
+    } | sha256sum | cut -c 1-16
+}
+
+# behind: the crates that have edits here, and whose contracts are not those for which all of these were tried.
+behind() {
+    for crate in $(crates); do
+        grep -qxF "$crate $(contracts "$crate")" "$record" || echo "$crate"
+    done
+}
+
+# note CRATE..: notes that all edits of these crates were refused.
+note() {
+    for crate; do
+        grep -v "^$crate " "$record" > "$room/record"
+        echo "$crate $(contracts "$crate")" >> "$room/record"
+        LC_ALL=C sort "$room/record" > "$record"
+    done
+}
+
+# slice NUMBER: so many edits, which follow one another.
+slice() {
+    from=$(behind)
+    for crate in ${from:-$(crates)}; do edits "$crate"; done > "$room/from"
+    start=$(printf '%d' "0x$(git rev-parse HEAD | cut -c 1-8)")
+    awk -v number="$1" -v start="$start" '{ edit[NR - 1] = $0 } END {
+        for (i = 0; i < number && i < NR; i++) print edit[(start + i) % NR] }' "$room/from"
 }
 
 # number FOLDER: how many edits are in a folder.
@@ -114,6 +159,7 @@ changed() {
     done
 }
 
+sliced=
 case ${1:-} in
     --count)
         count
@@ -123,6 +169,10 @@ case ${1:-} in
         outdated
         exit
         ;;
+    --behind)
+        behind
+        exit 0
+        ;;
     --list | --promises)
         printed=${1#--}
         shift
@@ -131,6 +181,17 @@ case ${1:-} in
         done
         "$printed" "$@"
         exit 0
+        ;;
+    --slice)
+        case ${2:-} in '' | *[!0-9]*) refuse 'usage: test/edits.sh --slice NUMBER' ;; esac
+        [ $# -eq 2 ] || refuse 'usage: test/edits.sh --slice NUMBER'
+        sliced=yes
+        slice "$2" > "$room/edits"
+        tried=$(xargs -n 1 dirname < "$room/edits" | xargs -n 1 basename | LC_ALL=C sort -u)
+        later=$(behind)
+        # shellcheck disable=SC2086
+        [ -z "$later" ] || echo "edits: contracts of" $later "changed since all their edits were tried: test/edits.sh NAME tries them"
+        sed 's/^/edits: tries /' "$room/edits"
         ;;
     --since)
         [ $# -eq 2 ] || refuse 'usage: test/edits.sh --since COMMIT'
@@ -152,28 +213,24 @@ case ${1:-} in
         done
         ;;
 esac
-
-room=$(mktemp -d) || exit 1
-trap 'rm -rf "$room"' EXIT
-trap 'exit 1' HUP INT PIPE TERM
+[ -n "$sliced" ] || for crate in $tried; do edits "$crate"; done > "$room/edits"
 
 mkdir "$room/tree" || exit 1
 tar -cf - --exclude=out --exclude=must-fail crates crates.txt HANDLES | tar -xf - -C "$room/tree" || exit 1
-total=0
-for crate in $tried; do
-    mkdir "$room/tree/crates/$crate/must-fail" || exit 1
-    for edit in $(edits "$crate"); do
-        cp "$edit" "$room/tree/crates/$crate/must-fail/" || exit 1
-        total=$((total + 1))
-    done
-done
+total=$(wc -l < "$room/edits")
+while read -r edit; do
+    folder=$room/tree/crates/$(basename "$(dirname "$edit")")/must-fail
+    mkdir -p "$folder" && cp "$edit" "$folder/" || exit 1
+done < "$room/edits"
 
-# One line for each edit, which says that it was refused or what came instead; other lines are of the libraries below.
+# One line for each edit, which says that it was refused or what came instead; other lines are of the proofs.
 # shellcheck disable=SC2086
-(cd "$room/tree" && rt must-fail $tried) > "$room/told" 2>&1
+(cd "$room/tree" && rt ci $tried) > "$room/told" 2>&1
 passed=$(grep -c '^rt: must-fail .*: refused, as it must be' "$room/told")
 grep '^rt: ' "$room/told" | grep -v ': refused, as it must be'
 if [ "$passed" -eq 0 ]; then tail -n 20 "$room/told"; fi
 failed=$((total - passed))
+# shellcheck disable=SC2086
+if [ "$failed" -eq 0 ] && [ -z "$sliced" ]; then note $tried; fi
 echo "edits: $passed passed, $failed failed"
 [ "$failed" -eq 0 ]
