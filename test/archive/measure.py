@@ -192,9 +192,9 @@ import sys
 from udfburn.archive.config import read
 from udfburn.archive.catalogue import Catalogue
 with Catalogue(read(sys.argv[1])) as catalogue, catalogue.base.transaction():
-    catalogue.names.remake()
+    catalogue.base.remake_index()
 """
-"""Makes the index of names again."""
+"""Makes the index of text inside names again."""
 
 
 def index(folder: str, bytes_of: Callable[[], int], rows: int) -> None:
@@ -256,15 +256,9 @@ def find_postgresql(case: Room, room: str) -> None:
     # Else it would have to recover all of them at each start.
     server.sql("CHECKPOINT")
 
-    def size_of(*tables: str) -> int:
-        return sum(int(server.sql(f"SELECT pg_total_relation_size('{table}')", "large")[0][0]) for table in tables)
-
-    of_index = ("recent_names", "indexed_names", "trigram")
-    index(folder, lambda: size_of(*of_index), ROWS_POSTGRESQL)
-    for table in of_index:
-        server.sql(f"VACUUM ANALYZE {table}", "large")
+    index(folder, lambda: int(server.sql("SELECT pg_relation_size('file_trigrams')", "large")[0][0]), ROWS_POSTGRESQL)
     server.sql("CHECKPOINT")
-    size = size_of("file", "folder", *of_index)
+    size = sum(int(server.sql(f"SELECT pg_total_relation_size('{table}')", "large")[0][0]) for table in ("file", "folder"))
 
     def forget() -> None:
         server.stop()

@@ -230,7 +230,7 @@ class Commands(WithArchive):
         for command in (["status"], ["add", self.source], ["rebuild"], ["close"]):
             done = self.do(*command, status=1)
             self.assertIn("version 99", done.errors)
-        base.execute("UPDATE archive SET version = 4")
+        base.execute("UPDATE archive SET version = 5")
         base.commit()
         other = self.path("other.img")
         subprocess.run([UDFBURN, "format", other, "T-000001", "0", "1000"], check=True, stdout=subprocess.DEVNULL)

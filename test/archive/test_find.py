@@ -8,21 +8,22 @@ import sqlite3
 import subprocess
 import sys
 import time
-from array import array
+import unittest
 from fnmatch import fnmatchcase
-from typing import Dict, List, Set, Tuple
+from typing import Dict, Iterator, List, Set, Tuple
 from unittest import mock
 
 from .servers import Server
-from .support import LARGE, PACKAGE, WithArchive, environment, kill, wait_until
+from .support import LARGE, PACKAGE, WithArchive, environment, kill, wait_until, write
 
 sys.path.insert(0, PACKAGE)
 
-from udfburn.archive import find, trigrams  # noqa: E402
+from udfburn.archive import base, find  # noqa: E402
 from udfburn.archive.catalogue import Catalogue, Held, VolumeRow  # noqa: E402
 from udfburn.archive.config import read  # noqa: E402
-from udfburn.archive.names import kept_name  # noqa: E402
-from udfburn.archive.trigrams import common, packed, runs  # noqa: E402
+from udfburn.archive.errors import CatalogueError  # noqa: E402
+from udfburn.archive.names import kept_name, name_back  # noqa: E402
+from udfburn.archive.patterns import ESCAPE, glob, like, pieces, trigrams  # noqa: E402
 from udfburn.protocol import Path  # noqa: E402
 
 WORDS = ("holi", "day", "a", "b", "ab", "IMG", "img", "2019", ".jpg", "é", "日本", "\U0001f4f7", "[", "]", "!", "-", "*", "?", "%", "_", "\\", "\udcff", "\n", " ")
@@ -37,8 +38,6 @@ Files = Dict[int, Held]
 
 WRITER = """
 import sys
-from udfburn.archive import trigrams
-trigrams.SEGMENT = 512
 from udfburn.archive.catalogue import Catalogue, Held, VolumeRow
 from udfburn.archive.config import read
 config, number, commit = read(sys.argv[1]), int(sys.argv[2]), int(sys.argv[3])
@@ -75,9 +74,6 @@ class Ways(WithArchive):
 
     def setUp(self) -> None:
         super().setUp()
-        # Segments of 64 groups, so that a few thousand names make several, with entries of both kinds.
-        for name, value in (("SEGMENT", 512), ("RECENT", 100)):
-            self.patch(trigrams, name, value)
         self.chance = random.Random(46)
         self.files: Files = {}
         self.folders = [tuple(some_name(self.chance) for _ in range(depth % 4)) for depth in range(12)]
@@ -123,14 +119,13 @@ class Ways(WithArchive):
         """Compares so many patterns; gives how many were answered by the index, and how many of those found a file."""
         used = hits = 0
         held = list(self.files.values())
-        plain = catalogue.names.matching
+        plain = find.named
         for turn in range(count):
             asked: List[bool] = []
 
-            def matching(pattern: str) -> "List[str] | None":
-                names = plain(pattern)
-                asked.append(names is not None)
-                return names
+            def named(of: Catalogue, wanted: base.Range, pattern: str) -> Iterator[base.Row]:
+                asked.append(wanted == of.base.matching(pattern) and bool(trigrams(pattern)))
+                return plain(of, wanted, pattern)
 
             path = self.chance.choice(held).path
             pattern = some_pattern(self.chance, path[-1])
@@ -138,13 +133,17 @@ class Ways(WithArchive):
                 pattern = "/" + some_pattern(self.chance, "/".join(path))
             if turn < len(LAST):
                 pattern = LAST[turn]
-            with mock.patch.object(catalogue.names, "matching", matching):
+            with mock.patch.object(find, "named", named):
                 found = list(find.find(catalogue, pattern))
             self.assertEqual(sorted(found), self.plainly(pattern), pattern)
             self.assertEqual(len(found), len(set(found)), pattern)
             used += any(asked)
             hits += any(asked) and bool(found)
         return used, hits
+
+
+class WaysInFile(Ways):
+    """With SQLite."""
 
     def test_random_names_and_patterns(self) -> None:
         self.patch(find, "FEW", 3)
@@ -159,36 +158,17 @@ class Ways(WithArchive):
                 if turn % 2:
                     self.forget(catalogue, 2 + turn // 2, 0.5)
                     self.require_same(catalogue, PATTERNS)
-            ((segments,),) = catalogue.base.run("SELECT segments FROM name_index")
-            self.assertGreater(segments, 3)
             catalogue.mend_names()
             self.require_same(catalogue, PATTERNS)
-            # Names of files that are gone are no more in the index.
-            ((fewer,),) = catalogue.base.run("SELECT segments FROM name_index")
-            self.assertEqual(fewer, len({held.path[-1] for held in self.files.values()}) // 512)
 
     def test_very_many_names(self) -> None:
-        self.patch(trigrams, "MANY", 5)
-        self.patch(find, "FEW", 3)
+        """More files of one pattern than a statement of SQLite has values, and each name in several folders."""
         with Catalogue(read(self.archive)) as catalogue:
-            for _ in range(10):
-                self.keep(catalogue, 2, 140)
-            self.assertIsNone(catalogue.names.matching("*day*"))
-            self.require_same(catalogue, PATTERNS)
-
-    def test_a_damaged_index_is_made_again(self) -> None:
-        with Catalogue(read(self.archive)) as catalogue:
-            for _ in range(10):
-                self.keep(catalogue, 2, 140)
-            for statement in ("DELETE FROM recent_names", "DELETE FROM trigram WHERE segment = 0"):
-                catalogue.base.run(statement)
-            self.assertNotEqual(sorted(find.find(catalogue, "*day*")), self.plainly("*day*"))
-        self.do("rebuild", "--dry-run")
-        with Catalogue(read(self.archive)) as catalogue:
-            self.assertNotEqual(sorted(find.find(catalogue, "*day*")), self.plainly("*day*"))
-        self.do("rebuild")
-        with Catalogue(read(self.archive)) as catalogue:
-            self.require_same(catalogue, PATTERNS)
+            volume = VolumeRow(2, "T-000002", "open", catalogue.config.id, 1000, 1)
+            rows = [Held(2, 10 + i, (f"d{i % 3}", f"a holiday of {i // 3}"), 1, 1, bytes(32), 1) for i in range(36_000)]
+            catalogue.add(volume, rows)
+            self.assertEqual(sum(1 for _ in find.find(catalogue, "*holiday*")), 36_000)
+            self.assertEqual(list(find.find(catalogue, "*day of 777")), [("d0", "a holiday of 777"), ("d1", "a holiday of 777"), ("d2", "a holiday of 777")])
 
     def test_writers_are_killed(self) -> None:
         commits = {2: 10, 3: 10, 4: 10}
@@ -198,9 +178,9 @@ class Ways(WithArchive):
                 for number in commits
             ]
             with Catalogue(read(self.archive)) as catalogue:
-                ((least,),) = catalogue.base.run("SELECT segments FROM name_index")
-                # Each is killed once there are more segments; what is acknowledged by then is found, and while they write as well.
-                wait_until(lambda: catalogue.base.run("SELECT segments FROM name_index")[0][0] > least + 1)
+                least = sum(commits.values())
+                # Each is killed once there are more files; what is acknowledged by then is found, and while they write as well.
+                wait_until(lambda: catalogue.base.run("SELECT count(*) FROM file")[0][0] > least + 2000)
                 time.sleep(self.chance.uniform(0, 0.2))
                 for writer in writers:
                     kill(writer)
@@ -217,50 +197,101 @@ class Ways(WithArchive):
                         self.assertEqual(len(list(find.find(catalogue, f"*{number} of {commit} it*"))), 1)
 
 
-class WaysOnServer(Ways):
+class WaysOnServer(WaysInFile):
     """The same with PostgreSQL."""
 
     def begin(self) -> None:
         self.server = Server(self)
         self.init("--catalogue", self.server.new_base("archive"))
 
-    def test_another_process_has_the_index(self) -> None:
-        import psycopg
+    def test_the_index_is_used(self) -> None:
+        with Catalogue(read(self.archive)) as catalogue:
+            volume = VolumeRow(2, "T-000002", "open", catalogue.config.id, 1000, 1)
+            catalogue.add(volume, [Held(2, 10 + i, ("d", f"name {i * 7919 % 10007} of it"), 1, 1, bytes(32), 1) for i in range(20_000)])
+            catalogue.base.run("SET enable_seqscan = off")
+            wanted = catalogue.base.matching("*e 7919*it")
+            plan = catalogue.base.run(f"EXPLAIN SELECT path, name FROM by_name WHERE {wanted.where}", wanted.values)
+            self.assertIn("file_trigrams", str(plan))
 
-        with psycopg.connect(self.server.url("archive")) as connection, Catalogue(read(self.archive)) as catalogue:
-            connection.execute("SELECT * FROM name_index FOR UPDATE")
+    def test_a_server_without_the_extension(self) -> None:
+        """The owner of a database may create it, and who may not is told so."""
+        self.server.sql("CREATE ROLE guest LOGIN")
+        self.server.sql("CREATE DATABASE plain")
+        self.server.sql("GRANT ALL ON SCHEMA public TO guest", "plain")
+        url = self.server.url("plain").replace("//postgres@", "//guest@")
+        self.assertIn("guest", url)
+        done = self.run_in(self.path("other"), "init", self.path("other"), "--label", "T", "--catalogue", url, status=1)
+        self.assertIn("the owner of the database runs 'CREATE EXTENSION pg_trgm'", done.errors)
+        self.assertEqual(self.server.sql("SELECT count(*) FROM pg_tables WHERE schemaname = 'public'", "plain")[0][0], 0)
+
+
+class Damages(Ways):
+    """An index in SQLite that is damaged."""
+
+    def damage(self, catalogue: Catalogue) -> None:
+        """The index lacks names."""
+        catalogue.base.run("INSERT INTO name_text (name_text) VALUES ('delete-all')")
+
+    def test_a_damaged_index_is_made_again(self) -> None:
+        with Catalogue(read(self.archive)) as catalogue:
             for _ in range(10):
                 self.keep(catalogue, 2, 140)
-            self.assertEqual(catalogue.base.run("SELECT segments FROM name_index"), [(0,)])
-            self.require_same(catalogue, 50)
-            connection.rollback()
-            self.keep(catalogue, 2, 70)
-            self.assertEqual(catalogue.base.run("SELECT segments FROM name_index"), [(2,)])
-            self.require_same(catalogue, 50)
+            self.damage(catalogue)
+            self.assertNotEqual(sorted(find.find(catalogue, "*day*")), self.plainly("*day*"))
+        self.do("rebuild", "--dry-run")
+        with Catalogue(read(self.archive)) as catalogue:
+            self.assertNotEqual(sorted(find.find(catalogue, "*day*")), self.plainly("*day*"))
+        self.do("rebuild")
+        with Catalogue(read(self.archive)) as catalogue:
+            self.require_same(catalogue, PATTERNS)
+
+    def test_an_index_that_cannot_be_written_is_made_again(self) -> None:
+        with Catalogue(read(self.archive)) as catalogue:
+            for _ in range(10):
+                self.keep(catalogue, 2, 140)
+            # Blocks of the index, each a row of a table that SQLite finds no fault with.
+            catalogue.base.run("UPDATE name_text_data SET block = zeroblob(length(block)) WHERE id > 10")
+            self.assertEqual(catalogue.base.run("PRAGMA integrity_check"), [("ok",)])
+            self.assertFalse(catalogue.base.has_whole_index())
+        self.do("rebuild")
+        with Catalogue(read(self.archive)) as catalogue:
+            self.assertTrue(catalogue.base.has_whole_index())
+            self.require_same(catalogue, PATTERNS)
+
+    def test_an_index_that_is_none(self) -> None:
+        """The catalogue is put aside, and made again from the volumes."""
+        write(os.path.join(self.source, "holidays.txt"), b"1")
+        self.add()
+        with Catalogue(read(self.archive)) as catalogue:
+            catalogue.base.run("DELETE FROM name_text_config")
+        self.do("find", "*oliday*", status=1)
+        self.do("rebuild")
+        self.assertEqual(self.do("find", "*oliday*").last()["files"], 1)
 
 
-class Reading(WithArchive):
-    def test_literal_runs(self) -> None:
+class Reading(unittest.TestCase):
+    def test_pieces(self) -> None:
         for pattern, wanted in {
-            "*abc*": ["", "abc", ""], "a?b": ["a", "b"], "x[ab]y": ["x", "y"], "x[]]y": ["x", "y"], "x[!]]y": ["x", "y"], "x[!a]y": ["x", "y"],
-            "x[y": ["x[y"], "x[!y": ["x[!y"], "x[]y": ["x[]y"], "x[!]y": ["x[!]y"], "]x": ["]x"], "x[[]y": ["x", "y"], "x[*]y*": ["x", "y", ""], "": [""],
-            "[": ["["], "[!": ["[!"], "[]": ["[]"], "a[b*c": ["a[b", "c"],
+            "*abc*": "*|abc|*", "a?b": "a|?|b", "x[ab]y": "x|?|y", "x[]]y": "x|?|y", "x[!]]y": "x|?|y", "x[!a]y": "x|?|y", "x[y": "x[y", "x[!y": "x[!y",
+            "x[]y": "x[]y", "x[!]y": "x[!]y", "]x": "]x", "x[[]y": "x|?|y", "x[*]y*": "x|?|y|*", "": "", "[": "[", "[!": "[!", "[]": "[]", "a[b*c": "a[b|*|c",
         }.items():
-            self.assertEqual(runs(pattern), wanted, pattern)
+            self.assertEqual("|".join(piece.text for piece in pieces(pattern)), wanted, pattern)
 
-    def test_entries(self) -> None:
+    def test_what_engines_are_asked(self) -> None:
+        """LIKE and GLOB as SQLite has them let through what `fnmatch` does."""
+        engine = sqlite3.connect(":memory:")
+        self.addCleanup(engine.close)
         chance = random.Random(7)
-        size = trigrams.SEGMENT // trigrams.GROUP
-        for _ in range(60):
-            sets = [set(chance.sample(range(size), chance.choice((0, 1, 5, 254, 255, 256, 257, 2000, size)))) for _ in range(chance.randrange(1, 4))]
-            entries = [packed(array("H", sorted(one))) for one in sets]
-            self.assertLessEqual(max(map(len, entries)), size // 8)
-            self.assertEqual(common(entries), set.intersection(*sets))
+        matched = 0
+        for _ in range(20_000):
+            name = kept_name(some_name(chance))
+            pattern = kept_name(some_pattern(chance, some_name(chance) if chance.random() < 0.2 else name_back(name)))
+            if fnmatchcase(name, pattern):
+                matched += 1
+                asked = (name, like(pattern), ESCAPE, name, glob(pattern))
+                self.assertEqual(engine.execute("SELECT ? LIKE ? ESCAPE ?, ? GLOB ?", asked).fetchone(), (1, 1), pattern)
+        self.assertGreater(matched, 4000)
 
-    def test_the_index_is_not_of_another_writing(self) -> None:
-        """Its tables are those of docs/ARCHITECTURE.md, in SQLite without a copy of the key."""
-        self.init()
-        base = sqlite3.connect(os.path.join(self.archive, "catalogue.sqlite"))
-        (made,) = base.execute("SELECT sql FROM sqlite_master WHERE name = 'trigram'").fetchone()
-        base.close()
-        self.assertTrue(made.endswith("WITHOUT ROWID"))
+    def test_an_old_sqlite(self) -> None:
+        with mock.patch.object(sqlite3, "sqlite_version_info", (3, 33, 0)), self.assertRaisesRegex(CatalogueError, "needs SQLite 3.34.0 or later"):
+            base.SqliteBase("/nowhere", True)

@@ -68,7 +68,7 @@ class Large(WithArchive):
         fill_catalogue(os.path.join(self.archive, "catalogue.sqlite"), 10_000_000)
         # Their names came beside the program, which would have kept an index of them.
         with Catalogue(read(self.archive)) as catalogue, catalogue.base.transaction():
-            catalogue.names.remake()
+            catalogue.base.remake_index()
         expected = {"*23456*": sum(1 for index in range(10_000_000) if "23456" in made_name(index))}
         for pattern in ("name-1234567.bin", "name-123456*", "*4567.bin", "*1234?6*", "/made/*/name-1234567.bin", *expected):
             began = time.monotonic()

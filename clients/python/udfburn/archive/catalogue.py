@@ -17,7 +17,6 @@ from .config import Config
 from .errors import CatalogueError
 from .names import kept_name, name_back
 from .schema import COMMITS, VERSION, statements
-from .trigrams import NameIndex
 
 OPEN, FULL, CLOSING, CLOSED, NEW, RETIRED = "open", "full", "closing", "closed", "new", "retired"
 """The states of a volume. NEW has its number and maybe no image yet. RETIRED is a closed one that nobody is asked for any more."""
@@ -126,7 +125,6 @@ class Catalogue:
     def __init__(self, config: Config, make: bool = False):
         self.config = config
         self.base: Base = open_base(config.sqlite(), config.catalogue, make, config.mode)
-        self.names = NameIndex(self.base)
         self._folders: Dict[str, int] = {}
         try:
             self._open(make)
@@ -179,8 +177,6 @@ class Catalogue:
                 version = self._version() or 0
                 for statement in statements(self.base.engine, version, self.base.text, self.base.blob, self.base.serial) if version < VERSION else ():
                     self.base.run(statement)
-                if version in (1, 2):
-                    self.names.remake()
                 if not version:
                     values = (str(uuid.uuid4()), VERSION, self.config.label, 1)
                     self.base.run("INSERT INTO archive (id, version, label, next_volume) VALUES (?, ?, ?, ?)", values)
@@ -260,7 +256,6 @@ class Catalogue:
         with self.base.transaction():
             self._insert(rows)
             self.save(volume)
-        self.names.settle()
 
     def replace(self, volume: VolumeRow, rows: Sequence[Held]) -> None:
         """Has these files in the place of all that the catalogue had of a volume, as one. Rows that stay as they are are not written."""
@@ -280,20 +275,29 @@ class Catalogue:
             folder = folders[folder_text(row.path[:-1])]
             kept.append((row.id(), folder, kept_name(row.path[-1]), row.size, row.moment, row.sha256, row.added, row.first, row.parts))
         self.base.many(KEPT_FILE, kept)
-        for table, column in NAMES if self.base.has_names else ():
+        if not self.base.has_names:
+            return
+        for table, column in NAMES:
             self.base.many(KEPT_NAME.format(table=table, column=column), sorted((*name_key(column, row), row.parts) for row in rows))
-        self.names.add(sorted({kept_name(row.path[-1]) for row in rows}))
+        names = sorted({kept_name(row.path[-1]) for row in rows})
+        self.base.many("INSERT INTO known_name (name) VALUES (?) ON CONFLICT DO NOTHING", [(name,) for name in names])
 
     def _delete(self, rows: Sequence[Held]) -> None:
         self.base.many("DELETE FROM file WHERE id = ?", [(row.id(),) for row in rows])
         for table, column in NAMES if self.base.has_names else ():
             self.base.many(f"DELETE FROM {table} WHERE {column} = ? AND path = ? AND id = ?", [name_key(column, row) for row in rows])
 
+    def mend_index(self) -> None:
+        """Makes the index of text inside names again if it is damaged: nothing could be added."""
+        with self.base.transaction():
+            if not self.base.has_whole_index():
+                self.base.remake_index()
+
     def mend_names(self) -> int:
-        """Has the tables of names agree with the files, and makes their index again; gives how many rows did not agree."""
+        """Has the tables of names agree with the files, and makes the index of text inside names again; gives how many rows did not agree."""
         with self.base.transaction():
             mended = sum(self._mend(table, column) for table, column in NAMES if self.base.has_names)
-            self.names.remake()
+            self.base.remake_index()
         return mended
 
     def _mend(self, table: str, column: str) -> int:

@@ -1,34 +1,23 @@
 """Finds files by a pattern. A literal beginning or end of it is looked up in order of names or of their ends, where whole paths
-are side by side: so the time follows from what is found, and no hit takes a look-up of its own. Text inside of names is looked
-up in an index of three letters in a row (trigrams.py)."""
+are side by side: so the time follows from what is found, and no hit takes a look-up of its own. Text inside names is looked up
+in the engine's index of three letters in a row."""
 
 from __future__ import annotations
 
 from fnmatch import fnmatchcase
 from itertools import groupby
-from typing import Iterator, NamedTuple, Tuple
+from typing import Iterator
 
 from ..protocol import Path
-from .base import Row
+from .base import Range, Row
 from .catalogue import Catalogue, folder_back, versions
 from .names import kept_name, name_back
-from .trigrams import AT_ONCE, batches
+from .patterns import trigrams
 
 WILD = "*?["
 
 FEW = 1000
 """Rows of a literal beginning or end that are compared before the index is asked."""
-
-ESCAPE = "!"
-"""What is before a letter of a LIKE that would be a wildcard."""
-
-
-class Range(NamedTuple):
-    """Rows of a table of names: by which column, and which."""
-
-    column: str
-    where: str
-    values: Tuple[str, ...]
 
 
 LAST = "\U0010ffff"
@@ -61,14 +50,6 @@ def literal_end(pattern: str) -> str:
     while end and pattern[end - 1] not in "*?[]":
         end -= 1
     return pattern[end:]
-
-
-def like(pattern: str) -> str:
-    """A pattern of SQL that all names of a pattern are of, and maybe others: sets are any text."""
-    if "[" in pattern or "]" in pattern:
-        return "%"
-    words = {"*": "%", "?": "_", "%": ESCAPE + "%", "_": ESCAPE + "_", ESCAPE: ESCAPE * 2}
-    return "".join(words.get(letter, letter) for letter in pattern)
 
 
 def find(catalogue: Catalogue, pattern: str, any_case: bool = False) -> Iterator[Path]:
@@ -120,20 +101,12 @@ def by_name(catalogue: Catalogue, pattern: str) -> Iterator[Row]:
     if begin == pattern:
         yield from named(catalogue, Range("name", "name = ?", (begin,)), pattern)
         return
-    wanted = Range("name", f"name LIKE ? ESCAPE '{ESCAPE}'", (like(pattern),))
-    if len(begin) >= len(end) and begin:
-        wanted = beginning("name", begin)
-    elif end:
-        wanted = beginning("ending", end[::-1])
-    if pattern in (begin + "*", "*" + end) or (begin or end) and is_short(catalogue, wanted):
-        yield from named(catalogue, wanted, pattern)
-        return
-    names = catalogue.names.matching(pattern)
-    if names is None:
-        yield from named(catalogue, wanted, pattern)
-        return
-    for some in batches(names, AT_ONCE):
-        yield from named(catalogue, Range("name", f"name IN ({', '.join('?' * len(some))})", tuple(some)), pattern)
+    wanted = catalogue.base.matching(pattern)
+    if begin or end:
+        literally = beginning("name", begin) if len(begin) >= len(end) else beginning("ending", end[::-1])
+        if pattern in (begin + "*", "*" + end) or not trigrams(pattern) or is_short(catalogue, literally):
+            wanted = literally
+    yield from named(catalogue, wanted, pattern)
 
 
 def is_short(catalogue: Catalogue, wanted: Range) -> bool:

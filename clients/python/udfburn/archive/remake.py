@@ -117,8 +117,8 @@ def why_odd(config: Config, base: SqliteBase) -> Optional[str]:
             return f"a row of a copy is none: {str(copy[:2])[:80]}"
     if base.run(f"SELECT 1 FROM file WHERE {ODD_FILES} LIMIT 1") or base.run("SELECT 1 FROM folder WHERE typeof(path) <> 'text' LIMIT 1"):
         return "a row of a file or a folder is none"
-    for statement in ("SELECT id, host, place FROM holder", "SELECT name FROM file", "SELECT path FROM folder"):
-        # Each text has to be UTF-8.
+    # Each text has to be UTF-8. The index of names is made again if it is damaged, but it has to be one.
+    for statement in ("SELECT id, host, place FROM holder", "SELECT name FROM file", "SELECT path FROM folder", "SELECT rowid FROM name_text LIMIT 1"):
         for _ in base.stream(statement):
             pass
     return None
@@ -131,7 +131,9 @@ def open_or_make(config: Config, tell: Tell) -> "Tuple[Catalogue, Kept]":
     path = config.sqlite()
     why = why_broken(config, path) if path is not None and os.path.isfile(path) else None
     if path is None or why is None:
-        return Catalogue(config, make=True), NOTHING
+        catalogue = Catalogue(config, make=True)
+        catalogue.mend_index()
+        return catalogue, NOTHING
     aside = f"{path}.damaged-{time.time_ns()}"
     tell.note(f"{shown(path)}: is damaged ({why}); it is kept as {shown(aside)}", did="put aside", path=aside)
     for end in ("-wal", "-shm", ""):

@@ -2,15 +2,16 @@
 
 `find` takes no look-up for each hit: `by_name` and `by_ending` have names with the whole path of their folder. In SQLite they
 are tables that are their own index. In PostgreSQL, where a table and its index would be two copies, they are views over
-indexes that have all that is asked for; only the folder's path is looked up. The tables of the third version are those of
-trigrams.py. The fourth has where users have put images away.
+indexes that have all that is asked for; only the folder's path is looked up. The third version had an index of text inside names of
+its own. The fourth has where users have put images away. The fifth has the engines' indexes of such text: `name_text` of FTS5 over
+`known_name`, each name once, also those of files that are gone; an index by pg_trgm.
 """
 
 from __future__ import annotations
 
 from typing import List
 
-VERSION = 4
+VERSION = 5
 """The version of the tables that this program reads and writes."""
 
 COMMITS = 1 << 18
@@ -84,9 +85,32 @@ FOURTH = """
 CREATE TABLE put_away (volume BIGINT PRIMARY KEY, place {text} NOT NULL, since BIGINT NOT NULL)
 """
 
+FIFTH = """
+DROP TABLE name_index;
+DROP TABLE recent_names;
+DROP TABLE indexed_names;
+DROP TABLE trigram
+"""
+
+FIFTH_SQLITE = f"""
+{FIFTH.strip()};
+CREATE TABLE known_name (id INTEGER PRIMARY KEY, name TEXT NOT NULL UNIQUE);
+CREATE VIRTUAL TABLE name_text USING fts5 (
+    name, content = 'known_name', content_rowid = 'id', detail = none, tokenize = 'trigram case_sensitive 1'
+);
+CREATE TRIGGER known_name_text AFTER INSERT ON known_name BEGIN INSERT INTO name_text (rowid, name) VALUES (new.id, new.name); END;
+INSERT INTO known_name (name) SELECT DISTINCT name FROM by_name
+"""
+
+FIFTH_POSTGRESQL = f"""
+{FIFTH.strip()};
+CREATE EXTENSION IF NOT EXISTS pg_trgm;
+CREATE INDEX file_trigrams ON file USING gin (name gin_trgm_ops)
+"""
+
 MIGRATIONS = {
-    "sqlite": [FIRST, SECOND_SQLITE, THIRD.rstrip() + " WITHOUT ROWID", FOURTH],
-    "postgresql": [FIRST, SECOND_POSTGRESQL, THIRD, FOURTH],
+    "sqlite": [FIRST, SECOND_SQLITE, THIRD.rstrip() + " WITHOUT ROWID", FOURTH, FIFTH_SQLITE],
+    "postgresql": [FIRST, SECOND_POSTGRESQL, THIRD, FOURTH, FIFTH_POSTGRESQL],
 }
 """The statements of an engine that make version n + 1 of version n, from the empty one on."""
 
