@@ -275,12 +275,15 @@ class Catalogue:
             folder = folders[folder_text(row.path[:-1])]
             kept.append((row.id(), folder, kept_name(row.path[-1]), row.size, row.moment, row.sha256, row.added, row.first, row.parts))
         self.base.many(KEPT_FILE, kept)
-        if not self.base.has_names:
-            return
+        if self.base.has_names:
+            self._insert_names(rows)
+
+    def _insert_names(self, rows: Sequence[Held]) -> None:
+        """Keeps names that no file has yet for the index, and then those of the files."""
+        new = "INSERT INTO known_name (name) SELECT ? WHERE NOT EXISTS (SELECT 1 FROM by_name WHERE name = ?)"
+        self.base.many(new, [(name, name) for name in sorted({kept_name(row.path[-1]) for row in rows})])
         for table, column in NAMES:
             self.base.many(KEPT_NAME.format(table=table, column=column), sorted((*name_key(column, row), row.parts) for row in rows))
-        names = sorted({kept_name(row.path[-1]) for row in rows})
-        self.base.many("INSERT INTO known_name (name) VALUES (?) ON CONFLICT DO NOTHING", [(name,) for name in names])
 
     def _delete(self, rows: Sequence[Held]) -> None:
         self.base.many("DELETE FROM file WHERE id = ?", [(row.id(),) for row in rows])

@@ -4,7 +4,7 @@
 are tables that are their own index. In PostgreSQL, where a table and its index would be two copies, they are views over
 indexes that have all that is asked for; only the folder's path is looked up. The third version had an index of text inside names of
 its own. The fourth has where users have put images away. The fifth has the engines' indexes of such text: `name_text` of FTS5 over
-`known_name`, each name once, also those of files that are gone; an index by pg_trgm.
+`known_name`, which has each name once, or more often where its files were gone meanwhile; an index by pg_trgm.
 """
 
 from __future__ import annotations
@@ -94,7 +94,7 @@ DROP TABLE trigram
 
 FIFTH_SQLITE = f"""
 {FIFTH.strip()};
-CREATE TABLE known_name (id INTEGER PRIMARY KEY, name TEXT NOT NULL UNIQUE);
+CREATE TABLE known_name (id INTEGER PRIMARY KEY, name TEXT NOT NULL);
 CREATE VIRTUAL TABLE name_text USING fts5 (
     name, content = 'known_name', content_rowid = 'id', detail = none, tokenize = 'trigram case_sensitive 1'
 );
