@@ -148,9 +148,9 @@ for crate in crates/*/; do
 done >> "$room/defined"
 # What the header of the C library declares.
 grep -o -w 'udfburn_[a-z_]*' library/udfburn.h | sort -u >> "$room/defined"
-# The modules of the Python client, and the tables and views of the archive's catalogue.
+# The modules of the Python client, and what the archive's catalogue is made of.
 find clients/python/udfburn -name '*.py' -exec basename {} .py \; >> "$room/defined"
-sed -n 's/^CREATE \(TABLE\|VIEW\) \([a-z_]*\) .*/\2/p' clients/python/udfburn/archive/schema.py >> "$room/defined"
+sed -nE 's/^CREATE (TABLE|VIRTUAL TABLE|VIEW|INDEX|EXTENSION)( IF NOT EXISTS)? ([a-z_]*)[ ;]?.*/\3/p' clients/python/udfburn/archive/schema.py >> "$room/defined"
 
 suite=links
 # shellcheck source=test/shell.sh

@@ -38,6 +38,7 @@ case $1 in
         [ -e /usr/include/libburn/libburn.h ] || set -- "$@" libburn-dev
         ls /usr/lib/*/qemu/block-iscsi.so > /dev/null 2>&1 || set -- "$@" qemu-block-extra
         [ -d /usr/lib/python3/dist-packages/psycopg ] || set -- "$@" python3-psycopg
+        [ -d /usr/lib/python3/dist-packages/pathspec ] || set -- "$@" python3-pathspec
         [ $# -gt 0 ] || exit 0
         ;;
 esac

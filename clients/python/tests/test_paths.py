@@ -50,6 +50,7 @@ ALLOWED: Dict[str, Dict[str, str]] = {
     "archive.commands": {"os.path.exists": KIND},
     "archive.config": {"os.listdir": KIND, "os.scandir": KIND},
     "archive.discs": {"open": BELOW, "os.open": "it makes a new file, and follows no link", "os.path.lexists": FOLDER, "os.unlink": FOLDER},
+    "archive.exclude": {"open": BELOW},
     "archive.get": {"os.path.isdir": KIND, "os.path.lexists": KIND},
     "archive.markers": {"open": BELOW, "os.open": BELOW, "os.rename": BELOW, "os.stat": KIND, "os.unlink": BELOW},
     "archive.places": {"os.open": "it reads nothing, and waits for no pipe: what it opens is made durable", "os.path.isfile": KIND, "os.stat": KIND},
@@ -60,6 +61,7 @@ ALLOWED: Dict[str, Dict[str, str]] = {
     "archive.remotes": {
         "os.replace": FOLDER, "os.scandir": KIND, "os.lstat": KIND, "os.path.samefile": KIND, "os.unlink": FOLDER, "tempfile.TemporaryFile": OURS,
     },
+    "archive.seen": {"os.path.lexists": FOLDER, "sqlite3.connect": OWN},
     "archive.scan": {"os.stat": KIND, "os.path.isdir": KIND},
     "archive.status": {"os.path.isfile": KIND},
     "archive.volume": {"os.path.lexists": FOLDER, "os.unlink": FOLDER, "os.rename": FOLDER, "os.path.getsize": KIND},

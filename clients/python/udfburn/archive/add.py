@@ -5,22 +5,25 @@ from __future__ import annotations
 import os
 import socket
 from contextlib import closing, suppress
-from typing import Dict, Iterable, List, NamedTuple, Optional, Sequence, Tuple
+from typing import Iterable, List, NamedTuple, Optional, Sequence, Tuple
 
 from ..errors import SourceError
 from ..operations import now
 from ..protocol import Path
 from ..sources import Source, shown
-from .catalogue import CLOSED, RETIRED, Catalogue, Held, VolumeRow, image_of, is_whole
+from .catalogue import Catalogue, Held, VolumeRow, image_of, is_whole
 from .claims import claims_of
 from .config import Config
 from .contents import Contents
 from .delete import Deleter
 from .errors import CannotStore, VolumeDiffers
+from .exclude import Rules
 from .fill import Filler
-from .job import Job, digest_of, find_file, same_parts
+from .fresh import Fresh
+from .job import Job, find_file, same_parts
 from .names import kept_name, stored_folder
 from .scan import Found, Walk
+from .seen import Seen
 from .tell import Tell, plural, shown_path, stamp
 
 
@@ -31,13 +34,16 @@ class Options(NamedTuple):
     skip_odd: bool = False
     each: bool = False
     """Whether each file is acknowledged by itself, and not with its batch."""
+    rules: Rules = Rules()
+    trust_times: bool = False
+    """Whether a file counts as read if an earlier run read it, and its times are the same."""
 
 
 class Summary:
     """What a run did."""
 
     def __init__(self) -> None:
-        self.files = self.bytes = self.same = self.deleted = self.empty = 0
+        self.files = self.bytes = self.same = self.deleted = self.empty = self.excluded = 0
         self.failures: List[str] = []
         self.skipped: List[str] = []
 
@@ -57,7 +63,7 @@ class Adder:
         self.config, self.catalogue, self.options, self.tell = config, catalogue, options, tell
         self.summary = Summary()
         self.deleter = Deleter(config, catalogue)
-        self._volumes: Dict[int, Optional[VolumeRow]] = {}
+        self.fresh = Fresh(catalogue, self.deleter.places, Seen(config) if options.trust_times else None)
 
     def run(self, wanted: Sequence[Tuple[str, Path]]) -> Summary:
         """Stores local files and folders."""
@@ -71,7 +77,7 @@ class Adder:
             filler.after = self._last_added(path for _, path in wanted)
             self.summary.failures += filler.refused.values()
             self.deleter.refused = filler.refused
-            with closing(filler), closing(self.deleter):
+            with closing(filler), closing(self.deleter), closing(self.fresh):
                 for local, path in wanted:
                     self._below(local, path, filler)
                 filler.finish()
@@ -89,7 +95,7 @@ class Adder:
         return latest
 
     def _below(self, local: str, path: Path, filler: Filler) -> None:
-        walk = Walk(self.config.folder)
+        walk = Walk(self.config.folder, self.options.rules)
         for found in walk.below(local, path):
             jobs = self._fresh_jobs(found, filler)
             if jobs:
@@ -97,6 +103,7 @@ class Adder:
         (self.summary.skipped if self.options.skip_odd else self.summary.failures).extend(walk.odd)
         self.summary.failures += walk.faults
         self.summary.empty += walk.empty
+        self.summary.excluded += walk.excluded
 
     # ---- what became of files
 
@@ -104,6 +111,8 @@ class Adder:
         """The catalogue has all of files."""
         self.summary.files += len(jobs)
         self.summary.bytes += count
+        for job in jobs:
+            self.fresh.stored(job.source, job.digest)
         if self.options.delete_source:
             self.deleter.stored(jobs)
 
@@ -134,12 +143,7 @@ class Adder:
 
     def _fresh(self, source: Source, rows: List[Held], filler: Filler) -> Optional[Job]:
         """What is to be stored of a file; None where the archive has it, by its size, its moment and its digest."""
-        job = Job(source)
-        alike = [row for row in rows if (row.size, row.moment) == (source.identity.size, source.moment())]
-        if not alike and not job.in_parts():
-            return job
-        job.digest = digest_of(source)
-        same = [row for row in alike if row.sha256 == job.digest and self._counts(source, row)]
+        job, same = self.fresh.compared(source, rows)
         if not same:
             return job
         if not is_whole(same):
@@ -149,15 +153,6 @@ class Adder:
         if self.options.delete_source:
             self.deleter.same(source, same)
         return None
-
-    def _counts(self, source: Source, row: Held) -> bool:
-        """Whether the archive has what a row says. A volume that was retired does not count. Of one that is damaged what can be seen does."""
-        if row.volume not in self._volumes:
-            self._volumes[row.volume] = self.catalogue.volume(row.volume)
-        volume = self._volumes[row.volume]
-        if volume is None or volume.state != CLOSED or volume.trouble is None:
-            return volume is None or volume.state != RETIRED
-        return self.deleter.places.has(source, row, volume)
 
     def _go_on(self, job: Job, rows: List[Held], filler: Filler) -> Job:
         """Goes on with a file of which an earlier run stored the first parts, as far as volumes at hand show them."""

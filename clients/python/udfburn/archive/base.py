@@ -19,6 +19,9 @@ Row = Tuple[Any, ...]
 LEAST_SQLITE = (3, 34, 0)
 """The first SQLite whose FTS5 has an index of trigrams."""
 
+CORRUPT_INDEX = 267
+"""The error of SQLite that says that a virtual table, as FTS5 makes, is damaged (SQLITE_CORRUPT_VTAB)."""
+
 EXTENSION = "pg_trgm"
 """The extension of PostgreSQL that has an index of trigrams."""
 
@@ -162,7 +165,7 @@ class SqliteBase(Base):
             self.run("INSERT INTO name_text (name_text, rank) VALUES ('integrity-check', 1)")
             return True
         except CatalogueError as error:
-            if getattr(error.__cause__, "sqlite_errorcode", None) != sqlite3.SQLITE_CORRUPT_VTAB:
+            if getattr(error.__cause__, "sqlite_errorcode", None) != CORRUPT_INDEX:
                 raise
             return False
 

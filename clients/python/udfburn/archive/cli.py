@@ -74,6 +74,13 @@ def add_writers(subs: "Subs") -> None:
     add.add_argument("--delete-source", action="store_true", help="delete each local file, when archive.toml allows it")
     add.add_argument("--each", action="store_true", help="write each file to the disk before the next one, instead of in batches: slower, and needs no memory for a copy of the volume")
     add.add_argument("--skip-odd", action="store_true", help="leave out links, pipes, sockets and devices without counting them as failures")
+    add.add_argument("--dry-run", action="store_true", help="print what would be stored, and change nothing")
+    add_rules(add)
+
+    diff = command(subs, "diff", "print which local files the archive lacks or has otherwise, and which of its files are gone there")
+    diff.add_argument("folder", nargs="+", metavar="FOLDER", help="a local folder or file")
+    diff.add_argument("--at", default="/", metavar="PATH", help="the path in the archive, as for add (default: /)")
+    add_rules(diff)
 
     close = command(subs, "close", "close volumes: complete the bag, make the image read-only, and copy it to each remote")
     close.add_argument("volume", nargs="*", metavar="VOLUME", help="labels of volumes (default: all of this folder that have files)")
@@ -107,6 +114,15 @@ def add_writers(subs: "Subs") -> None:
     rebuild = command(subs, "rebuild", "rebuild the catalogue from the volumes at hand, and report each difference from the old one")
     rebuild.add_argument("image", nargs="*", metavar="IMAGE", help="further images, or folders of images")
     rebuild.add_argument("--dry-run", action="store_true", help="report the differences, and change nothing")
+
+
+def add_rules(sub: argparse.ArgumentParser) -> None:
+    """Which local files count, and when they are read."""
+    sub.add_argument("--exclude", action="append", default=[], metavar="PATTERN", help="leave out what PATTERN matches, a line as in a .gitignore; may be given several times")
+    sub.add_argument("--exclude-from", action="append", default=[], metavar="FILE", help="leave out what the lines of FILE match")
+    sub.add_argument("--exclude-caches", action="store_true", help="leave out folders with a CACHEDIR.TAG")
+    sub.add_argument("--one-file-system", action="store_true", help="leave out folders on which another file system is mounted")
+    sub.add_argument("--trust-times", action="store_true", help="do not read a file again whose size, times and inode are as they were when an earlier run with this option read it")
 
 
 def add_disc(sub: argparse.ArgumentParser, required: bool) -> None:
@@ -155,7 +171,7 @@ def add_readers(subs: "Subs") -> None:
 
 
 COMMANDS: Dict[str, str] = {
-    "init": "commands", "add": "commands", "rebuild": "commands", "ls": "lookups", "find": "lookups", "history": "lookups", "where": "lookups",
+    "init": "commands", "add": "commands", "diff": "commands", "rebuild": "commands", "ls": "lookups", "find": "lookups", "history": "lookups", "where": "lookups",
     "get": "queries", "status": "queries", "report": "queries", "adopt": "closing", "close": "closing", "burn": "discs", "check": "closing", "repair": "closing",
     "remote": "remote_command", "put-away": "closing", "retire": "closing",
 }

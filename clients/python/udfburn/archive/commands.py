@@ -5,6 +5,8 @@ from __future__ import annotations
 import argparse
 import os
 import uuid
+from contextlib import closing
+from typing import Dict, Tuple
 
 from ..beneath import open_given
 from ..errors import UsageError
@@ -14,12 +16,17 @@ from .add import Adder, Options
 from .catalogue import Catalogue
 from .config import FILE, LOCAL, check_label, check_remote, checked, config_of, has_password, is_url, strange, without_password, write
 from .errors import BadConfig, NoArchive
+from .exclude import rules_of
+from .fresh import Fresh
 from .markers import Owner, require_place, write_marker
+from .places import Places
+from .preview import Preview
 from .rebuild import Rebuilder
 from .remake import open_or_make, open_to_compare
 from .remotes import owner_of
 from .scan import targets
-from .tell import plural, size, tell_of
+from .seen import Seen
+from .tell import plural, printed_path, shown_path, size, tell_of
 
 
 def init(arguments: argparse.Namespace) -> int:
@@ -70,10 +77,13 @@ def catalogue_of(arguments: argparse.Namespace) -> str:
 
 def add(arguments: argparse.Namespace) -> int:
     """Stores folders."""
+    if arguments.dry_run:
+        return preview(arguments)
     config, tell = config_of(arguments), tell_of(arguments)
     wanted = targets(arguments.folder, arguments.at)
+    options = Options(arguments.delete_source, arguments.skip_odd, arguments.each, rules_of(arguments), arguments.trust_times)
     with Catalogue(config) as catalogue:
-        adder = Adder(config, catalogue, Options(arguments.delete_source, arguments.skip_odd, arguments.each), tell)
+        adder = Adder(config, catalogue, options, tell)
         try:
             summary = adder.run(wanted)
         finally:
@@ -87,12 +97,57 @@ def add(arguments: argparse.Namespace) -> int:
     words += [f"{summary.same} were there"] if summary.same else []
     words += [f"deleted {summary.deleted}"] if arguments.delete_source else []
     words += [f"did not keep {plural(summary.empty, 'empty folder', 'empty folders')}"] if summary.empty else []
+    words += [f"left {summary.excluded} out"] if summary.excluded else []
     words += [f"{plural(len(summary.failures), 'failure', 'failures')}"] if summary.failures else []
     tell.result(
         ", ".join(words), files=summary.files, bytes=summary.bytes, same=summary.same, deleted=summary.deleted,
-        kept=sum(adder.deleter.waiting.values()), empty=summary.empty,
+        kept=sum(adder.deleter.waiting.values()), empty=summary.empty, excluded=summary.excluded,
     )
     return 1 if summary.failures else 0
+
+
+def preview(arguments: argparse.Namespace) -> int:
+    """Prints what `add` would store."""
+    if arguments.delete_source:
+        raise UsageError("--dry-run deletes nothing: leave --delete-source out")
+    found, counts, sizes = differing(arguments, False, arguments.skip_odd)
+    files = sum(counts.values())
+    words = [f"would store {plural(files, 'file', 'files')}, {size(sum(sizes.values()))}"] + ([f"{found.same} are there"] if found.same else [])
+    tell_of(arguments).result(", ".join(words), files=files, bytes=sum(sizes.values()), same=found.same, excluded=found.excluded)
+    return 1 if found.failures else 0
+
+
+def diff(arguments: argparse.Namespace) -> int:
+    """Prints how folders differ from the archive."""
+    found, counts, _ = differing(arguments, True, True)
+    words = [f"{counts[kind]} {kind}" for kind in KINDS] + [f"{found.same} the same"]
+    tell_of(arguments).result(", ".join(words), **counts, same=found.same, excluded=found.excluded)
+    return 1 if found.failures or any(counts.values()) else 0
+
+
+KINDS = ("new", "changed", "gone")
+
+
+def differing(arguments: argparse.Namespace, gone: bool, skip_odd: bool) -> "Tuple[Preview, Dict[str, int], Dict[str, int]]":
+    """Prints the files that differ; gives how many of each kind, and their bytes."""
+    config, tell = config_of(arguments), tell_of(arguments)
+    wanted, rules = targets(arguments.folder, arguments.at), rules_of(arguments)
+    counts, sizes = dict.fromkeys(KINDS, 0), dict.fromkeys(KINDS, 0)
+    with Catalogue(config) as catalogue, closing(Places(config, catalogue)) as places:
+        with closing(Fresh(catalogue, places, Seen(config) if arguments.trust_times else None)) as fresh:
+            found = Preview(catalogue, fresh, rules)
+            for change in found.changes(wanted, gone):
+                counts[change.kind] += 1
+                sizes[change.kind] += change.size
+                tell.say(f"{change.kind} {printed_path(change.path)}", did=change.kind, path=shown_path(change.path), bytes=change.size)
+    for line in found.odd:
+        if skip_odd:
+            tell.left_out(line)
+        else:
+            found.failures.append(line)
+    for line in found.failures:
+        tell.fail(line)
+    return found, counts, sizes
 
 
 def rebuild(arguments: argparse.Namespace) -> int:

@@ -10,6 +10,7 @@ from ..beneath import Place, place_of
 from ..errors import UsageError
 from ..protocol import Path
 from ..sources import Identity, Source, odd, shown
+from .exclude import Rules
 from .names import path_of, text_of
 
 
@@ -22,11 +23,14 @@ class Found(NamedTuple):
 
 class Walk:
     """Folders as they are found. `odd` has what is neither file nor folder, `faults` what cannot be read, `empty` counts folders
-    with nothing in them, which the archive does not keep."""
+    with nothing in them, which the archive does not keep, and `excluded` what the rules leave out."""
 
-    def __init__(self, own: str):
+    def __init__(self, own: str, rules: Rules = Rules()):
         status = os.stat(own)
         self._own = (status.st_dev, status.st_ino)
+        self._rules = rules
+        self._top, self._device = 0, 0
+        self.excluded = 0
         self.odd: List[str] = []
         self.faults: List[str] = []
         self.empty = 0
@@ -39,6 +43,7 @@ class Walk:
         except OSError as error:
             self.faults.append(f"{shown(local)}: {error.strerror}")
             return
+        self._top, self._device = len(place.names), status.st_dev
         if stat.S_ISDIR(status.st_mode):
             yield from self._folder(place, at)
         elif stat.S_ISREG(status.st_mode):
@@ -62,11 +67,13 @@ class Walk:
         root, folder = place
         try:
             status = root.status(folder)
-            names = [] if (status.st_dev, status.st_ino) == self._own else root.names_in(folder)
+            is_own, is_cache = (status.st_dev, status.st_ino) == self._own, self._rules.is_cache(place)
+            names = [] if is_own or is_cache else root.names_in(folder)
         except OSError as error:
             self.faults.append(f"{shown(place.local())}: {error.strerror}")
             return [], []
-        self.empty += not names
+        self.excluded += is_cache
+        self.empty += not (names or is_own or is_cache)
         for name in names:
             below = Place(root, folder + (name,))
             try:
@@ -74,13 +81,20 @@ class Walk:
             except OSError as error:
                 self.faults.append(f"{shown(below.local())}: {error.strerror}")
                 continue
-            if stat.S_ISDIR(found.st_mode):
+            if self._excludes(below, found):
+                self.excluded += 1
+            elif stat.S_ISDIR(found.st_mode):
                 folders.append((below, at + (name,)))
             elif stat.S_ISREG(found.st_mode):
                 files.append(Source(below, at + (name,), Identity.of(found)))
             else:
                 self.odd.append(f"{shown(below.local())}: is {odd(found)}, which is not kept")
         return files, folders
+
+    def _excludes(self, place: Place, status: os.stat_result) -> bool:
+        """Whether the rules leave a file or a folder out."""
+        is_folder = stat.S_ISDIR(status.st_mode)
+        return is_folder and self._rules.one_file_system and status.st_dev != self._device or self._rules.excludes(place.names[self._top :], is_folder)
 
 
 def targets(locals_: Sequence[str], at: str) -> List[Tuple[str, Path]]:

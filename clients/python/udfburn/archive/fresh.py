@@ -1,0 +1,55 @@
+"""What of local files the archive has already, as they are now."""
+
+from __future__ import annotations
+
+from typing import Dict, List, Optional, Tuple
+
+from ..sources import Source
+from .catalogue import CLOSED, RETIRED, Catalogue, Held, VolumeRow
+from .job import Job, digest_of
+from .places import Places
+from .seen import Seen
+
+
+class Fresh:
+    """Local files beside the rows of a catalogue. With `seen` a file that was read before is not read again while its times are the same."""
+
+    def __init__(self, catalogue: Catalogue, places: Places, seen: Optional[Seen]):
+        self.catalogue, self.places, self.seen = catalogue, places, seen
+        self._volumes: Dict[int, Optional[VolumeRow]] = {}
+
+    def close(self) -> None:
+        if self.seen is not None:
+            self.seen.close()
+
+    def compared(self, source: Source, rows: List[Held]) -> Tuple[Job, List[Held]]:
+        """A file as it would be stored, and the rows, of those that its path has, which have its size, its moment and its bytes."""
+        job = Job(source)
+        alike = [row for row in rows if (row.size, row.moment) == (source.identity.size, source.moment())]
+        if alike or job.in_parts():
+            job.digest = self._digest(source)
+        return job, [row for row in alike if row.sha256 == job.digest and self._counts(source, row)]
+
+    def _digest(self, source: Source) -> bytes:
+        found = self.seen.digest(source) if self.seen is not None else None
+        if found is None:
+            found = digest_of(source)
+            self.stored(source, found)
+        return found
+
+    def stored(self, source: Source, digest: bytes) -> None:
+        """Remembers a file that was read just now."""
+        if self.seen is not None:
+            self.seen.keep(source, digest)
+
+    def _counts(self, source: Source, row: Held) -> bool:
+        """Whether the archive has what a row says. A volume that was retired does not count. Of one that is damaged what can be seen does."""
+        if row.volume not in self._volumes:
+            self._volumes[row.volume] = self.catalogue.volume(row.volume)
+        volume = self._volumes[row.volume]
+        if volume is None or volume.state != CLOSED or volume.trouble is None:
+            return volume is None or volume.state != RETIRED
+        return self.places.has(source, row, volume)
+
+
+__all__ = ["Fresh"]
