@@ -6,9 +6,10 @@
 #        ./install.sh --library PREFIX
 #        ./install.sh --uninstall PREFIX
 #
-# PREFIX is an absolute path of plain letters, such as /usr/local, and so are LIBDIR and PYTHON_DIR. DESTDIR is put before each path that
-# is written, and is in none of the files. UDFBURN and UDFBURND name the programs, else those that `rt` built in crates/ are taken.
-# PYTHON_DIR is the folder of the Python package, else PREFIX/lib/udfburn. LIBRARY names the folder in which packaging/library/build.sh
+# PREFIX is an absolute path of plain letters, such as /usr/local, and so are LIBDIR, PYTHON_DIR and ZSH_DIR. DESTDIR is put before each
+# path that is written, and is in none of the files. UDFBURN and UDFBURND name the programs, else those that `rt` built in crates/ are
+# taken. PYTHON_DIR is the folder of the Python package, else PREFIX/lib/udfburn, and ZSH_DIR that in which zsh looks for completions,
+# else PREFIX/share/zsh/site-functions. LIBRARY names the folder in which packaging/library/build.sh
 # built the C library, which goes to LIBDIR, else PREFIX/lib; without it no library is installed. With --library it is installed alone, and
 # what else is there stays. What was installed is listed in PREFIX/share/doc/udfburn/installed, which is what --uninstall removes, and
 # prints. Images are never touched.
@@ -53,7 +54,8 @@ prefix=${1%/}
 root=$(absolute "${DESTDIR:-}")
 libdir=${LIBDIR:-$prefix/lib}
 python_dir=${PYTHON_DIR:-$prefix/lib/udfburn}
-for folder in "$libdir" "$python_dir"; do
+zsh_dir=${ZSH_DIR:-$prefix/share/zsh/site-functions}
+for folder in "$libdir" "$python_dir" "$zsh_dir"; do
     plain "$folder" || { echo "install.sh: $folder is not an absolute path of plain letters" >&2; exit 2; }
 done
 documents=$prefix/share/doc/udfburn
@@ -165,6 +167,11 @@ put_programs() {
         rm -f "$list.python"
         put_starter udfburn-client udfburn
         put_starter udfburn-archive udfburn.archive
+        # bash looks for a file of the command's name. One of zsh says itself which commands it completes.
+        for name in udfburn-client udfburn-archive; do
+            put 644 packaging/completion/udfburn.bash "$prefix/share/bash-completion/completions/$name"
+        done
+        put 644 packaging/completion/udfburn.zsh "$zsh_dir/_udfburn-client"
     fi
 }
 

@@ -19,7 +19,7 @@ room=$(mktemp -d) || exit 1
 trap 'rm -rf "$room"' EXIT
 trap 'exit 1' HUP INT PIPE TERM
 PATH=$PATH:/usr/sbin:/sbin
-unset DESTDIR PYTHON_DIR LIBRARY LIBDIR
+unset DESTDIR PYTHON_DIR ZSH_DIR LIBRARY LIBDIR
 # absent NAME: what cannot be tried.
 absent() {
     echo "install: not tried: $1 is not there"
@@ -71,6 +71,9 @@ expected() {
             echo "755 $1/bin/udfburn-client"
             echo "644 $1/share/man/man1/udfburn-archive.1"
             echo "755 $1/bin/udfburn-archive"
+            echo "644 $1/share/bash-completion/completions/udfburn-client"
+            echo "644 $1/share/bash-completion/completions/udfburn-archive"
+            echo "644 $1/share/zsh/site-functions/_udfburn-client"
             (cd clients/python && find udfburn -name '*.py' -o -name py.typed -o -name '*.html') | sed "s|^|644 $1/lib/udfburn/|"
             echo "644 $1/share/doc/udfburn/clients/python/README.md"
         fi
@@ -97,7 +100,7 @@ done
 status=0
 ./install.sh '/a b' > "$room/told" 2>&1 || status=$?
 holds 'install.sh refuses a space' [ "$status" -eq 2 ]
-for setting in LIBDIR=lib 'LIBDIR=/a|b' PYTHON_DIR=python 'PYTHON_DIR=/a b'; do
+for setting in LIBDIR=lib 'LIBDIR=/a|b' PYTHON_DIR=python 'PYTHON_DIR=/a b' ZSH_DIR=zsh; do
     status=0
     env "$setting" ./install.sh "$room/none" > "$room/told" 2>&1 || status=$?
     holds "install.sh refuses $setting" [ "$status" -eq 2 ]
@@ -173,6 +176,43 @@ interrupted() {
     [ "$status" -eq 130 ] && [ ! -s "$room/told" ]
 }
 
+# completed LINE: what bash completes a line by, with the system's Python.
+completed() {
+    PATH=$prefix/bin:/usr/bin:/bin bash -c '. "$1/share/bash-completion/completions/${2%% *}" || exit 1
+        COMP_LINE=$2 COMP_POINT=${#2} COMP_TYPE=9
+        _python_argcomplete "${2%% *}" && printf "%s\n" "${COMPREPLY[@]}"' - "$prefix" "$1"
+}
+
+# completes LINE WORD: whether bash completes a line by this word, or by nothing.
+completes() {
+    printf '%s\n' "$2" > "$room/wanted"
+    same "$room/wanted" completed "$1"
+}
+
+# completed_by_zsh: whether zsh completes a line, and a second one in the same shell.
+completed_by_zsh() {
+    PATH=$prefix/bin:/usr/bin:/bin timeout 120 zsh -f -c '
+        zmodload zsh/zpty
+        zpty shell "TERM=dumb zsh -f -i"
+        zpty -w shell "fpath=($1/share/zsh/site-functions \$fpath); autoload -Uz compinit; compinit -D -u; print READY\${:-.}"
+        zpty -r shell printed "*READY.*"
+        zpty -w -n shell "udfburn-client sal"$'"'\\t'"'
+        zpty -r shell printed "*salvage *"
+        zpty -w -n shell "--acc"$'"'\\t'"'
+        zpty -r shell printed "*--accept-unproved *"
+    ' - "$prefix"
+}
+
+# refuses_to_complete: whether a command that is asked to complete without argcomplete does nothing.
+refuses_to_complete() {
+    mkdir "$room/without"
+    echo 'raise ImportError' > "$room/without/argcomplete.py"
+    status=0
+    _ARGCOMPLETE=1 PYTHONPATH=$room/without "$prefix/bin/udfburn-client" format "$room/without/disc.img" > "$room/told" 2>&1 || status=$?
+    cat "$room/told"
+    [ "$status" -eq 1 ] && [ ! -s "$room/told" ] && [ ! -e "$room/without/disc.img" ]
+}
+
 # A prefix of one's own: the programs run from there.
 prefix=$room/prefix
 holds 'it installs into a prefix' ./install.sh "$prefix"
@@ -188,6 +228,18 @@ if [ -d clients/python/udfburn ] && [ -f clients/python/udfburn/__main__.py ]; t
         mkdir "$room/interrupted"
         echo 'raise KeyboardInterrupt' > "$room/interrupted/argparse.py"
         holds 'an interrupt while it loads ends it with 130 and no traceback' interrupted udfburn-client
+        holds 'without argcomplete nothing is completed, and nothing run' refuses_to_complete
+        need register-python-argcomplete python3-argcomplete
+        if command -v register-python-argcomplete > "$room/which" && command -v bash > "$room/which"; then
+            holds 'bash completes a command' completes 'udfburn-client sal' 'salvage '
+            holds 'it completes an option' completes 'udfburn-client salvage --acc' '--accept-unproved '
+            holds 'it completes a choice' completes 'udfburn-client finish --medium d' 'dvd '
+            holds 'it completes a local file' completes 'udfburn-client ls --image CONTRIB' 'CONTRIBUTING.md '
+            holds 'it takes no local file for a path of the volume' completes 'udfburn-client ls CONTRIB' ''
+            holds "it completes the archive's" completes 'udfburn-archive put' 'put-away '
+            need zsh zsh
+            if command -v zsh > "$room/which"; then holds 'zsh completes the same' completed_by_zsh; fi
+        fi
         # Its page has the options that its commands have.
         for command in put get ls mkdir mv rm verify resume map format status check seal salvage log finish burn; do
             "$prefix/bin/udfburn-client" "$command" --help
@@ -221,7 +273,7 @@ if command -v dpkg-deb > "$room/which"; then
     printf 'Package: udfburn\nVersion: %s\nArchitecture: %s\n' "$version" "$(dpkg --print-architecture)" > "$room/wanted"
     holds 'it says what it is' same "$room/wanted" dpkg-deb -f "$package" Package Version Architecture
     expected usr | sed -e '/doc\/udfburn\/installed$/d' -e 's|CHANGELOG.md$|NEWS.gz|' -e '/doc\/udfburn\/LICENSE-/d' -e 's|\(share/man/.*\)|\1.gz|' \
-        -e 's|usr/lib/udfburn/udfburn|usr/lib/python3/dist-packages/udfburn|' > "$room/listed"
+        -e 's|usr/lib/udfburn/udfburn|usr/lib/python3/dist-packages/udfburn|' -e 's|zsh/site-functions|zsh/vendor-completions|' > "$room/listed"
     printf '644 usr/share/doc/udfburn/%s\n' changelog.gz copyright | LC_ALL=C sort -k 2 - "$room/listed" > "$room/wanted"
     dpkg-deb -x "$package" "$room/unpacked"
     holds 'it has these files' same "$room/wanted" files "$room/unpacked"

@@ -75,7 +75,7 @@ make_package() {
 programs() {
     room=$work/udfburn
     mkdir "$room"
-    LIBRARY='' DESTDIR=$room PYTHON_DIR=/usr/lib/python3/dist-packages ./install.sh /usr
+    LIBRARY='' DESTDIR=$room PYTHON_DIR=/usr/lib/python3/dist-packages ZSH_DIR=/usr/share/zsh/vendor-completions ./install.sh /usr
     # The package's own list is what dpkg keeps.
     rm "$room/usr/share/doc/udfburn/installed"
     find "$room/usr/share/man" -type f -exec gzip -9n {} +
@@ -85,7 +85,7 @@ programs() {
     client=
     [ ! -d "$room/usr/lib/python3" ] || client='
 Recommends: python3 (>= 3.9)
-Suggests: python3-pathspec, python3-psycopg, rclone, xorriso'
+Suggests: python3-argcomplete, python3-pathspec, python3-psycopg, rclone, xorriso'
     mkdir "$room/DEBIAN"
     for script in postinst prerm; do
         install -m 755 "packaging/deb/$script" "$room/DEBIAN/$script"

@@ -7,6 +7,7 @@ import sys
 from typing import List, Optional
 
 from . import __version__, check_command, disc_commands, read_commands, salvage_commands, seal_command, volume_commands, write_commands
+from .completion import complete
 from .errors import OutputFailed, UdfburnError, UsageError
 from .progress import Progress
 from .protocol import BadAnswer, Fault, InvalidName, InvalidPath
@@ -49,6 +50,7 @@ def parser() -> argparse.ArgumentParser:
 def main(words: Optional[List[str]] = None) -> int:
     """Runs a command, and gives its status."""
     try:
+        complete(parser)
         closed = take_descriptors()
         arguments = parsed(parser(), words, closed)
         progress = arguments.progress = Progress(arguments.quiet, arguments.json, closed=closed, verbose=arguments.verbose)

@@ -8,6 +8,7 @@ import sys
 from typing import TYPE_CHECKING, Any, Callable, Dict, List, Optional
 
 from .. import __version__
+from ..completion import complete
 from ..errors import OutputFailed, UdfburnError, UsageError
 from ..protocol import limits, shown
 from ..sizes import capacity
@@ -194,6 +195,7 @@ def main(words: Optional[List[str]] = None) -> int:
         print("udfburn-archive: needs Python 3.11 or later", file=sys.stderr)
         return 1
     try:
+        complete(parser)
         closed = take_descriptors()
         arguments = parsed(parser(), words, closed)
         return printed(arguments, Tell(arguments.quiet, arguments.json, closed=closed, verbose=arguments.verbose))
