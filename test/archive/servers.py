@@ -18,8 +18,6 @@ from typing import Any, List, Optional
 
 from .support import COMMANDS, PATIENCE, wait_until
 
-PORT = 5432
-
 _kept: List[str] = []
 """The files of a server as `initdb` made them, once there are some."""
 

@@ -12,8 +12,6 @@ HEADER, LABEL, VERSION, RECORD, CLIENT_TWICE, ENTRY, COUNT = range(41, 48)
 
 FORMATTED = table([0, 2], NONE, commits=0)
 USED = table([0, 7, 5], 4, 1, 1, next_unique=17, commits=1, records=record(7, 1, [reply(0, 1)]))
-# The same with its record in the first version.
-FIRST_VERSION = table([0, 7, 5], 4, 1, 1, 1, next_unique=17, commits=1, records=record(7, 1, [reply(0, 1)], 1))
 
 
 def used(records: bytes = b"", entries: "list[int]" = [0, 7, 5], files: int = 1, directories: int = 1, clients: "int | None" = None) -> bytes:

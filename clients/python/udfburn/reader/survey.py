@@ -4,7 +4,7 @@ from __future__ import annotations
 
 from array import array
 from bisect import bisect_left
-from typing import Dict, Iterator, List, Optional, Tuple
+from typing import Dict, Iterator, List, Optional
 
 from .basics import BLOCK, GREATEST_CAPACITY, PARTITION
 from .entry import Kind
@@ -89,17 +89,3 @@ class Survey:
         """The last VAT ICB below an address that is as it must be."""
         index = bisect_left(self.tables, address)
         return self.tables[index - 1] if index else None
-
-
-Range = Tuple[int, int]
-
-
-def ranges_of(addresses: List[int]) -> List[Range]:
-    """Addresses in order as ranges of the first and the last."""
-    found: List[Range] = []
-    for at in addresses:
-        if found and found[-1][1] + 1 == at:
-            found[-1] = (found[-1][0], at)
-        else:
-            found.append((at, at))
-    return found
