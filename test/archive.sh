@@ -41,6 +41,7 @@ trap 'rm -f "$output"' EXIT
 trap 'exit 1' HUP INT PIPE TERM
 cd "$home" || exit 1
 command -v xorriso > "$output" || ./packages.sh xorriso > "$output" 2>&1
+"$python" -c 'import pyfuse3' > "$output" 2>&1 && command -v fusermount3 > "$output" || ./packages.sh python3-pyfuse3 fuse3 > "$output" 2>&1
 
 # A Linux kernel that reads UDF: this machine's, else Debian's in a machine of QEMU, as in test/readers.sh.
 room=$(mktemp -d) || exit 1

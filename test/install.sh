@@ -241,7 +241,7 @@ if [ -d clients/python/udfburn ] && [ -f clients/python/udfburn/__main__.py ]; t
             if command -v zsh > "$room/which"; then holds 'zsh completes the same' completed_by_zsh; fi
         fi
         # Its page has the options that its commands have.
-        for command in put get ls mkdir mv rm verify resume map format status check seal salvage log finish burn; do
+        for command in put get ls mkdir mv rm verify resume map format status check seal salvage log finish burn mount; do
             "$prefix/bin/udfburn-client" "$command" --help
         done | grep -o -e '--[a-z][a-z-]*' | sort -u > "$room/wanted"
         sed -n -e 's/\.It.* Fl -help.*//' -e 's/\.\{0,1\}[A-Z][a-z] Fl -/\n--/' -e 's/ Fl -/\n--/g' -e p man/udfburn-client.1 |

@@ -85,7 +85,7 @@ programs() {
     client=
     [ ! -d "$room/usr/lib/python3" ] || client='
 Recommends: python3 (>= 3.9)
-Suggests: python3-argcomplete, python3-pathspec, python3-psycopg, rclone, xorriso'
+Suggests: fuse3, python3-argcomplete, python3-pathspec, python3-psycopg, python3-pyfuse3, rclone, xorriso'
     mkdir "$room/DEBIAN"
     for script in postinst prerm; do
         install -m 755 "packaging/deb/$script" "$room/DEBIAN/$script"

@@ -14,6 +14,7 @@ import unittest
 from concurrent.futures import ThreadPoolExecutor
 from typing import List
 
+from .mounts import LACKS
 
 class Result(unittest.TextTestResult):
     """Counts, and prints which tests take long. The client's tests have the same class: they run without this folder."""
@@ -42,7 +43,7 @@ def in_turn(names: List[str]) -> int:
     assert isinstance(result, Result)
     # A test that was left out is a failure where all of them are asked for, as in CI.
     skipped = [(test, why) for test, why in result.skipped if why != "--large has it"]
-    left_out = len(skipped) if os.environ.get("CI") == "true" else 0
+    left_out = sum(not why.startswith(LACKS) for _, why in skipped) if os.environ.get("CI") == "true" else 0
     failed = len(result.failures) + len(result.errors) + len(result.unexpectedSuccesses) + left_out
     for test, why in skipped:
         print(f"left out: {test.id()}: {why}")

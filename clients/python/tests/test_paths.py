@@ -74,6 +74,7 @@ ALLOWED: Dict[str, Dict[str, str]] = {
     "ledger": {"os.rename": OWN, "os.stat": OWN, "sqlite3.connect": OWN},
     "ledger_file": {"os.open": OWN, "os.path.isdir": OWN, "os.mkdir": OWN, "os.unlink": OWN, "os.stat": OWN, "sqlite3.connect": OWN},
     "ledger_reading": {"tempfile.TemporaryDirectory": OURS, "os.open": OWN, "os.path.exists": OWN, "shutil.copyfile": OWN},
+    "mounting": {"os.listdir": KIND, "os.path.exists": SYSTEM},
     "past": {"shutil.rmtree": OURS, "os.access": KIND},
     "read_commands": {"os.path.isdir": KIND},
     "salvage_ledger": {"os.path.exists": KIND},

@@ -6,14 +6,14 @@ import argparse
 import sys
 from typing import List, Optional
 
-from . import __version__, check_command, disc_commands, read_commands, salvage_commands, seal_command, volume_commands, write_commands
+from . import __version__, check_command, disc_commands, mount_command, read_commands, salvage_commands, seal_command, volume_commands, write_commands
 from .completion import complete
 from .errors import OutputFailed, UdfburnError, UsageError
 from .progress import Progress
 from .protocol import BadAnswer, Fault, InvalidName, InvalidPath
 from .streams import drop_output, parsed, take_any_name, take_descriptors
 
-MODULES = (write_commands, seal_command, read_commands, volume_commands, check_command, disc_commands, salvage_commands)
+MODULES = (write_commands, seal_command, read_commands, volume_commands, check_command, disc_commands, salvage_commands, mount_command)
 """Each has `add`, which declares the words of its commands. What runs one is the default `run` of its words."""
 
 INTERRUPTED = "interrupted: 'resume', or the same command, finishes what is under way"

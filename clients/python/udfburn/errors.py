@@ -209,6 +209,10 @@ class DiscFailed(UdfburnError):
     """A disc was not burned, or is not what it should be."""
 
 
+class MountFailed(UdfburnError):
+    """Nothing was mounted, and why."""
+
+
 class OutputFailed(UdfburnError):
     """The standard output is closed, or takes no more."""
 
@@ -229,7 +233,7 @@ class UsageError(UdfburnError):
 __all__ = [
     "AnswerCode", "BadAnswer", "DAMAGE", "ClientsFull", "Code", "ConnectionFailed", "CopyWentOn", "Damaged", "Differs", "DirectoryFull",
     "DiscFailed", "DiskFull", "DoesNotFit", "DriveFailed", "EmptyVolume", "Exists", "FileDiffers", "ForeignReply", "Full", "IntoItself", "InvalidName",
-    "InvalidPath", "IsDirectory", "IsRoot", "LedgerBusy", "LedgerError", "MISSES", "NoParent", "NotCommitted", "NotDirectory",
+    "InvalidPath", "IsDirectory", "IsRoot", "LedgerBusy", "LedgerError", "MISSES", "MountFailed", "NoParent", "NotCommitted", "NotDirectory",
     "NotEmpty", "NotFound", "NumberUsedElsewhere", "OtherVolume", "OutOfMemory", "OutputFailed", "ProgramFailed", "REFUSALS",
     "Refused", "Rejected", "SourceChanged", "SourceError", "TooDeep", "TooLarge", "TooMany", "UdfburnError",
     "UsageError", "VolumeBehind", "WrongVolume",

@@ -265,6 +265,11 @@ class State:
         directory = self._directory(node)
         return directory.names if directory is not None else []
 
+    def is_complete(self, node: Node) -> bool:
+        """Whether each name of a directory could be read."""
+        directory = self._directory(node)
+        return directory is not None and directory.complete
+
     def child(self, node: Node, name: Identifier) -> Optional[Node]:
         """The node that a directory names; None where its entry cannot be read."""
         return self._node(node.path + (name.name,), name, node.virtual, node.data or node.address)
