@@ -87,7 +87,7 @@ class Excludes(WithArchive):
         os.mkdir(mounted)
         if subprocess.run(["mount", "-t", "tmpfs", "none", mounted], check=False, stderr=subprocess.DEVNULL).returncode:
             self.skipTest("nothing can be mounted here")
-        self.addCleanup(subprocess.run, ["umount", mounted], check=True)
+        self.addCleanup(lambda: subprocess.run(["umount", mounted], check=True))
         write(os.path.join(mounted, "far"), b"1")
         self.assertIn("mounted/far", self.stored())
         self.assertEqual(self.stored("--one-file-system"), self.stored() - {"mounted/far"})
@@ -160,8 +160,10 @@ class TrustedTimes(WithArchive):
     def test_a_base_that_is_lost_or_damaged(self) -> None:
         self.add("--trust-times")
         base = os.path.join(self.archive, "seen.sqlite")
-        for spoil in (lambda: os.unlink(base), lambda: write(base, os.urandom(9000)), lambda: write(base, b"")):
-            spoil()
+        for data in (None, os.urandom(9000), b""):
+            os.unlink(base)
+            if data is not None:
+                write(base, data)
             for end in ("-wal", "-shm"):
                 if os.path.exists(base + end):
                     os.unlink(base + end)
