@@ -84,9 +84,11 @@ struct udfburn {
     void *core;
     struct udfburn_file file;
     int32_t ended;              /* what udfburn_answer() returns from now on, or UDFBURN_OK */
-    int32_t lost;               /* the file is not there any more: no answer is given */
+    int32_t lost;               /* the file is not there any more, or the drive gives another volume: no answer is given */
     unsigned length_bytes;      /* of the frame that has begun: how many bytes of its length came */
     uint32_t length;            /* these bytes, and then how many bytes of its payload are missing */
+    uint8_t *kept;              /* answers of a core that was replaced, or NULL */
+    size_t kept_count, kept_taken;
     void *port;                 /* of a caller's drive, else NULL */
     void (*release)(void *port);
 };
@@ -170,6 +172,7 @@ struct udfburn_port {
     uint32_t capacity;
     int32_t number;             /* by which the core calls it */
     int32_t verifies;           /* what is written is read back */
+    uint32_t end;               /* where the core goes on, while the drive goes on further; else 0 */
     struct udfburn_port *next;
 };
 
@@ -181,8 +184,14 @@ void udfburn_release_port(void *port);
 /* Reads blocks of a file or a drive by its number. Not 0 if it fails. */
 int32_t udfburn_read_exact(int32_t number, uint32_t address, uint32_t count, void *blocks);
 
-/* The address after the last block of a drive: not 0 if it fails, or is beyond the capacity. */
+/* The address after the last block of a drive, as its core knows it: not 0 if it fails, or is beyond the capacity. */
 int udfburn_next_of(const struct udfburn_port *port, uint32_t *address);
+
+/* Makes a block of any bytes a VAT ICB at this address by its tag. It is that of no table. */
+void udfburn_make_vat_icb(uint8_t *block, uint32_t address);
+
+/* Opens the volume again where its drive went on further than the last block of a commit. Its answers wait as before. */
+int32_t udfburn_follow_drive(udfburn *handle);
 
 /* ---- The core. A handle is what udfburn_core_new wrote, and the slices are never NULL. ---- */
 

@@ -20,10 +20,10 @@
 static struct udfburn_port *ports;
 
 /* The port of a number, or NULL. It stays, since the handle that it serves is in a call. */
-static const struct udfburn_port *port_of(int number) {
+static struct udfburn_port *port_of(int number) {
     if (number < FIRST_NUMBER) return NULL;
     udfburn_lock();
-    const struct udfburn_port *port = ports;
+    struct udfburn_port *port = ports;
     while (port && port->number != number) port = port->next;
     udfburn_unlock();
     return port;
@@ -88,10 +88,17 @@ int32_t udfburn_make_port(const struct udfburn_drive *drive, struct udfburn_port
     return UDFBURN_OK;
 }
 
-int udfburn_next_of(const struct udfburn_port *port, uint32_t *address) {
+/* The same, as the drive gives it. */
+static int ask_next(const struct udfburn_port *port, uint32_t *address) {
     int32_t number = port->drive.next(port->drive.context, address);
     if (number != 0) return failed("drive.next", number);
     return *address > port->capacity ? failed("drive.next", ERANGE) : 0;
+}
+
+int udfburn_next_of(const struct udfburn_port *port, uint32_t *address) {
+    if (port->end == 0) return ask_next(port, address);
+    *address = port->end;
+    return 0;
 }
 
 /* ---- The calls ---- */
@@ -152,16 +159,22 @@ static int is_there(const struct udfburn_port *port, uint32_t address, uint32_t 
 
 ssize_t udfburn_port_pwrite(int number, const void *from, size_t count, off_t offset);
 ssize_t udfburn_port_pwrite(int number, const void *from, size_t count, off_t offset) {
-    const struct udfburn_port *port = port_of(number);
+    struct udfburn_port *port = port_of(number);
     uint32_t address, blocks, next;
     int32_t outcome;
     if (!port) return noted("pwrite", pwrite(number, from, count, offset));
-    if (blocks_of(count, offset, &address, &blocks) || udfburn_next_of(port, &next)) return -1;
+    if (blocks_of(count, offset, &address, &blocks) || ask_next(port, &next)) return -1;
     /* No address is written twice, whatever became of the drive meanwhile. */
     if (address != next || blocks > port->capacity - next) return failed("drive.next", ERANGE);
     outcome = port->drive.write(port->drive.context, address, blocks, from);
     if (outcome != 0) return failed("drive.write", outcome);
-    return port->verifies && is_there(port, address, blocks, from) ? -1 : (ssize_t)count;
+    if (ask_next(port, &next)) return -1;
+    /* A drive that does not have what it took has not kept it. */
+    if (next < address + blocks) return failed("drive.next", ERANGE);
+    if (port->verifies && is_there(port, address, blocks, from)) return -1;
+    /* The core takes what it writes for the end. It learns the other one when its volume is opened again. */
+    if (next > address + blocks) port->end = address + blocks;
+    return (ssize_t)count;
 }
 
 /* What was written is durable already. */

@@ -4,6 +4,7 @@
 
 #include "internal.h"
 
+#include <errno.h>
 #include <stdlib.h>
 #include <string.h>
 #include <unistd.h>
@@ -146,13 +147,18 @@ int32_t udfburn_open_memory(const char *label, uint64_t moment, uint32_t capacit
     return udfburn_leave(&call, open_memory(label, moment, capacity, out));
 }
 
+/* The core's handle is a block of malloc. */
+static void drop_core(void *core) {
+    if (core) udfburn_core_end(core);
+    free(core);
+}
+
 void udfburn_close_in(udfburn *handle) {
     if (!handle) return;
     udfburn_leave_file(&handle->file);
-    /* The core's handle is a block of malloc. */
-    udfburn_core_end(handle->core);
-    free(handle->core);
+    drop_core(handle->core);
     if (handle->release) handle->release(handle->port);
+    free(handle->kept);
     free(handle);
 }
 
@@ -196,22 +202,65 @@ int32_t udfburn_check_file(udfburn *handle) {
     return handle->lost ? UDFBURN_DEVICE : UDFBURN_OK;
 }
 
+/* ---- Drives that go on further than the end of a commit ---- */
+
+/* Takes the answers that wait in the core out of it. */
+static int32_t keep_answers(udfburn *handle) {
+    size_t kept = handle->kept_count - handle->kept_taken, count = udfburn_core_answered(handle->core);
+    if (kept > 0) memmove(handle->kept, handle->kept + handle->kept_taken, kept);
+    handle->kept_count = kept;
+    handle->kept_taken = 0;
+    if (count == 0) return UDFBURN_OK;
+    uint8_t *room = realloc(handle->kept, kept + count);
+    if (!room) return UDFBURN_MEMORY;
+    handle->kept = room;
+    handle->kept_count += udfburn_core_take(handle->core, room + kept, count);
+    return UDFBURN_OK;
+}
+
+/* Another core on the drive, as it goes on now. UDFBURN_VOLUME: its volume does not have so many commits. */
+static int32_t open_again(const udfburn *handle, uint32_t commits, void **core) {
+    struct udfburn_core_status found;
+    int32_t status = udfburn_core_new(core);
+    if (status != UDFBURN_OK) *core = NULL;
+    if (status == UDFBURN_OK) status = udfburn_core_open_fd(*core, handle->number);
+    if (status == UDFBURN_OK) status = udfburn_core_status(*core, &found);
+    return status == UDFBURN_OK && found.commits != commits ? UDFBURN_VOLUME : status;
+}
+
+int32_t udfburn_follow_drive(udfburn *handle) {
+    struct udfburn_port *port = handle->port;
+    struct udfburn_core_status told;
+    void *core = NULL;
+    if (!port || port->end == 0) return UDFBURN_OK;
+    uint32_t end = port->end;
+    int32_t status = udfburn_core_status(handle->core, &told);
+    if (status == UDFBURN_OK) status = keep_answers(handle);
+    if (status == UDFBURN_OK) {
+        port->end = 0;
+        status = open_again(handle, told.commits, &core);
+        drop_core(status == UDFBURN_OK ? handle->core : core);
+        if (status == UDFBURN_OK) handle->core = core;
+        else port->end = end;
+    }
+    if (status == UDFBURN_OK || status == UDFBURN_MEMORY) return status;
+    /* A commit that the drive does not give any more is not acknowledged. */
+    udfburn_note("drive.next", EIO);
+    handle->lost = 1;
+    return UDFBURN_DEVICE;
+}
+
 /* ---- Frames ---- */
 
-/* Follows the frames of a stream through bytes that came. */
-static void follow(udfburn *handle, const uint8_t *bytes, size_t count) {
-    while (count > 0) {
-        if (handle->length_bytes < 4) {
-            handle->length |= (uint32_t)*bytes++ << 8 * handle->length_bytes++;
-            count--;
-        } else {
-            size_t part = count < handle->length ? count : handle->length;
-            bytes += part;
-            count -= part;
-            handle->length -= (uint32_t)part;
-        }
-        if (handle->length_bytes == 4 && handle->length == 0) handle->length_bytes = 0;
-    }
+/* Follows the frames of a stream through bytes that came, up to the end of the frame in which it is. Returns how many these are. */
+static size_t follow(udfburn *handle, const uint8_t *bytes, size_t count) {
+    size_t done = 0;
+    while (done < count && handle->length_bytes < 4) handle->length |= (uint32_t)bytes[done++] << 8 * handle->length_bytes++;
+    if (handle->length_bytes < 4) return done;
+    size_t part = count - done < handle->length ? count - done : handle->length;
+    handle->length -= (uint32_t)part;
+    if (handle->length == 0) handle->length_bytes = 0;
+    return done + part;
 }
 
 int udfburn_between_frames(const udfburn *handle) {
@@ -219,10 +268,16 @@ int udfburn_between_frames(const udfburn *handle) {
 }
 
 int32_t udfburn_answer_in(udfburn *handle, const void *bytes, size_t count) {
+    const uint8_t *from = bytes;
     if (handle->ended != UDFBURN_OK || udfburn_check_file(handle) != UDFBURN_OK) return handle->ended;
-    if (count == 0) return UDFBURN_OK;
-    handle->ended = udfburn_core_answer(handle->core, bytes, count);
-    follow(handle, bytes, count);
+    /* One message after another, since a drive may go on elsewhere after each commit. */
+    while (count > 0 && handle->ended == UDFBURN_OK) {
+        size_t part = follow(handle, from, count);
+        handle->ended = udfburn_core_answer(handle->core, from, part);
+        if (handle->ended == UDFBURN_OK) handle->ended = udfburn_follow_drive(handle);
+        from += part;
+        count -= part;
+    }
     /* An answer is of no use where nobody can find the file any more. */
     return udfburn_check_file(handle) == UDFBURN_OK ? handle->ended : UDFBURN_DEVICE;
 }
@@ -235,7 +290,11 @@ int32_t udfburn_answer(udfburn *handle, const void *bytes, size_t count) {
     return udfburn_leave(&call, is_wrong ? UDFBURN_ARGUMENT : udfburn_answer_in(handle, bytes, count));
 }
 
-size_t udfburn_answered_in(const udfburn *handle) { return handle->lost ? 0 : udfburn_core_answered(handle->core); }
+static size_t kept_of(const udfburn *handle) { return handle->kept_count - handle->kept_taken; }
+
+size_t udfburn_answered_in(const udfburn *handle) {
+    return handle->lost ? 0 : kept_of(handle) + udfburn_core_answered(handle->core);
+}
 
 size_t udfburn_answered(const udfburn *handle) {
     struct udfburn_call call;
@@ -247,9 +306,13 @@ size_t udfburn_answered(const udfburn *handle) {
 }
 
 size_t udfburn_take_in(udfburn *handle, void *into, size_t room) {
-    size_t count = udfburn_answered_in(handle);
+    size_t count = udfburn_answered_in(handle), kept = kept_of(handle);
     if (!into || room == 0 || count == 0) return 0;
-    return udfburn_core_take(handle->core, into, room < count ? room : count);
+    if (room > count) room = count;
+    size_t first = room < kept ? room : kept;
+    if (first > 0) memcpy(into, handle->kept + handle->kept_taken, first);
+    handle->kept_taken += first;
+    return first + (room > first ? udfburn_core_take(handle->core, (uint8_t *)into + first, room - first) : 0);
 }
 
 size_t udfburn_take(udfburn *handle, void *into, size_t room) {

@@ -415,6 +415,15 @@ int32_t udfburn_took(udfburn *handle);
  * The library writes the last block of a commit in a write of its own, after all blocks before it were durable. It never
  * writes an address twice.
  *
+ * A MEDIUM THAT IS WRITTEN IN PACKETS may take all blocks of a commit at once. For it there are two exceptions:
+ *   - A write may hold its blocks back in memory up to the last block of the commit: a write of one block for which
+ *     udfburn_is_vat_icb() is 1. When that one returns 0, it is durable and so are all before it. If power is lost, no block is
+ *     on the medium without those before it. Until then `next` counts what is held, and `read` gives it. If the write fails,
+ *     what is held is forgotten: `next` is that of the medium.
+ *   - After that last block `next` may be more than `address + 1`. What lies between reads as zeros, or as copies of that
+ *     block by udfburn_copy_vat_icb(). With at least three copies, up to the end of the packet, Linux finds the end of a disc.
+ * The library then opens the volume again before it acknowledges the commit, and goes on at `next`.
+ *
  * After a write that failed, send the request again. If blocks of its commit are on the medium by then, every request and
  * query returns UDFBURN_DEVICE: close the handle and open the drive again. It goes on after those blocks, and the request
  * with its number still runs once. */
@@ -441,11 +450,17 @@ int32_t udfburn_open_drive(const struct udfburn_drive *drive, udfburn **out);
 #define UDFBURN_VERIFY 1u
 int32_t udfburn_open_drive_with(const struct udfburn_drive *drive, uint32_t flags, udfburn **out);
 
-/* Try a blank drive of at least UDFBURN_LEAST_CAPACITY blocks: write some blocks, and compare what `next` and `read` give.
- * The drive is not blank afterwards. It cannot try durability, or what a failed write leaves.
+/* Try a blank drive of at least UDFBURN_LEAST_CAPACITY blocks: write some blocks, with a VAT ICB after them, and compare what
+ * `next` and `read` give. The drive is not blank afterwards. It cannot try durability, or what a failed write leaves.
  * UDFBURN_DEVICE: the drive breaks a rule or failed. `*broken` is then a sentence that says which, never freed; else it is
  * NULL. `broken` may be NULL. */
 int32_t udfburn_drive_check(const struct udfburn_drive *drive, const char **broken);
+
+/* Whether a block of UDFBURN_BLOCK bytes is a VAT ICB at this address, with which a commit ends: 1 or 0. */
+int32_t udfburn_is_vat_icb(const void *block, uint32_t address);
+
+/* Copy a VAT ICB to `copy`, which may be the same block, as the VAT ICB of the same table that lies at another address. */
+void udfburn_copy_vat_icb(const void *block, uint32_t address, void *copy);
 
 #ifdef __cplusplus
 }

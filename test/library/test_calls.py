@@ -10,7 +10,7 @@ from library.running import DRIVES, Running
 class Calls(Running):
     def with_each_form(self, compiler: Compiler) -> None:
         for source, archive in (("calls.c", "libudfburn.a"), ("calls.c", DRIVES), ("calls.c", "libudfburn.so"), ("drives.c", DRIVES),
-                                ("drives.c", "libudfburn.so")):
+                                ("drives.c", "libudfburn.so"), ("packets.c", DRIVES), ("packets.c", "libudfburn.so")):
             with self.subTest(source=source, archive=archive):
                 self.passes(source, self.compiled(source, compiler, archive))
 

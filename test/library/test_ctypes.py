@@ -88,7 +88,7 @@ def load() -> Any:
     library: Any = ctypes.CDLL(str(built().plain / "libudfburn.so"))
     library.udfburn_version.restype = library.udfburn_error_name.restype = c_char_p
     library.udfburn_answered.restype = library.udfburn_take.restype = c_size_t
-    library.udfburn_close.restype = library.udfburn_free.restype = None
+    library.udfburn_close.restype = library.udfburn_free.restype = library.udfburn_copy_vat_icb.restype = None
     return library
 
 
@@ -198,6 +198,10 @@ class FromPython(Case):
         self.assertEqual(self.call("drive_check", byref(Disc().drive), byref(broken)), OK)
         self.assertIsNone(broken.value)
         self.assertEqual(self.call("format_drive", byref(disc.drive), b"PY", c_uint64(MOMENT)), OK)
+        last, copy = disc.blocks[-BLOCK:], ctypes.create_string_buffer(BLOCK)
+        self.assertEqual([self.call("is_vat_icb", last, c_uint32(address)) for address in (261, 262)], [1, 0])
+        self.call("copy_vat_icb", last, c_uint32(262), copy)
+        self.assertEqual(self.call("is_vat_icb", copy, c_uint32(262)), 1)
         self.assertEqual(self.call("open_drive", byref(disc.drive), byref(handle)), OK)
         self.call("close", handle)
         self.assertEqual(self.call("open_drive_with", byref(disc.drive), c_uint32(1), byref(handle)), OK)

@@ -7,7 +7,7 @@ import subprocess
 
 from library.building import REPOSITORY, Case, build_library, built
 
-DRIVES = {"udfburn_open_drive", "udfburn_open_drive_with", "udfburn_format_drive", "udfburn_drive_check"}
+DRIVES = {"udfburn_open_drive", "udfburn_open_drive_with", "udfburn_format_drive", "udfburn_drive_check", "udfburn_is_vat_icb", "udfburn_copy_vat_icb"}
 
 
 def header() -> str:

@@ -9,12 +9,12 @@ STACK = 65536
 
 class Watched(Running):
     def test_under_address_sanitizer(self) -> None:
-        for source, archive in (("calls.c", "libudfburn.a"), ("drives.c", DRIVES)):
+        for source, archive in (("calls.c", "libudfburn.a"), ("drives.c", DRIVES), ("packets.c", DRIVES)):
             with self.subTest(source):
                 self.passes(source, self.compiled(source, archive=archive, watched=True))
 
     def test_under_valgrind(self) -> None:
-        for source, archive in (("calls.c", "libudfburn.a"), ("drives.c", DRIVES), ("told.c", "libudfburn.a")):
+        for source, archive in (("calls.c", "libudfburn.a"), ("drives.c", DRIVES), ("packets.c", DRIVES), ("told.c", "libudfburn.a")):
             with self.subTest(source):
                 self.passes(source, self.compiled(source, archive=archive), VALGRIND)
 
