@@ -121,7 +121,7 @@ static const char *check_all(struct trial *trial) {
     return broken ? broken : check_next(trial, 0);
 }
 
-static int32_t check(const struct udfburn_drive *drive, const char **broken) {
+int32_t udfburn_check_drive_in(const struct udfburn_drive *drive, const char **broken) {
     if (!drive || !drive->capacity || !drive->next || !drive->read || !drive->write) return UDFBURN_ARGUMENT;
     struct trial trial = {0};
     trial.drive = drive;
@@ -137,5 +137,5 @@ int32_t udfburn_drive_check(const struct udfburn_drive *drive, const char **brok
     struct udfburn_call call;
     if (broken) *broken = NULL;
     udfburn_enter_without(&call, NULL);
-    return udfburn_leave(&call, check(drive, broken));
+    return udfburn_leave(&call, udfburn_check_drive_in(drive, broken));
 }

@@ -187,6 +187,11 @@ int32_t udfburn_read_exact(int32_t number, uint32_t address, uint32_t count, voi
 /* The address after the last block of a drive, as its core knows it: not 0 if it fails, or is beyond the capacity. */
 int udfburn_next_of(const struct udfburn_port *port, uint32_t *address);
 
+/* The calls of these names, from within another one, on a drive that is whole. */
+int32_t udfburn_format_drive_in(const struct udfburn_drive *drive, const char *label, uint64_t moment);
+int32_t udfburn_open_drive_in(const struct udfburn_drive *drive, uint32_t flags, udfburn **out);
+int32_t udfburn_check_drive_in(const struct udfburn_drive *drive, const char **broken);
+
 /* Makes a block of any bytes a VAT ICB at this address by its tag. It is that of no table. */
 void udfburn_make_vat_icb(uint8_t *block, uint32_t address);
 

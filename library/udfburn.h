@@ -462,6 +462,27 @@ int32_t udfburn_is_vat_icb(const void *block, uint32_t address);
 /* Copy a VAT ICB to `copy`, which may be the same block, as the VAT ICB of the same table that lies at another address. */
 void udfburn_copy_vat_icb(const void *block, uint32_t address, void *copy);
 
+/* ---- A disc in a recorder ------------------------------------------------------------------------------------------
+ *
+ * A CD-R, DVD-R, DVD+R or BD-R in a recorder: `device` is Linux's /dev/srN or /dev/sgN. Each commit is a packet, filled up with
+ * copies of its VAT ICB to the medium's unit of 1, 16 or 32 blocks, at least three. So Linux mounts the disc at any time, without
+ * options, once it was ejected and loaded again. A request is acknowledged when the drive's SYNCHRONIZE CACHE has succeeded and
+ * the drive goes on after the packet; with UDFBURN_VERIFY also read it back from the medium. The disc stays open: nothing closes
+ * its session. Tried on emulated recorders only.
+ *   The drive is opened for this process alone and its tray is locked: UDFBURN_BUSY if another process has it, or Linux has the
+ * disc mounted. A child of fork() may only close the handle.
+ *   After a write that failed, close the handle and open the device again: it goes on after what the write spoiled. Where a
+ * format failed like that, format again. If that returns UDFBURN_VOLUME and udfburn_reason() has the call "anchor" or "header",
+ * a block that no volume can be without is spoiled: take another disc.
+ *   In udfburn_reason() `call` is the command that failed, such as "WRITE(10)", and `error` its sense data: the key * 65536, the
+ * additional code * 256 and its qualifier (0x30C00: write error); else it is errno. ENOMEDIUM: no disc. EMEDIUMTYPE: a disc of
+ * another kind. UDFBURN_READ_ONLY: the disc is closed. UDFBURN_VOLUME: also a disc of several tracks. */
+int32_t udfburn_format_mmc(const char *device, const char *label, uint64_t moment);
+int32_t udfburn_open_mmc(const char *device, uint32_t flags, udfburn **out);
+
+/* As udfburn_drive_check(), on a blank disc in a recorder, which no volume can be made on afterwards. */
+int32_t udfburn_mmc_check(const char *device, const char **broken);
+
 #ifdef __cplusplus
 }
 #endif

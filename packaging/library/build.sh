@@ -54,14 +54,14 @@ compile() {
             ${CFLAGS:-} -fvisibility=default -fno-lto -DUDFBURN_VERSION="\"$version\"" -c "library/$name.c" -o "$room/$name.o"
     done
 }
-compile udfburn guard files requests entries room told view port drive drive_check vat_icb
+compile udfburn guard files requests entries room told view port drive drive_check vat_icb sg_io mmc open_mmc
 
 # What the header declares, apart from what is only in the library with drives.
 names() {
     sed -n 's/^[a-z].*[ *]\(udfburn_[a-z_]*\)(.*/\1/p' library/udfburn.h | LC_ALL=C sort -u
 }
 names > "$room/names"
-grep -v -e drive -e vat_icb "$room/names" > "$room/names.plain"
+grep -v -e drive -e vat_icb -e mmc "$room/names" > "$room/names.plain"
 
 # merge OUT.o NAMES OBJECT..: one object of these, the core and what they take of the kit, in which these names alone are seen.
 merge() {
@@ -88,7 +88,8 @@ objcopy "$@" "$room/core.all.o" "$room/core.port.o"
 set -- "$room/udfburn.o" "$room/guard.o" "$room/files.o" "$room/requests.o" "$room/entries.o" \
     "$room/room.o" "$room/told.o" "$room/view.o" "$room/port.o" "$room/core.port.o"
 merge "$room/libudfburn.o" "$room/names.plain" "$@"
-merge "$room/libudfburn_drive.o" "$room/names" "$@" "$room/drive.o" "$room/drive_check.o" "$room/vat_icb.o"
+merge "$room/libudfburn_drive.o" "$room/names" "$@" "$room/drive.o" "$room/drive_check.o" "$room/vat_icb.o" \
+    "$room/sg_io.o" "$room/mmc.o" "$room/open_mmc.o"
 rm -f "$out"/libudfburn.a "$out"/libudfburn_drive.a "$out"/libudfburn.so*
 ar rcsD "$out/libudfburn.a" "$room/libudfburn.o"
 ar rcsD "$out/libudfburn_drive.a" "$room/libudfburn_drive.o"

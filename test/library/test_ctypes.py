@@ -12,7 +12,7 @@ from library.building import Case, built
 from library.test_exports import declared
 from protocol import GET, Request, encode, query
 
-OK, NONE, BUSY, OLDER, EXISTS, NOT_FOUND = 0, 7, 9, 13, 35, 34
+OK, DEVICE, NONE, BUSY, OLDER, EXISTS, NOT_FOUND = 0, 2, 7, 9, 13, 35, 34
 BLOCK = 2048
 MOMENT = 1_700_000_000_000_000
 
@@ -193,6 +193,18 @@ class FromPython(Case):
         self.call("close", handle)
         return blocks
 
+    def no_recorder(self, path: bytes) -> None:
+        """An image is no recorder (test/disc.sh has some)."""
+        handle, broken = c_void_p(1), c_char_p(b"")
+        reason = Reason(ctypes.sizeof(Reason))
+        for status in (self.call("open_mmc", path, c_uint32(0), byref(handle)), self.call("format_mmc", path, b"PY", c_uint64(MOMENT)),
+                       self.call("mmc_check", path, byref(broken))):
+            self.assertEqual(status, DEVICE)
+            self.assertEqual(self.call("reason", None, byref(reason)), OK)
+            self.assertEqual((reason.error, reason.call, reason.path), (errno.ENODEV, b"open", path))
+        self.assertIsNone(handle.value)
+        self.assertIsNone(broken.value)
+
     def on_a_drive(self) -> bytes:
         disc, handle, broken = Disc(), c_void_p(), c_char_p()
         self.assertEqual(self.call("drive_check", byref(Disc().drive), byref(broken)), OK)
@@ -226,6 +238,7 @@ class FromPython(Case):
         self.by_descriptor(path)
         self.assertEqual(self.in_memory(), image)
         self.assertEqual(self.on_a_drive(), image)
+        self.no_recorder(path)
         self.assertEqual(self.called, declared())
 
     def test_structures(self) -> None:

@@ -23,8 +23,8 @@ from udfburn.reader import Kind, Medium, Volume  # noqa: E402
 
 PART = 256 * 1024
 """Bytes of a part of a recording (examples/record.c)."""
-PROGRAMS: Dict[str, Tuple[str, ...]] = {"record": (), "author": (), "recorder": ("-lburn",)}
-"""The examples, and what each is linked with beside the library."""
+PROGRAMS: Dict[str, Tuple[str, ...]] = {"record": (), "author": (), "recorder": ("-lburn",), "packet": ()}
+"""The examples, and what each is linked with beside the library. test/disc.sh runs `packet`."""
 SHIM = "shim.so"
 
 

@@ -7,7 +7,8 @@ import subprocess
 
 from library.building import REPOSITORY, Case, build_library, built
 
-DRIVES = {"udfburn_open_drive", "udfburn_open_drive_with", "udfburn_format_drive", "udfburn_drive_check", "udfburn_is_vat_icb", "udfburn_copy_vat_icb"}
+DRIVES = {"udfburn_open_drive", "udfburn_open_drive_with", "udfburn_format_drive", "udfburn_drive_check", "udfburn_is_vat_icb", "udfburn_copy_vat_icb",
+          "udfburn_format_mmc", "udfburn_open_mmc", "udfburn_mmc_check"}
 
 
 def header() -> str:
