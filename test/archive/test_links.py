@@ -85,6 +85,30 @@ class Races(WithArchive):
         with open(self.path("archive", "open", "T-000001.img"), "rb") as file:
             self.assertNotIn(SECRET, file.read())
 
+    def test_closing(self) -> None:
+        """The archive's folder for closed volumes, or that for copies, is another one from some call on: nothing changes in that."""
+        copies = self.path("copies")
+        os.mkdir(copies)
+        self.init("--copies", copies)
+        self.do("add", self.source, "--at", "/x")
+        for end in (".img", ".img.new", ".info", ".log", ".log.new", ".sha256", ".svg", ".svg.new"):
+            write(os.path.join(self.outside, "T-000001" + end), b"of somebody")
+        before = picture(self.outside)
+        kept = self.path("kept")
+        for folder in ("archive", "copies"):
+            shutil.copytree(self.path(folder), os.path.join(kept, folder))
+        for turned in (Turned(self.path("archive", "closed"), self.outside), Turned(copies, self.outside)):
+            count = self.run_at(0, turned, "close")
+            for at in range(1, count, max(count // 25, 1)):
+                for folder in ("archive", "copies"):
+                    path = self.path(folder)
+                    shutil.rmtree(path)
+                    shutil.copytree(os.path.join(kept, folder), path)
+                turned.back()
+                self.run_at(at, turned, "close")
+                self.assertEqual(picture(self.outside), before, (turned.path, at))
+                turned.back()
+
 
 class Odd(WithArchive):
     def setUp(self) -> None:

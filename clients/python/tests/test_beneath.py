@@ -8,9 +8,10 @@ import shutil
 import stat
 import tempfile
 import unittest
+from contextlib import suppress
 from typing import Callable, List
 
-from udfburn import errors as e
+from udfburn import errors as e, own_files
 from udfburn.beneath import Names, NotFollowed, Place, Root, folder_mode, mode_for, open_from_top, open_given, open_own, place_of
 
 from .swaps import Swap, Turned, picture
@@ -29,7 +30,7 @@ class WithTree(unittest.TestCase):
         """A folder with files, and another one with files of the same names."""
         for folder in (self.tree, self.outside):
             shutil.rmtree(folder, ignore_errors=True)
-        for path, data in (("tree/d/e/f", b"own"), ("tree/g", b"own too"), ("outside/e/f", SECRET), ("outside/f", SECRET), ("outside/g", SECRET)):
+        for path, data in (("tree/d/e/f", b"own"), ("tree/g", b"own too"), ("outside/e/f", SECRET), ("outside/f", SECRET), ("outside/g", SECRET), ("outside/f.new", SECRET), ("outside/e/f.new", SECRET)):
             os.makedirs(os.path.dirname(os.path.join(self.room, path)), exist_ok=True)
             with open(os.path.join(self.room, path), "wb") as file:
                 file.write(data)
@@ -140,6 +141,34 @@ class Below(WithTree):
         with self.assertRaises(NotFollowed):
             open_from_top(os.path.join(self.tree, "link/e/f"))
 
+    def test_own_files(self) -> None:
+        """They are made, copied, moved and removed by their whole paths, in which no link is followed."""
+        old, new, link = (os.path.join(self.tree, *names) for names in (("d", "e", "f"), ("d", "new"), ("link", "new")))
+        os.symlink("d", os.path.join(self.tree, "link"))
+        own_files.new(new, 0o640)
+        self.assertEqual((os.path.getsize(new), stat.S_IMODE(os.stat(new).st_mode)), (0, 0o640))
+        told: List[int] = []
+        with own_files.from_top(new) as place:
+            own_files.copy(old, place, told=told.append)
+        for path in (old, new):
+            with open(path, "rb") as file:
+                self.assertEqual(len(file.read()), sum(told))
+        own_files.set_mode(new, 0o400)
+        own_files.move(new, old)
+        self.assertFalse(os.path.exists(new))
+        self.assertEqual(stat.S_IMODE(os.stat(old).st_mode), 0o400)
+        own_files.new(new, 0o600)
+        calls: List[Callable[[], object]] = [
+            lambda: own_files.new(link, 0o600), lambda: own_files.remove(link), lambda: own_files.move(link, old), lambda: own_files.move(new, link + "er"),
+            lambda: own_files.set_mode(link, 0o666),
+        ]
+        for does in calls:
+            with self.assertRaises(NotFollowed):
+                does()
+        own_files.remove(new)
+        own_files.remove(new)
+        self.assertEqual(sorted(os.listdir(os.path.join(self.tree, "d"))), ["e"])
+
     def test_modes(self) -> None:
         for name, mode, wanted in (("a", 0o644, 0o644), ("b", 0o600, 0o600), ("c", 0o440, 0o640), ("d", 0o777, 0o666)):
             path = os.path.join(self.room, name)
@@ -178,6 +207,20 @@ class Races(WithTree):
         tried(lambda: read.append(self.opened(open_from_top(os.path.join(self.tree, "d/e/f")))))
         return read
 
+    def by_whole_paths(self) -> None:
+        """All that is done to files in the folder of an archive."""
+        def tried(does: Callable[[], object]) -> None:
+            with suppress(OSError):
+                does()
+
+        path = os.path.join(self.tree, "d/e/f")
+        tried(lambda: own_files.new(path + ".new", 0o600))
+        tried(lambda: own_files.set_mode(path + ".new", 0o666))
+        tried(lambda: own_files.move(path + ".new", os.path.join(self.tree, "g")))
+        with own_files.from_top(path + ".new") as place:
+            tried(lambda: own_files.copy(os.path.join(self.tree, "g"), place))
+        tried(lambda: own_files.remove(path))
+
     def opened(self, descriptor: int) -> bytes:
         with open(descriptor, "rb") as file:
             return file.read()
@@ -194,6 +237,17 @@ class Races(WithTree):
                     with Swap(at, turned.forth, None if stays else turned.back):
                         self.assertNotIn(SECRET, self.everything(), (name, at))
                     self.assertEqual(picture(self.outside), before, (name, at))
+
+    def test_whole_paths_at_each_call(self) -> None:
+        with Swap() as counted:
+            self.by_whole_paths()
+        for name, to in (("d", "outside"), ("d/e", "outside"), ("d/e/f", "outside/f"), ("d/e/f.new", "outside/g")):
+            for at in range(1, counted.calls + 1):
+                self.fresh()
+                before, turned = picture(self.outside), Turned(os.path.join(self.tree, name), os.path.join(self.room, to))
+                with Swap(at, turned.forth):
+                    self.by_whole_paths()
+                self.assertEqual(picture(self.outside), before, (name, at))
 
 
 if __name__ == "__main__":

@@ -220,6 +220,18 @@ class Root:
         with self.at(names[:-1]) as descriptor:
             os.replace(plain(names[-1]), plain(name), src_dir_fd=descriptor, dst_dir_fd=descriptor)
 
+    def move(self, names: Names, to: Names) -> None:
+        """Gives a file another name, maybe in another folder, in the place of what has that. Both folders are durable then."""
+        with self.at(names[:-1]) as descriptor:
+            first = os.dup(descriptor)
+        try:
+            with self.at(to[:-1]) as second:
+                os.replace(plain(names[-1]), plain(to[-1]), src_dir_fd=first, dst_dir_fd=second)
+                sync_folder(second)
+            sync_folder(first)
+        finally:
+            os.close(first)
+
     def link(self, names: Names, name: str) -> None:
         """Gives a file a second name in its folder, which nothing has yet."""
         with self.at(names[:-1]) as descriptor:
@@ -246,6 +258,11 @@ class Place(NamedTuple):
     def local(self) -> str:
         """Its path, to be shown to people."""
         return self.root.local(self.names)
+
+    def unlink(self) -> None:
+        """Removes it, where it is there."""
+        with suppress(FileNotFoundError):
+            self.root.unlink(self.names)
 
 
 def place_of(path: str, roots: Optional[Dict[str, Root]] = None) -> Place:
@@ -329,7 +346,12 @@ def named(error: OSError, name: str, above: int) -> OSError:
 def open_from_top(path: str) -> int:
     """Opens a regular file by a path from the top of the system that has no links."""
     with Root.open(os.sep) as root:
-        return root.open_file(tuple(name for name in path.split(os.sep) if name), keep_access_time=True)
+        return root.open_file(names_from_top(path), keep_access_time=True)
+
+
+def names_from_top(path: str) -> Names:
+    """The names of a path from the top of the system."""
+    return tuple(name for name in path.split(os.sep) if name)
 
 
 def open_given(path: str, flags: int = os.O_RDONLY) -> int:
@@ -414,41 +436,6 @@ def is_there(path: str) -> bool:
     return os.path.lexists(path)
 
 
-def set_own_mode(path: str, mode: int) -> None:
-    """Sets the mode of a regular file of a folder that the user named, which may be no link."""
-    descriptor = open_own(path)
-    try:
-        os.fchmod(descriptor, mode)
-    finally:
-        os.close(descriptor)
-
-
-def copy_own(source: str, target: str, most: Optional[int] = None) -> None:
-    """Copies a regular file, or so many of its bytes, to a new one, in the place of what has its name. Nobody may read that who may not
-    read the first, and it has the same times."""
-    with open(open_own(source), "rb") as old:
-        root, names = place_of(target)
-        with root:
-            with suppress(FileNotFoundError):
-                root.unlink(names)
-            with open(root.new_file(names, mode_for(os.fstat(old.fileno()))), "wb") as new:
-                copy_bytes(old.fileno(), new.fileno(), most)
-                status = os.fstat(old.fileno())
-                os.utime(new.fileno(), ns=(status.st_atime_ns, status.st_mtime_ns))
-
-
-def copy_bytes(old: int, new: int, most: Optional[int] = None) -> None:
-    """Copies the bytes of an open file, or so many of them at most, to another one."""
-    left = os.fstat(old).st_size if most is None else most
-    while left:
-        piece = os.read(old, min(left, PIECE))
-        if not piece:
-            return
-        left -= len(piece)
-        while piece:
-            piece = piece[os.write(new, piece) :]
-
-
 # ---- permissions
 
 def mode_for(*statuses: Optional[os.stat_result]) -> int:
@@ -473,5 +460,5 @@ def folder_mode(mode: int) -> int:
 
 
 __all__ = [
-    "Names", "NotFollowed", "Place", "Root", "copy_bytes", "copy_own", "folder_mode", "is_own", "is_there", "mode_for", "new_given", "open_from_top", "open_given", "open_medium", "open_own", "place_of", "remove_empty", "set_own_mode", "status_given",
+    "Names", "NotFollowed", "Place", "Root", "folder_mode", "is_own", "is_there", "mode_for", "names_from_top", "new_given", "open_from_top", "open_given", "open_medium", "open_own", "place_of", "remove_empty", "status_given",
 ]

@@ -71,6 +71,8 @@ class Progress:
         self.files = self.bytes = self.done_files = self.done_bytes = 0
         self.began = self.shown = time.monotonic()
         self.tqdm: Any = None
+        self.what = ""
+        """What is being done now, where the bar is not of files."""
         self.failures: List[str] = []
         self.outcome: Dict[str, object] = {}
 
@@ -137,7 +139,7 @@ class Progress:
     def _draw(self, count: int) -> None:
         if self.tqdm is not None:
             self.tqdm.update(count)
-            self.tqdm.set_postfix_str(f"{self.done_files} of {self.files} files", refresh=False)
+            self.tqdm.set_postfix_str(f"{self.done_files} of {self.files} files" if self.files else self.what, refresh=False)
             return
         now = time.monotonic()
         if now - self.shown < 0.1:
@@ -155,28 +157,38 @@ class Progress:
         self.errors.flush()
 
     def line(self, now: float) -> str:
-        """The bar: files, bytes, rate and time left."""
+        """The bar: files, bytes, rate and time left; or, where files are not counted, what is being done, last, since a narrow terminal shows
+        only the beginning."""
         seconds = max(now - self.began, 1e-6)
         part = min(self.done_bytes / self.bytes, 1.0) if self.bytes else 1.0
         rate = self.done_bytes / seconds
-        left = clock((self.bytes - self.done_bytes) / rate) if rate else "-:--"
+        left = clock(max(self.bytes - self.done_bytes, 0) / rate) if rate else "-:--"
         filled = int(part * BAR)
+        files = f"  {self.done_files} of {self.files} files" if self.files else ""
         return (
-            f"[{'#' * filled}{'.' * (BAR - filled)}] {part:4.0%}  {self.done_files} of {self.files} files"
-            f"  {size(self.done_bytes)} of {size(self.bytes)}  {size(rate)}/s  {left} left"
+            f"[{'#' * filled}{'.' * (BAR - filled)}] {part:4.0%}{files}"
+            f"  {size(self.done_bytes)} of {size(self.bytes)}  {size(rate)}/s  {left} left{'  ' * bool(self.what)}{self.what}"
         )
 
-    def end(self) -> None:
-        """Clears the bar."""
+    def clear(self) -> None:
+        """Takes the bar away, so that a line can be printed. The next step shows it again."""
         if self.tqdm is not None:
-            self.tqdm.close()
+            self.tqdm.clear()
         elif self.bar:
             self.errors.write("\r\x1b[K")
             self.errors.flush()
 
+    def end(self) -> None:
+        """Takes the bar away for good."""
+        if self.tqdm is not None:
+            self.tqdm.close()
+            self.tqdm = None
+        else:
+            self.clear()
+
     def say(self, line: str, **fields: object) -> None:
         """Something found or done: a line for people, fields for programs."""
-        self.end()
+        self.clear()
         if self.as_json:
             self._print_json(fields)
         elif not self.quiet:
@@ -184,7 +196,7 @@ class Progress:
 
     def note(self, line: str, **fields: object) -> None:
         """Something that a user should know of, and that is no failure."""
-        self.end()
+        self.clear()
         if self.as_json:
             self._print_json(fields)
         elif not self.quiet:
@@ -192,7 +204,7 @@ class Progress:
 
     def left_out(self, line: str) -> None:
         """Something that was left out, as it was asked for."""
-        self.end()
+        self.clear()
         self._print_error(f"left out: {line}")
         if self.as_json:
             self._print_json({"did": "left out", "message": line})
@@ -200,7 +212,7 @@ class Progress:
     def fail(self, error: object, status: int = 1) -> int:
         """Says what is wrong: on the standard error, and as an object for programs. Gives the status. An error may have several
         lines, a text is one, whatever names are in it."""
-        self.end()
+        self.clear()
         text = str(error)
         self.failures.append(text)
         for line in text.split("\n") if isinstance(error, BaseException) else [text]:
@@ -215,13 +227,13 @@ class Progress:
     def result(self, line: str, **fields: object) -> None:
         """What the command did: a line for people; programs get it with the status, at the end."""
         self.outcome = fields
-        if self.as_json:
-            self.end()
-        else:
+        self.end()
+        if not self.as_json:
             self.say(line)
 
     def finish(self, command: str, status: int) -> None:
         """The end: for programs the last object, which each command has however it ended."""
+        self.end()
         if self.as_json:
             self._print_json({**self.outcome, "did": command, "failures": self.failures, "status": status})
 

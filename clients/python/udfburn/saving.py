@@ -14,7 +14,7 @@ import stat
 from contextlib import contextmanager, suppress
 from typing import Callable, Dict, Iterable, Iterator, List, NamedTuple, Optional
 
-from .beneath import Names, NotFollowed, Root, folder_mode, place_of
+from .beneath import Names, NotFollowed, Place, Root, folder_mode, place_of
 from .disk import is_full, sync_all
 from .errors import DiskFull, SourceError
 from .protocol import shown
@@ -282,10 +282,16 @@ def remove_leftovers(root: Root, at: Names, names: Iterable[str]) -> None:
 
 def save(local: str, parts: Iterable[bytes], moment: Optional[int], force: bool, mode: int = 0o666) -> int:
     """Writes one file whole, and makes its name durable. Gives its bytes."""
+    place = place_of(local)
+    with place.root:
+        return save_at(place, parts, moment, force, mode)
+
+
+def save_at(place: Place, parts: Iterable[bytes], moment: Optional[int], force: bool, mode: int = 0o666) -> int:
+    """The same, below a folder that is open."""
     counts: List[int] = []
-    root, names = place_of(local)
-    with root, Saver(root, force, mode) as saver:
-        saver.save(names, parts, moment, counts.append)
+    with Saver(place.root, force, mode) as saver:
+        saver.save(place.names, parts, moment, counts.append)
         saver.finish()
     if saver.failures:
         raise SourceError(saver.failures[0])
@@ -307,4 +313,4 @@ def require_own(local: str, begin: "tuple[bytes, ...]", what: str) -> None:
     raise SourceError(f"{shown(local)}: already exists, and is not {what} of this command")
 
 
-__all__ = ["Saver", "remove_leftovers", "require_own", "save", "why_not_written"]
+__all__ = ["Saver", "remove_leftovers", "require_own", "save", "save_at", "why_not_written"]

@@ -4,10 +4,10 @@ from __future__ import annotations
 
 import fcntl
 import os
-from contextlib import suppress
+from contextlib import contextmanager, suppress
 from shutil import rmtree
 from tempfile import mkdtemp
-from typing import Optional, Tuple
+from typing import Iterator, Optional, Tuple
 
 
 def own_folder(above: str, prefix: str) -> Tuple[str, Optional[int]]:
@@ -63,4 +63,16 @@ def sweep_one(folder: str) -> None:
             os.close(descriptor)
 
 
-__all__ = ["own_folder", "sweep"]
+@contextmanager
+def room(above: str, prefix: str) -> Iterator[str]:
+    """A new folder, as long as this lasts."""
+    folder, lock = own_folder(above, prefix)
+    try:
+        yield folder
+    finally:
+        rmtree(folder, ignore_errors=True)
+        if lock is not None:
+            os.close(lock)
+
+
+__all__ = ["own_folder", "room", "sweep"]

@@ -6,9 +6,9 @@ import os
 from contextlib import closing, contextmanager
 from typing import Iterator, List, Optional, Tuple
 
-from ..beneath import copy_own, is_own, set_own_mode
-from ..ledger_file import remove, sync_file, sync_folder
+from ..beneath import is_own
 from ..operations import now
+from ..own_files import copy, from_top, move, remove, set_mode
 from ..sources import shown
 from .batch import sound_length
 from .catalogue import CLOSED, FULL, NEW, OPEN, Catalogue, VolumeRow
@@ -109,11 +109,11 @@ def recover(target: str) -> None:
         if not os.path.lexists(path + BEFORE):
             continue
         if both:
-            os.rename(path + BEFORE, path + end)
+            move(path + BEFORE, path + end)
         elif is_there or os.path.lexists(path):
-            os.unlink(path + BEFORE)
+            remove(path + BEFORE)
         else:
-            os.rename(path + BEFORE, path)
+            move(path + BEFORE, path)
 
 
 @contextmanager
@@ -122,17 +122,17 @@ def undone(target: str) -> Iterator[None]:
     copied, moved = files_of(target)
     there = [path for path in copied + moved if os.path.lexists(path)]
     for path in (path for path in copied if path in there):
-        copy_own(path, path + BEFORE)
+        copied_to(path, path + BEFORE)
     # At no moment an image is in place without its tail's length, or with that of another.
     for path in (path for path in reversed(moved) if path in there):
-        os.replace(path, path + BEFORE)
+        move(path, path + BEFORE)
     try:
         yield
     except BaseException:
         for path in [target + ".new", target, *copied]:
             remove(path)
         for path in there:
-            os.replace(path + BEFORE, path)
+            move(path + BEFORE, path)
         raise
     for path in moved + copied:
         remove(path + BEFORE)
@@ -142,15 +142,18 @@ def copy_to(config: Config, image: str, target: str, closed: bool) -> None:
     """Copies an image, and what belongs to a closed one. It gets its name once it is whole and on the disk."""
     new, length = target + ".new", sound_length(image)
     # Where the machine died while it wrote a tail, that is left out.
-    copy_own(image, new, length)
-    sync_file(new)
+    copied_to(image, new, length)
     if print_of_file(new, fresh=True) != print_of_file(image, most=length):
         raise VolumeDiffers(f"{shown(new)}: differs from {shown(image)}: it was written meanwhile, or a disk is failing")
     if closed:
         for end in SIDECARS:
             if is_own(beside(image, end)):
-                copy_own(beside(image, end), beside(target, end))
-                sync_file(beside(target, end))
-        set_own_mode(new, config.mode & 0o444)
-    os.replace(new, target)
-    sync_folder(os.path.dirname(target))
+                copied_to(beside(image, end), beside(target, end))
+        set_mode(new, config.mode & 0o444)
+    move(new, target)
+
+
+def copied_to(source: str, target: str, most: Optional[int] = None) -> None:
+    """Copies a file, or so many of its bytes, into the folder of the archive, in the place of what has its name."""
+    with from_top(target) as place:
+        copy(source, place, most)

@@ -13,8 +13,8 @@ from hashlib import sha256
 from itertools import product
 from typing import List, Optional, Sequence
 
-from ..beneath import NEW, open_own
-from ..ledger_file import sync_file
+from ..beneath import open_own
+from ..own_files import from_top, remove
 from ..protocol import limits
 from .contents import Contents
 from .errors import VolumeDiffers
@@ -46,6 +46,14 @@ def read_at(descriptor: int, count: int, at: int) -> Optional[bytes]:
     return data if len(data) == count else None
 
 
+def write_at(descriptor: int, data: bytes, at: int) -> None:
+    """Writes all of a piece."""
+    view = memoryview(data)
+    while view:
+        count = os.pwrite(descriptor, view, at)
+        view, at = view[count:], at + count
+
+
 def blocks_at(descriptor: int, count: int, at: int) -> List[Optional[bytes]]:
     """The blocks of a piece, one by one where the piece cannot be read as a whole."""
     whole = read_at(descriptor, count, at)
@@ -69,13 +77,14 @@ def compared(descriptors: Sequence[int], length: int, target: int) -> Optional[L
     for at in range(0, length, PIECE):
         count = min(PIECE, length - at)
         pieces = [blocks_at(descriptor, count, at) for descriptor in descriptors]
+        likely: List[bytes] = []
         for index, found in enumerate(zip(*pieces)):
             there = [data for data in found if data is not None]
             if not there:
                 return None
             ordered, decided = likeliest(there)
             place = at + index * limits.BLOCK
-            os.pwrite(target, ordered[0], place)
+            likely.append(ordered[0])
             if len(ordered) > 1:
                 last = runs[-1] if runs else None
                 joined = last is not None and last.at + len(last.variants[0]) == place and len(last.variants) == len(ordered) and last.decided == decided
@@ -84,6 +93,7 @@ def compared(descriptors: Sequence[int], length: int, target: int) -> Optional[L
                     last.variants = [one + two for one, two in zip(last.variants, matched(last, found, ordered, place, descriptors))]
                 else:
                     runs.append(Run(place, ordered, decided))
+        write_at(target, b"".join(likely), at)
     return runs
 
 
@@ -116,7 +126,9 @@ def assembled(images: Sequence[str], wanted: Print, target: str) -> bool:
         descriptors = [open_own(image) for image in images]
         for descriptor in descriptors:
             stack.callback(os.close, descriptor)
-        new = os.open(target, NEW, 0o600)
+        remove(target)
+        place = stack.enter_context(from_top(target))
+        new = place.root.new_file(place.names, 0o600)
         stack.callback(os.close, new)
         runs = compared(descriptors, wanted.length, new)
         if runs is None:
@@ -124,7 +136,7 @@ def assembled(images: Sequence[str], wanted: Print, target: str) -> bool:
         open_runs = [run for run in runs if not run.decided]
         if print_of_file(target) != wanted and not decided(target, new, open_runs, wanted):
             return False
-    sync_file(target)
+        os.fsync(new)
     return print_of_file(target, fresh=True) == wanted
 
 
@@ -137,12 +149,12 @@ def decided(target: str, new: int, runs: List[Run], wanted: Print) -> bool:
         for variant in run.variants[1:]:
             if looks >= LOOKS:
                 break
-            os.pwrite(new, variant, run.at)
+            write_at(new, variant, run.at)
             found, looks = badness(target), looks + 1
             told = told or found != least
             if found < least:
                 least, best = found, variant
-        os.pwrite(new, best, run.at)
+        write_at(new, best, run.at)
         if not told:
             left.append(run)
     choices = 1
@@ -150,7 +162,7 @@ def decided(target: str, new: int, runs: List[Run], wanted: Print) -> bool:
         choices *= len(run.variants)
     for variants in product(*[run.variants for run in left]) if choices <= TRIALS else ():
         for run, variant in zip(left, variants):
-            os.pwrite(new, variant, run.at)
+            write_at(new, variant, run.at)
         if print_of_file(target) == wanted:
             return True
     return print_of_file(target) == wanted

@@ -19,7 +19,8 @@ from typing import IO, Optional, Type
 
 from ..beneath import open_own
 from ..disk import room_left
-from ..ledger_file import remove, sync_folder
+from ..ledger_file import remove
+from ..own_files import from_top
 from ..protocol import limits
 from ..scratch import own_folder, sweep
 from ..sources import shown
@@ -85,8 +86,9 @@ def cut_tail(image: str) -> None:
 
 def forget_tail(image: str) -> None:
     """From now on all of an image counts."""
-    os.unlink(tail_note(image))
-    sync_folder(os.path.dirname(image))
+    with from_top(tail_note(image)) as place:
+        place.unlink()
+        place.root.sync(place.names[:-1])
 
 
 def locked(image: str) -> int:

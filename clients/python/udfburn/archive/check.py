@@ -6,22 +6,22 @@ import os
 import random
 from contextlib import closing, suppress
 from hashlib import sha256
-from tempfile import TemporaryDirectory
 from typing import Any, Dict, List, NamedTuple, Optional, Sequence, Tuple
 
-from ..beneath import is_own, set_own_mode
-from ..ledger_file import remove, sync_file, sync_folder
+from ..beneath import is_own, is_there
 from ..operations import now
-from ..protocol import Path
+from ..own_files import Told, from_top, move, remove, set_mode, untold
+from ..protocol import Path, limits
+from ..scratch import room, sweep
 from ..sources import shown
 from .assemble import assembled
 from .catalogue import CLOSED, DISC, RETIRED, Catalogue, Copy, Held, VolumeRow, image_of, odd_image, part_count
 from .claims import Claims
-from .close import SIDECARS, beside, send
+from .close import SIDECARS, beside, complete, send
 from .config import Config
 from .contents import Contents, File
 from .errors import Claimed, CopyFailed, NotAtHand, VolumeDiffers
-from .remotes import Print, print_of_file, remote_of
+from .remotes import Print, Remote, print_of_file, remote_of
 from .status import loss
 from .tell import Tell, plural, shown_path
 
@@ -69,15 +69,24 @@ class Checker:
 
     def run(self, rows: Sequence[VolumeRow]) -> None:
         """Looks at volumes."""
-        for row in rows:
-            image = image_of(self.config, row) or odd_image(self.config, row)
+        images = [image_of(self.config, row) or odd_image(self.config, row) for row in rows]
+        copies = [self.catalogue.on_remotes(row.number) if self.options.remotes else [] for row in rows]
+        wholes = [self._bytes(row) if image is not None else 0 for row, image in zip(rows, images)]
+        self.tell.begin(0, sum(wholes) + sum((row.length or 0) * len(found) for row, found in zip(rows, copies)))
+        for row, image, whole, found in zip(rows, images, wholes, copies):
             if image is None:
                 self.away.append(row)
             else:
-                self._volume(row, image)
-            if self.options.remotes:
-                for copy in self.catalogue.on_remotes(row.number):
+                with self.tell.portion(whole):
+                    self._volume(row, image)
+            for copy in found:
+                with self.tell.portion(row.length or 0):
                     self._copy(row, copy)
+
+    def _bytes(self, row: VolumeRow) -> int:
+        """The bytes that are read of an image: all of a closed one, and its payload again where each file is compared."""
+        length = row.length or row.blocks * limits.BLOCK
+        return length * ((row.state == CLOSED) + self.options.data)
 
     def _volume(self, row: VolumeRow, image: str) -> None:
         """Looks at a volume at hand, and keeps when, and what was found."""
@@ -96,7 +105,7 @@ class Checker:
     def _trouble(self, row: VolumeRow, image: str) -> Optional[str]:
         if row.state == CLOSED:
             try:
-                found = print_of_file(image, fresh=True)
+                found = print_of_file(image, fresh=True, told=self.tell.passed)
             except OSError as error:
                 return f"cannot be read: {error.strerror or error}"
             if found.length != row.length:
@@ -145,6 +154,7 @@ class Checker:
         same = True
         for node in file.nodes:
             data = contents.volume.read(node).data
+            self.tell.passed(len(data))
             whole.update(data)
             wanted = manifest.pop(node.path, None)
             same = same and wanted in (None, sha256(data).digest())
@@ -160,7 +170,7 @@ class Checker:
         """Looks at a copy on a remote."""
         self.tell.working(f"reading {row.label} on {copy.remote}")
         try:
-            found = remote_of(self.catalogue, copy.remote).look(row.label + ".img")
+            found = remote_of(self.catalogue, copy.remote, self.tell.passed).look(row.label + ".img")
         except CopyFailed as error:
             self.failures.append(f"{row.label}: the copy on {copy.remote} cannot be checked: {error}")
             return
@@ -184,10 +194,10 @@ class Checker:
         return "no copy is known: 'udfburn-client salvage' copies out what is intact"
 
 
-def has_print(image: str, wanted: Print) -> bool:
+def has_print(image: str, wanted: Print, told: Told = untold) -> bool:
     """Whether an image is there, with this length and digest. One that cannot be read has another."""
     try:
-        return is_own(image) and print_of_file(image, fresh=True) == wanted
+        return is_own(image) and print_of_file(image, fresh=True, told=told) == wanted
     except OSError:
         return False
 
@@ -202,6 +212,8 @@ class Repairer:
 
     def run(self, rows: Sequence[VolumeRow]) -> None:
         """Repairs volumes."""
+        sweep(self.config.folder, self.config.room_name("repair"))
+        self.tell.begin(0, sum(map(self._bytes, rows)))
         for row in rows:
             if row.state != CLOSED and image_of(self.config, row) is None:
                 self.failures.append(f"{row.label}: {loss(row, [], self.config)}")
@@ -211,21 +223,37 @@ class Repairer:
                 continue
             try:
                 self.claims.volume(row.number, row.label)
-                self._volume(self.catalogue.volume(row.number) or row)
+                self.tell.working(f"reading {row.label}")
+                with self.tell.portion(self._bytes(row)):
+                    self._volume(self.catalogue.volume(row.number) or row)
             except (Claimed, CopyFailed, OSError) as error:
                 self.failures.append(f"{row.label}: {error}")
+
+    def _bytes(self, row: VolumeRow) -> int:
+        """The bytes that are read in any case: the image, where it is there, and each copy."""
+        return (row.length or 0) * ((image_of(self.config, row) is not None) + len(self.catalogue.on_remotes(row.number)))
+
+    def _remote(self, row: VolumeRow, name: str, what: str) -> Remote:
+        """A remote of which something is read or written."""
+        self.tell.working(f"{what} {row.label} on {name}")
+        return remote_of(self.catalogue, name, self.tell.passed)
 
     def _volume(self, row: VolumeRow) -> None:
         wanted = Print(row.length or 0, row.sha256 or b"")
         image = self.config.path("closed", row.label + ".img")
-        if not has_print(image, wanted):
+        if not has_print(image, wanted, self.tell.passed):
             self._fetch(row, image, wanted)
         if row.trouble:
             self.catalogue.save(row._replace(trouble=None, checked=now()))
         for copy in self.catalogue.on_remotes(row.number):
             try:
-                if remote_of(self.catalogue, copy.remote).look(row.label + ".img") != wanted:
-                    send(self.catalogue, row, image, copy.remote)
+                remote = self._remote(row, copy.remote, "reading")
+                if remote.look(row.label + ".img") == wanted:
+                    complete(remote, image)
+                else:
+                    self.tell.more(2 * wanted.length)
+                    self.tell.working(f"copying {row.label} to {copy.remote}")
+                    send(self.catalogue, row, image, copy.remote, self.tell.passed)
                     self._did(row, f"the copy on {copy.remote}", "the image at hand")
             except CopyFailed as error:
                 self.failures.append(f"{row.label}: the copy on {copy.remote}: {error}")
@@ -237,10 +265,11 @@ class Repairer:
         new = image + ".new"
         why: Dict[str, str] = {}
         for copy in self.catalogue.on_remotes(row.number):
+            self.tell.more(2 * wanted.length)
             try:
-                remote_of(self.catalogue, copy.remote).fetch(row.label + ".img", new)
-                sync_file(new)
-                if print_of_file(new, fresh=True) != wanted:
+                with from_top(new) as place:
+                    self._remote(row, copy.remote, "fetching").fetch(row.label + ".img", place)
+                if print_of_file(new, fresh=True, told=self.tell.passed) != wanted:
                     raise CopyFailed("is not as it was closed")
             except (CopyFailed, OSError) as error:
                 why[copy.remote] = str(error)
@@ -249,8 +278,7 @@ class Repairer:
             self._fetch_sidecars(row, image, copy.remote)
             self._did(row, "the image", copy.remote)
             return
-        if os.path.lexists(new):
-            os.unlink(new)
+        remove(new)
         if self._assemble(row, image, wanted):
             return
         told = "; ".join(f"{remote}: {text}" for remote, text in why.items())
@@ -265,15 +293,15 @@ class Repairer:
     def _assemble(self, row: VolumeRow, image: str, wanted: Print) -> bool:
         """Makes the image of several that are damaged, each of which has blocks that others lack. Whether that was done."""
         new, base = image + ".new", row.label + ".img"
-        with TemporaryDirectory(prefix=".repair-", dir=self.config.folder) as folder:
+        with room(self.config.folder, self.config.room_name("repair")) as folder:
             damaged = [image] if is_own(image) else []
             for index, copy in enumerate(self.catalogue.on_remotes(row.number)):
-                remote = remote_of(self.catalogue, copy.remote)
-                path = remote.path_of(base)
+                path = remote_of(self.catalogue, copy.remote).path_of(base)
                 if path is None:
                     path = os.path.join(folder, str(index))
-                    with suppress(CopyFailed):
-                        remote.fetch(base, path)
+                    with suppress(CopyFailed), from_top(path) as place:
+                        self.tell.more(wanted.length)
+                        self._remote(row, copy.remote, "fetching").fetch(base, place)
                 damaged += [path] if is_own(path) else []
             self.tell.working(f"comparing {plural(len(damaged), 'image', 'images')} of {row.label}")
             if len(damaged) < 2 or not assembled(damaged, wanted, new):
@@ -284,20 +312,20 @@ class Repairer:
         return True
 
     def _put(self, image: str, new: str) -> None:
-        if os.path.lexists(image):
-            os.replace(image, f"{image}.damaged-{now()}")
-        set_own_mode(new, self.config.mode & 0o444)
-        os.rename(new, image)
-        sync_folder(os.path.dirname(image))
+        if is_there(image):
+            move(image, f"{image}.damaged-{now()}")
+        set_mode(new, self.config.mode & 0o444)
+        move(new, image)
 
     def _fetch_sidecars(self, row: VolumeRow, image: str, remote: str) -> None:
         """Takes the files beside the image too, where they are missing."""
         for end in SIDECARS:
             path = beside(image, end)
-            if not os.path.lexists(path):
+            if not is_there(path):
                 try:
-                    remote_of(self.catalogue, remote).fetch(os.path.basename(path), path + ".new")
-                    os.rename(path + ".new", path)
+                    with from_top(path + ".new") as place:
+                        remote_of(self.catalogue, remote).fetch(os.path.basename(path), place)
+                    move(path + ".new", path)
                 except (CopyFailed, OSError) as error:
                     self.tell.note(f"{shown(path)}: {error}", did="not repaired", path=path)
 

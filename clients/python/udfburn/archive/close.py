@@ -13,11 +13,11 @@ from hashlib import sha256
 from tempfile import TemporaryDirectory
 from typing import Dict, List, Mapping, NamedTuple, Optional, Sequence, Tuple
 
-from ..beneath import is_own, open_own
+from ..beneath import is_own, open_own, place_of
 from ..connection import find_program, run_program
-from ..ledger_file import sync_file, sync_folder
 from ..manifest import BAG_DECLARATION, BAG_INFO, DECLARATION, MANIFEST, PAYLOAD, TAG_MANIFEST, Line, bag_manifest
 from ..operations import Operation, now
+from ..own_files import Told, move, remove, untold
 from ..protocol import Code, Create, Path, Remove, Replace, limits
 from ..sources import shown
 from .bag import info, tag_manifest
@@ -29,6 +29,9 @@ from .errors import ArchiveError, CopyFailed, NotAtHand, VolumeDiffers
 from .remotes import Print, Remote, print_of_file, remote_of
 from .tell import Tell, plural, shown_path, stamp
 from .volume import OpenVolume
+
+READ_TO_CLOSE, READ_TO_SEND = 3, 2
+"""How often the bytes of an image are read or written to close it, and for each copy."""
 
 SIDECARS = (".sha256", ".info", ".log", ".svg")
 """The files beside a closed image: its digest in the form of sha256sum, what is known of it, its commits, its map."""
@@ -62,8 +65,20 @@ class Closer:
         self.failures: List[str] = []
         self.closed = self.copied = 0
 
-    def close(self, row: VolumeRow) -> None:
+    def run(self, row: VolumeRow) -> None:
         """Closes a volume and sends it, as far as that is not done."""
+        with self.tell.portion(self.bytes_of(row)):
+            self._run(row)
+
+    def bytes_of(self, row: VolumeRow) -> int:
+        """The bytes that are read and written for a volume, as far as that is known ahead: its payload, the image twice, and for each copy
+        that is sent the image twice."""
+        image = image_of(self.config, row)
+        if image is None:
+            return 0
+        return os.path.getsize(image) * ((READ_TO_CLOSE if row.state != CLOSED else 0) + READ_TO_SEND * len(self._lacking(row)))
+
+    def _run(self, row: VolumeRow) -> None:
         # Two processes that send to one remote would take each other's copies away.
         if row.state != CLOSED or self._lacking(row):
             self.claims.volume(row.number, row.label)
@@ -95,13 +110,11 @@ class Closer:
                 self._end(source, contents)
                 self._keep_beside(source, target, contents)
             # The image comes last, so what is in the folder `closed` has all that belongs to it.
-            os.rename(source, target)
-            sync_folder(os.path.dirname(target))
-            sync_folder(os.path.dirname(source))
+            move(source, target)
         elif not os.path.isfile(target):
             raise NotAtHand(f"{row.label}: its image is missing: put it back into the folder 'open' of the archive")
         length, digest = sidecar(target)
-        found = print_of_file(target, fresh=True)
+        found = print_of_file(target, fresh=True, told=self.tell.passed)
         if found != Print(length, digest):
             raise VolumeDiffers(f"{shown(target)}: is not as it was closed: its length or SHA-256 differs")
         with closing(Contents(target)) as contents:
@@ -141,7 +154,7 @@ class Closer:
     def _tag_files(self, volume: OpenVolume, contents: Contents) -> Dict[str, bytes]:
         """The tag files by their names, in the order in which they are written. Digests are of the bytes that the volume has, and
         agree with those of the catalogue."""
-        found = read_payload(contents, self.catalogue.of_volume(volume.row.number), volume.sent())
+        found = read_payload(contents, self.catalogue.of_volume(volume.row.number), volume.sent(), self.tell.passed)
         if found.damaged:
             first, count = shown_path(found.damaged[0].path), plural(len(found.damaged), "file is not as it was", "files are not as they were")
             raise VolumeDiffers(
@@ -204,7 +217,7 @@ class Closer:
         """Writes the files beside the image, where it will be."""
         from ..map import draw_map
 
-        found = print_of_file(image, fresh=True)
+        found = print_of_file(image, fresh=True, told=self.tell.passed)
         about, commits, closed = contents.about(), contents.last_commit, contents.closed()
         name = os.path.basename(target)
         text = (
@@ -216,14 +229,12 @@ class Closer:
         write_file(beside(target, ".log"), run_program(self.program, ["log", image]), mode)
         write_file(beside(target, ".svg"), draw_map(image, self.program).encode(), mode)
         write_file(beside(target, ".info"), text.encode(), mode)
-        sync_file(beside(target, ".info"))
 
     def _forget_ledger(self, row: VolumeRow) -> None:
         """A closed volume takes no more requests, so its ledger has nothing left to say."""
         ledger = self.config.path("open", row.label + ".ledger")
         for end in ("", "-wal", "-shm", ".lock"):
-            if os.path.lexists(ledger + end):
-                os.unlink(ledger + end)
+            remove(ledger + end)
 
     # ---- sent
 
@@ -241,7 +252,7 @@ class Closer:
                 continue
             self.tell.working(f"copying {row.label} to {name}")
             try:
-                send(self.catalogue, row, image, name)
+                send(self.catalogue, row, image, name, self.tell.passed)
             except CopyFailed as error:
                 self.failures.append(f"{row.label}: is not on {name}: {error}")
                 continue
@@ -259,7 +270,7 @@ class Payload(NamedTuple):
     damaged: List[File]
 
 
-def read_payload(contents: Contents, rows: Sequence[Held], sent: Mapping[int, bytes]) -> Payload:
+def read_payload(contents: Contents, rows: Sequence[Held], sent: Mapping[int, bytes], told: Told = untold) -> Payload:
     """Reads every byte of a payload. Files that are whole on the volume are compared with the catalogue's digests, and parts of others
     with those of what was sent, by their commits."""
     known = {held.commit: held for held in rows}
@@ -273,6 +284,7 @@ def read_payload(contents: Contents, rows: Sequence[Held], sent: Mapping[int, by
             whole.update(data)
             digests[node.path] = sha256(data).digest()
             size += len(data)
+            told(len(data))
         if contents.has_all(file):
             same = file.commit not in known or known[file.commit].sha256 == whole.digest()
         else:
@@ -287,9 +299,9 @@ def read_payload(contents: Contents, rows: Sequence[Held], sent: Mapping[int, by
     return Payload([Line(digests[node.path], node.path) for node in contents.payload()], size, damaged)
 
 
-def send(catalogue: Catalogue, row: VolumeRow, image: str, name: str) -> None:
+def send(catalogue: Catalogue, row: VolumeRow, image: str, name: str, told: Told = untold) -> None:
     """Copies a closed volume to a remote, the image first, where it is not there; and compares all its bytes as they are there."""
-    remote, wanted = remote_of(catalogue, name), Print(row.length or 0, row.sha256 or b"")
+    remote, wanted = remote_of(catalogue, name, told), Print(row.length or 0, row.sha256 or b"")
     base = os.path.basename(image)
     remote.require_own()
     if remote.is_file(image, base):
@@ -300,9 +312,22 @@ def send(catalogue: Catalogue, row: VolumeRow, image: str, name: str) -> None:
         found = remote.look(base)
         if found != wanted:
             raise CopyFailed(f"what arrived is not what was sent, by its {'SHA-256' if found and found.length == wanted.length else 'length'}")
-    for end in SIDECARS:
-        if is_own(beside(image, end)):
-            remote.send(beside(image, end), os.path.basename(beside(image, end)))
+    for path in own_sidecars(image):
+        remote.send(path, os.path.basename(path))
+
+
+def own_sidecars(image: str) -> List[str]:
+    """The files that are beside an image, and are regular ones."""
+    return [beside(image, end) for end in SIDECARS if is_own(beside(image, end))]
+
+
+def complete(remote: Remote, image: str) -> None:
+    """Sends what belongs to an image whose copy is good, where it is not there, or a run that was killed has left its beginning."""
+    there = set(remote.names())
+    for path in own_sidecars(image):
+        name = os.path.basename(path)
+        if name not in there or name + ".new" in there:
+            remote.send(path, name)
 
 
 def require_no_other(remote: Remote, row: VolumeRow) -> None:
@@ -312,7 +337,7 @@ def require_no_other(remote: Remote, row: VolumeRow) -> None:
         return
     with TemporaryDirectory() as folder:
         there = os.path.join(folder, name)
-        remote.fetch(name, there)
+        remote.fetch(name, place_of(there))
         with open(there, "rb") as file:
             digest = read_fields(file.read()).get("sha256")
     if digest not in (None, (row.sha256 or b"").hex()):

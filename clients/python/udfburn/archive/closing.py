@@ -32,9 +32,11 @@ def close(arguments: argparse.Namespace) -> int:
     config, tell = config_of(arguments), tell_of(arguments)
     with Catalogue(config) as catalogue, closing(claims_of(catalogue.base, config.path("locks"), config.catalogue)) as claims:
         closer = Closer(config, catalogue, claims, tell, arguments.without_damaged)
-        for row in to_close(config, catalogue, arguments.volume, arguments.full):
+        rows = to_close(config, catalogue, arguments.volume, arguments.full)
+        tell.begin(0, sum(map(closer.bytes_of, rows)))
+        for row in rows:
             try:
-                closer.close(row)
+                closer.run(row)
             except (ArchiveError, OSError) as error:
                 if isinstance(error, Claimed) and not arguments.volume:
                     left = "left open" if row.state != CLOSED else "left to that one"

@@ -11,9 +11,10 @@ from typing import Any, Dict, Iterable, List, NamedTuple, Optional, Set, Tuple
 
 from ..beneath import open_given
 from ..ledger_file import make_folder
+from ..own_files import from_top
 from ..protocol import is_bytes, limits
 from ..protocol.names import name_fault, spelled_size
-from ..saving import save
+from ..saving import save_at
 from ..sources import shown
 from .errors import BadConfig, NoArchive
 
@@ -57,6 +58,10 @@ class Config(NamedTuple):
     def path(self, *names: str) -> str:
         """A path in the archive's folder."""
         return os.path.join(self.folder, *names)
+
+    def room_name(self, command: str) -> str:
+        """How the names of folders begin that a command of this archive makes in its folder for a while."""
+        return f".{command}-{self.id}-"
 
     def sqlite(self) -> Optional[str]:
         """The file of the catalogue, where it is one."""
@@ -265,7 +270,8 @@ def write(config: Config) -> None:
 
 def write_file(path: str, data: bytes, mode: int = 0o666) -> None:
     """Writes a file that has its name once it is whole and on the disk. It has at most the permissions of the mode."""
-    save(path, [data], None, True, mode)
+    with from_top(path) as place:
+        save_at(place, [data], None, True, mode)
 
 
 def strange(folder: str) -> List[str]:

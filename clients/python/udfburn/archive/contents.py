@@ -92,6 +92,17 @@ def read_about(data: bytes, where: str) -> About:
         raise VolumeDiffers(f"{where}: {ABOUT} does not name its archive, label and volume") from error
 
 
+def about_of(image: str) -> Optional[About]:
+    """What an image says of itself, of which hardly more is read; None where it is no volume, or cannot be read."""
+    try:
+        with Medium(image) as medium:
+            volume = Volume(medium)
+            node = volume.state().find((ABOUT,))
+            return read_about(volume.read(node).data, image) if node is not None else None
+    except (NoVolume, VolumeDiffers, ValueError, OverflowError, RecursionError, OSError):
+        return None
+
+
 class Contents:
     """A volume, as it was when it was opened. Closed by `close`, or at the end of `with`."""
 

@@ -8,14 +8,14 @@ from __future__ import annotations
 
 import argparse
 import os
-from contextlib import closing, suppress
+from contextlib import closing
 from typing import List, Optional, Tuple
 
 from ..burning import Say, burned, ends_well, look_at, opened, path_of, read_back, read_from, require_drive, require_other, take_in_again
 from ..errors import DiscFailed, UsageError
 from ..finish import track_of
-from ..ledger_file import sync_file
 from ..operations import now
+from ..own_files import from_top, remove
 from ..progress import printable
 from ..protocol import limits
 from ..sources import shown
@@ -195,19 +195,19 @@ class DiscRepairer(Repairer):
     def _fetch(self, row: VolumeRow, image: str, wanted: Print) -> None:
         require_volume(self.device, row)
         new = image + ".new"
-        if os.path.lexists(new):
-            os.unlink(new)
+        remove(new)
         try:
-            # No link that somebody puts there meanwhile is followed.
-            with open(os.open(new, os.O_WRONLY | os.O_CREAT | os.O_EXCL | os.O_NOFOLLOW | os.O_CLOEXEC, 0o600), "wb") as file:
+            with from_top(new) as place:
+                descriptor = place.root.new_file(place.names, 0o600)
+            with open(descriptor, "wb") as file:
                 for piece in read_from(self.device, wanted.length):
                     file.write(piece)
-            sync_file(new)
+                file.flush()
+                os.fsync(descriptor)
             if print_of_file(new, fresh=True) != wanted:
                 raise CopyFailed(f"{self.name}: is not as it was burned: 'udfburn-client salvage' copies out what is intact")
         except BaseException:
-            with suppress(FileNotFoundError):
-                os.unlink(new)
+            remove(new)
             raise
         self._put(image, new)
         self._did(row, "the image", f"the disc {self.name}")

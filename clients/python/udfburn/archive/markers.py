@@ -6,15 +6,20 @@ Where no disk is mounted the folder is an empty one of another disk, often the a
 from __future__ import annotations
 
 import os
-from contextlib import contextmanager
-from typing import Iterator, NamedTuple
+import re
+from contextlib import contextmanager, suppress
+from typing import Dict, Iterator, NamedTuple, Set
 
+from ..beneath import Root
 from ..sources import shown
-from .contents import read_fields
+from .contents import ARCHIVE, read_fields
 from .errors import CopyFailed
 
 TITLE = "udfburn-archive copies 1"
 """The first line of a marker."""
+
+NAME = re.compile(f"udfburn-archive-({ARCHIVE.pattern})[.]txt")
+"""The names of markers."""
 
 LONGEST = 4096
 """Bytes of a marker that are read."""
@@ -43,39 +48,40 @@ def marker_text(owner: Owner) -> bytes:
     ).encode()
 
 
-def is_same_device(owner: Owner, descriptor: int) -> bool:
+def is_same_device(owner: Owner, root: Root) -> bool:
     """Whether a folder is on the file system of the archive's own."""
-    return os.fstat(descriptor).st_dev == os.stat(owner.folder).st_dev
+    return root.status(()).st_dev == os.stat(owner.folder).st_dev
 
 
 @contextmanager
-def opened(folder: str) -> Iterator[int]:
-    """A descriptor of a folder for copies. `CopyFailed` where it is not there, or the system refuses what is done with it."""
+def opened(folder: str) -> Iterator[Root]:
+    """A folder for copies. `CopyFailed` where it is not there, or the system refuses what is done with it."""
     try:
-        descriptor = os.open(folder, os.O_RDONLY | os.O_DIRECTORY | os.O_CLOEXEC)
+        root = Root.open(folder)
     except (FileNotFoundError, NotADirectoryError):
         raise CopyFailed(f"{shown(folder)}: is not there: mount it, or make the folder") from None
     except OSError as error:
         raise CopyFailed(f"{shown(folder)}: {error.strerror or error}") from error
-    try:
-        yield descriptor
-    except OSError as error:
-        raise CopyFailed(f"{shown(folder)}: {error.strerror or error}") from error
-    finally:
-        os.close(descriptor)
+    with root:
+        try:
+            yield root
+        except OSError as error:
+            raise CopyFailed(f"{shown(folder)}: {error.strerror or error}") from error
 
 
-def marked(id: str, descriptor: int) -> bool:
+def marked(id: str, root: Root) -> bool:
     """Whether a folder has the marker of an archive."""
     try:
-        file = os.open(marker_name(id), os.O_RDONLY | os.O_NOFOLLOW | os.O_NONBLOCK | os.O_CLOEXEC, dir_fd=descriptor)
+        return read_marker(root, marker_name(id)).get("archive") == id
     except FileNotFoundError:
         return False
-    try:
-        data = os.read(file, LONGEST)
-    finally:
-        os.close(file)
-    return data.startswith(TITLE.encode() + b"\n") and read_fields(data).get("archive") == id
+
+
+def read_marker(root: Root, name: str) -> Dict[str, str]:
+    """The fields of a marker; none where it is no marker."""
+    with open(root.open_file((name,)), "rb") as file:
+        data = file.read(LONGEST)
+    return read_fields(data) if data.startswith(TITLE.encode() + b"\n") else {}
 
 
 SAME = "is on the same disk as the archive, so its copies are lost with it: mount another disk there. If this is what you want"
@@ -90,48 +96,64 @@ def require_outside(owner: Owner, folder: str) -> None:
 
 def require_place(owner: Owner, folder: str) -> None:
     """Raises where a folder is not there, or copies in it would be lost with the archive's own."""
-    with opened(folder) as descriptor:
+    with opened(folder) as root:
         require_outside(owner, folder)
-        if is_same_device(owner, descriptor) and not owner.same_device:
+        if is_same_device(owner, root) and not owner.same_device:
             raise CopyFailed(f"{shown(folder)}: {SAME}, use --same-device")
 
 
-def require_own(owner: Owner, folder: str) -> None:
+def require_own(owner: Owner, root: Root) -> None:
     """Raises where a folder takes no copies of this archive now, as where its disk is not mounted."""
-    with opened(folder) as descriptor:
-        require_outside(owner, folder)
-        same = is_same_device(owner, descriptor)
-        words = f"run 'udfburn-archive remote add {shown(folder)}{' --same-device' if same else ''}'"
-        if not marked(owner.id, descriptor):
-            where = "this folder is on the disk of the archive" if same else "this folder has no marker of the archive"
-            raise CopyFailed(f"{shown(folder)}: its disk is not mounted ({where}): mount it. If this is the folder for copies, {words}")
-        if same and not owner.same_device:
-            raise CopyFailed(f"{shown(folder)}: {SAME}, {words}")
+    folder = root.path
+    require_outside(owner, folder)
+    same = is_same_device(owner, root)
+    words = f"run 'udfburn-archive remote add {shown(folder)}{' --same-device' if same else ''}'"
+    if not marked(owner.id, root):
+        where = "this folder is on the disk of the archive" if same else "this folder has no marker of the archive"
+        raise CopyFailed(f"{shown(folder)}: its disk is not mounted ({where}): mount it. If this is the folder for copies, {words}")
+    if same and not owner.same_device:
+        raise CopyFailed(f"{shown(folder)}: {SAME}, {words}")
 
 
 def write_marker(owner: Owner, folder: str) -> None:
     """Has a folder take copies of this archive from now on."""
     name = marker_name(owner.id)
-    with opened(folder) as descriptor:
-        if marked(owner.id, descriptor):
+    new = name + ".new"
+    with opened(folder) as root:
+        if marked(owner.id, root):
             return
-        flags = os.O_WRONLY | os.O_CREAT | os.O_TRUNC | os.O_NOFOLLOW | os.O_NONBLOCK | os.O_CLOEXEC
-        with open(os.open(name + ".new", flags, 0o644, dir_fd=descriptor), "wb") as new:
-            new.write(marker_text(owner))
-            new.flush()
-            os.fsync(new.fileno())
-        os.rename(name + ".new", name, src_dir_fd=descriptor, dst_dir_fd=descriptor)
-        os.fsync(descriptor)
+        with suppress(FileNotFoundError):
+            # A run that was killed left it.
+            root.unlink((new,))
+        descriptor = root.new_file((new,), 0o644)
+        with open(descriptor, "wb") as file:
+            file.write(marker_text(owner))
+            file.flush()
+            os.fsync(descriptor)
+        root.rename((new,), name)
+        root.sync(())
 
 
 def move_marker(owner: Owner, id: str, folder: str) -> None:
     """Has a folder with the marker of an archive take copies under another id: `rebuild` found that the archive is that one."""
-    with opened(folder) as descriptor:
-        if not marked(owner.id, descriptor):
+    with opened(folder) as root:
+        if not marked(owner.id, root):
             return
         write_marker(owner._replace(id=id), folder)
-        os.unlink(marker_name(owner.id), dir_fd=descriptor)
-        os.fsync(descriptor)
+        root.unlink((marker_name(owner.id),))
+        root.sync(())
 
 
-__all__ = ["Owner", "marker_name", "move_marker", "require_own", "require_place", "write_marker"]
+def markers_of(label: str, folder: str) -> Set[str]:
+    """The ids of the archives with a label that have a marker in a folder."""
+    found: Set[str] = set()
+    with opened(folder) as root:
+        for name in root.names_in(()):
+            match = NAME.fullmatch(name)
+            fields = read_marker(root, name) if match else {}
+            if match and (fields.get("archive"), fields.get("label")) == (match.group(1), label):
+                found.add(match.group(1))
+    return found
+
+
+__all__ = ["Owner", "marker_name", "markers_of", "move_marker", "opened", "require_own", "require_place", "write_marker"]

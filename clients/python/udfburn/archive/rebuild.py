@@ -5,26 +5,29 @@ from __future__ import annotations
 import os
 import re
 import signal
-from collections import deque
+from collections import Counter, deque
 from concurrent.futures import Future, ProcessPoolExecutor
 from concurrent.futures.process import BrokenProcessPool
 from contextlib import closing, contextmanager, suppress
 from functools import partial
 from multiprocessing import active_children, get_context, resource_tracker
-from tempfile import TemporaryDirectory
-from typing import Callable, Deque, Dict, Generator, Iterable, Iterator, List, NamedTuple, Optional, Set, Tuple
+from typing import Callable, Deque, Dict, Generator, Iterable, Iterator, List, NamedTuple, Optional, Tuple
 
+from ..beneath import is_own, open_own
 from ..errors import UdfburnError
 from ..operations import now
+from ..own_files import from_top, untold
+from ..protocol import limits
+from ..scratch import room, sweep
 from ..sources import shown
 from .bag import manifest_size
 from .catalogue import CLOSED, CLOSING, FULL, NEW, OPEN, RETIRED, Catalogue, Copy, Held, VolumeRow
 from .claims import claims_of
 from .close import beside, sidecar
 from .config import Config, traces, volume_label
-from .contents import ABOUT, About, Contents
+from .contents import ABOUT, ARCHIVE, About, Contents, about_of, read_fields
 from .errors import ArchiveError, CatalogueError, Claimed, CopyFailed, VolumeDiffers
-from .markers import move_marker
+from .markers import markers_of, move_marker
 from .remake import NOTHING, Kept
 from .remotes import Print, Remote, owner_of, print_of_file, remote_of
 from .tell import Tell, plural, shown_path
@@ -167,12 +170,29 @@ def begin_reading() -> None:
     signal.pthread_sigmask(signal.SIG_UNBLOCK, {signal.SIGINT})
 
 
+def length_of(image: str) -> int:
+    """The bytes of an image, where they are known."""
+    try:
+        return os.path.getsize(image)
+    except OSError:
+        return 0
+
+
+def length_on(remote: Remote, base: str) -> int:
+    """The same on a remote."""
+    try:
+        return remote.length(base) or 0
+    except CopyFailed:
+        return 0
+
+
 def fetched(remote: Remote, base: str, folder: str) -> str:
     """The path of an image that is brought from a remote into a folder, with what is known of it."""
     image = os.path.join(folder, base)
-    remote.fetch(base, image)
-    with suppress(CopyFailed):
-        remote.fetch(os.path.basename(beside(image, ".info")), beside(image, ".info"))
+    with from_top(image) as place:
+        remote.fetch(base, place)
+    with suppress(CopyFailed), from_top(beside(image, ".info")) as place:
+        remote.fetch(os.path.basename(beside(image, ".info")), place)
     return image
 
 
@@ -185,13 +205,16 @@ class Rebuilder:
         self.claims = claims_of(catalogue.base, config.path("locks"), config.catalogue)
         self._seen: Dict[int, Tuple[int, int]] = {}
         """The moment of the format and the last commit of each volume that was read, by its number."""
-        self._remote: Set[int] = set()
-        """Those that were read on a remote."""
+        self._listed: Optional[Dict[str, List[int]]] = None
+        """What remotes have, once they were asked."""
 
     def run(self, others: List[str]) -> Summary:
         """Reads each volume at hand, and has the catalogue say what it says."""
         found = list(images(self.config, others))
+        sweep(self.config.folder, self.config.room_name("rebuild"))
         try:
+            self._choose_archive(found)
+            self.tell.begin(0, sum(length_of(image) for image, _ in found))
             self._all(found)
             if not self.dry_run:
                 self._look_on_remotes()
@@ -210,7 +233,8 @@ class Rebuilder:
             with closing(read_all(self._claimed(found), self.config.id, len(found) > 2)) as volumes:
                 for image, read in volumes:
                     try:
-                        self._one(image, read())
+                        with self.tell.portion(length_of(image)):
+                            self._one(image, read())
                     except CatalogueError:
                         raise
                     except (UdfburnError, ValueError, OverflowError) as error:
@@ -221,34 +245,49 @@ class Rebuilder:
 
     def _look_on_remotes(self) -> None:
         """Volumes that are not at hand may be on a remote: the catalogue learns their files, where it does not know them, and the copies."""
-        own = re.compile(re.escape(self.config.label) + r"-([0-9]{6,9})\.img")
-        for name in self.config.copies:
-            try:
-                remote = remote_of(self.catalogue, name)
-                found = [int(match.group(1)) for match in map(own.fullmatch, sorted(remote.names())) if match]
-            except CopyFailed as error:
-                self.tell.note(f"{name} was not looked at: {error}", did="not looked at", remote=name)
-                continue
-            for number in found:
-                copies = [copy.remote for copy in self.catalogue.copies(number)]
-                if name not in copies and (number not in self._seen or number in self._remote):
-                    self._on_remote(remote, number)
+        wanted = [
+            (remote_of(self.catalogue, name, self.tell.passed), number) for name, numbers in self._on_remotes().items() for number in numbers
+            if number not in self._seen and name not in [copy.remote for copy in self.catalogue.copies(number)]
+        ]
+        lengths = [length_on(remote, self._base(number)) for remote, number in wanted]
+        self.tell.more(sum(lengths))
+        for (remote, number), length in zip(wanted, lengths):
+            with self.tell.portion(length):
+                self._on_remote(remote, number)
+
+    def _base(self, number: int) -> str:
+        """The name of a volume's image."""
+        return volume_label(self.config.label, number) + ".img"
+
+    def _on_remotes(self) -> Dict[str, List[int]]:
+        """The remotes that are there now, and the numbers of the volumes of which each has an image."""
+        if self._listed is None:
+            own = re.compile(re.escape(self.config.label) + r"-([0-9]{6,9})\.img")
+            self._listed = {}
+            for name in self.config.copies:
+                try:
+                    names = sorted(remote_of(self.catalogue, name).names())
+                    self._listed[name] = [int(match.group(1)) for match in map(own.fullmatch, names) if match]
+                except CopyFailed as error:
+                    self.tell.note(f"{name} was not looked at: {error}", did="not looked at", remote=name)
+        return self._listed
 
     def _on_remote(self, remote: Remote, number: int) -> None:
         """Reads a volume that is on a remote, and keeps that it is there."""
-        base = volume_label(self.config.label, number) + ".img"
+        base = self._base(number)
         self.tell.working(f"reading {base} on {remote.name}")
         try:
-            with TemporaryDirectory(prefix=".rebuild-", dir=self.config.folder) as folder:
-                image = remote.path_of(base) or fetched(remote, base, folder)
+            with room(self.config.folder, self.config.room_name("rebuild")) as folder:
+                path = remote.path_of(base)
+                image = path or fetched(remote, base, folder)
                 if number not in self._seen:
                     read = read_volume(image, True, self.config.id)
                     if read is None or read.row.state != CLOSED or read.about.number != number:
                         raise VolumeDiffers(f"{remote.name}: {base}: is not this volume as it was closed, and was left out")
                     self._one(image, read)
-                    self._remote.add(number)
                 row = self.catalogue.volume(number)
-                good = row is not None and print_of_file(image, fresh=True) == Print(row.length or 0, row.sha256 or b"")
+                told = untold if path is None else self.tell.passed
+                good = row is not None and print_of_file(image, fresh=True, told=told) == Print(row.length or 0, row.sha256 or b"")
             self.catalogue.save_copy(Copy(number, remote.name, now(), now(), None if good else "is not as it was closed"))
         except CatalogueError:
             raise
@@ -328,18 +367,65 @@ class Rebuilder:
         return old.state in (CLOSED, RETIRED) or old.holder != self.config.id and row.last_commit < old.last_commit
 
     def _is_ours(self, archive: str) -> bool:
-        """Whether a volume is of this archive. A catalogue that was made anew takes the archive of its first volume."""
-        if archive == self.catalogue.id:
-            return True
-        if self.catalogue.volumes() or self.summary.volumes:
-            return False
+        """Whether a volume is of this archive."""
+        return bool(archive == self.catalogue.id)
+
+    # ---- the archive of a catalogue that was made anew
+
+    def _choose_archive(self, found: List[Tuple[str, bool]]) -> None:
+        """A catalogue that was made anew is that of the archive that most volumes name, of which a folder for copies has a marker where one
+        of them is so marked. The volumes of others are named when they are read."""
+        if self.catalogue.volumes():
+            return
+        votes = Counter(filter(None, (self._archive_of(image) for image, _ in found))) or self._votes_on_remotes()
+        marked = {self.catalogue.id}
+        for folder in filter(os.path.isabs, self.config.copies):
+            with suppress(CopyFailed):
+                marked |= markers_of(self.config.label, folder)
+        weights = {id: (id in marked, count) for id, count in votes.items()}
+        best = [id for id, weight in weights.items() if weight == max(weights.values())]
+        if len(best) > 1:
+            raise ArchiveError(f"there are as many volumes of the archive {best[0]} as of {best[1]}: move those away that are not of this archive")
+        if best and best[0] != self.catalogue.id:
+            self._take_archive(best[0])
+
+    def _archive_of(self, image: str) -> Optional[str]:
+        """The archive that a volume with this archive's label names; None where it is none."""
+        about = about_of(image) if is_own(image) else None
+        return about.archive if about is not None and about.label == self.config.label else None
+
+    def _votes_on_remotes(self) -> "Counter[str]":
+        """The archives that volumes on remotes name, where no image is at hand; of one that cannot be read in its place its `.info` says it."""
+        votes: Counter[str] = Counter()
+        for name, numbers in self._on_remotes().items():
+            remote = remote_of(self.catalogue, name)
+            for number in numbers:
+                base = self._base(number)
+                path = remote.path_of(base)
+                archive = self._archive_of(path) if path is not None else self._archive_by_info(remote, beside(base, ".info"))
+                votes.update([archive] if archive is not None else [])
+        return votes
+
+    def _archive_by_info(self, remote: Remote, name: str) -> Optional[str]:
+        with suppress(CopyFailed, OSError), room(self.config.folder, self.config.room_name("rebuild")) as folder:
+            path = os.path.join(folder, name)
+            with from_top(path) as place:
+                remote.fetch(name, place)
+            with open(open_own(path), "rb") as file:
+                archive = read_fields(file.read(limits.FILE)).get("archive", "")
+            return archive if ARCHIVE.fullmatch(archive) else None
+        return None
+
+    def _take_archive(self, archive: str) -> None:
+        """Has the catalogue be that of an archive, and folders take its copies."""
         if not self.dry_run:
             self.catalogue.base.run("UPDATE archive SET id = ?", (archive,))
             for folder in filter(os.path.isabs, self.config.copies):
                 with suppress(CopyFailed):
                     move_marker(owner_of(self.catalogue), archive, folder)
         self.catalogue.id = archive
-        return True
+
+    # ---- what the catalogue keeps
 
     def _row(self, row: VolumeRow, closed: bool, old: Optional[VolumeRow]) -> VolumeRow:
         """What the volume says of itself; what it cannot say is kept."""

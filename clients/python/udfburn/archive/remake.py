@@ -12,7 +12,8 @@ from shutil import rmtree
 from tempfile import mkdtemp
 from typing import Any, Dict, Iterator, List, NamedTuple, Optional, Sequence, Tuple
 
-from ..ledger_file import sync_folder
+from ..beneath import is_there
+from ..own_files import move
 from ..protocol import limits
 from ..sources import shown
 from .base import SqliteBase
@@ -137,9 +138,8 @@ def open_or_make(config: Config, tell: Tell) -> "Tuple[Catalogue, Kept]":
     aside = f"{path}.damaged-{time.time_ns()}"
     tell.note(f"{shown(path)}: is damaged ({why}); it is kept as {shown(aside)}", did="put aside", path=aside)
     for end in ("-wal", "-shm", ""):
-        if os.path.lexists(path + end):
-            os.rename(path + end, aside + end)
-    sync_folder(os.path.dirname(path))
+        if is_there(path + end):
+            move(path + end, aside + end)
     kept = read_kept(config, aside)
     catalogue = Catalogue(config, make=True)
     if kept.archive is not None:
@@ -159,7 +159,7 @@ def open_to_compare(config: Config, tell: Tell) -> "Tuple[Catalogue, Kept]":
     if why is None:
         return Catalogue(config), NOTHING
     tell.note(f"{shown(path)}: the catalogue cannot be used ({why}): the volumes are compared with an empty one", did="no catalogue", path=path)
-    folder = mkdtemp()
+    folder = os.path.realpath(mkdtemp())
     atexit.register(rmtree, folder, ignore_errors=True)
     return Catalogue(config._replace(catalogue=os.path.join(folder, LOCAL)), make=True), NOTHING
 

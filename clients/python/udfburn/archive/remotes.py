@@ -8,16 +8,17 @@ import os
 import stat
 import subprocess
 from contextlib import suppress
+from functools import partial
 from hashlib import sha256
 from tempfile import TemporaryFile
-from typing import IO, Any, Dict, List, NamedTuple, Optional
+from typing import IO, Any, Dict, Iterator, List, NamedTuple, Optional
 
-from ..beneath import copy_own, open_own
-from ..ledger_file import sync_file, sync_folder
+from ..beneath import Place, open_own
+from ..own_files import Told, copy, untold
 from ..sources import shown
 from .catalogue import Catalogue, DISC
 from .errors import CopyFailed
-from .markers import Owner, require_own
+from .markers import Owner, opened, require_own
 
 PIECE = 1 << 20
 
@@ -36,7 +37,7 @@ UNREADABLE = Print(0, b"")
 """What is said of a file that is there, and of which the disk cannot read all: no file has this."""
 
 
-def print_of(stream: IO[bytes], most: Optional[int] = None) -> Print:
+def print_of(stream: IO[bytes], most: Optional[int] = None, told: Told = untold) -> Print:
     """The length and the digest of what is left of a stream, or of so many bytes at most."""
     whole, count = sha256(), 0
     while True:
@@ -45,14 +46,21 @@ def print_of(stream: IO[bytes], most: Optional[int] = None) -> Print:
             return Print(count, whole.digest())
         whole.update(piece)
         count += len(piece)
+        told(len(piece))
 
 
-def print_of_file(path: str, fresh: bool = False, most: Optional[int] = None) -> Print:
-    """The length and the digest of a file, or of its first bytes; `fresh` reads it from the disk, and not what the system has in memory."""
-    with open(open_own(path), "rb") as file:
+def print_of_open(descriptor: int, fresh: bool = False, most: Optional[int] = None, told: Told = untold) -> Print:
+    """The length and the digest of a file that is open, and closed here, or of its first bytes; `fresh` reads it from the disk, and not what
+    the system has in memory."""
+    with open(descriptor, "rb") as file:
         if fresh:
-            os.posix_fadvise(file.fileno(), 0, 0, os.POSIX_FADV_DONTNEED)
-        return print_of(file, most)
+            os.posix_fadvise(descriptor, 0, 0, os.POSIX_FADV_DONTNEED)
+        return print_of(file, most, told)
+
+
+def print_of_file(path: str, fresh: bool = False, most: Optional[int] = None, told: Told = untold) -> Print:
+    """The same of a regular file."""
+    return print_of_open(open_own(path), fresh, most, told)
 
 
 def is_full(error: OSError) -> bool:
@@ -66,18 +74,24 @@ def failed(path: str, error: OSError) -> CopyFailed:
     return CopyFailed(f"{shown(path)}: {told}")
 
 
-class Remote:
-    """A place for copies. `name` is how `archive.toml` has it."""
+def forget(new: Place) -> None:
+    """Removes what is left of a copy that failed, as far as the disk lets that be done."""
+    with suppress(OSError):
+        new.unlink()
 
-    def __init__(self, name: str):
-        self.name = name
+
+class Remote:
+    """A place for copies. `name` is how `archive.toml` has it, `told` is called with the bytes that were read or written."""
+
+    def __init__(self, name: str, told: Told = untold):
+        self.name, self.told = name, told
 
     def send(self, local: str, name: str) -> None:
         """Copies a file there. It gets its name once it is whole."""
         raise NotImplementedError
 
-    def fetch(self, name: str, local: str) -> None:
-        """Copies a file from there."""
+    def fetch(self, name: str, target: Place) -> None:
+        """Copies a file from there, to a new one in the place of what has its name, and makes its bytes durable."""
         raise NotImplementedError
 
     def look(self, name: str) -> Optional[Print]:
@@ -109,73 +123,69 @@ class Remote:
 
 
 class FolderRemote(Remote):
-    """A folder."""
+    """A folder. It is opened anew for each call, and all is done in the one that was opened, whatever gets its name."""
 
-    def __init__(self, name: str, owner: Owner):
-        super().__init__(name)
+    def __init__(self, name: str, owner: Owner, told: Told = untold):
+        super().__init__(name, told)
         self.owner = owner
 
     def require_own(self) -> None:
-        require_own(self.owner, self.name)
+        with opened(self.name) as root:
+            require_own(self.owner, root)
 
     def path_of(self, name: str) -> Optional[str]:
         return os.path.join(self.name, name)
 
     def names(self) -> List[str]:
-        try:
-            with os.scandir(self.name) as entries:
-                return [entry.name for entry in entries if entry.is_file(follow_symlinks=False)]
-        except OSError as error:
-            raise CopyFailed(f"{shown(self.name)}: {error.strerror or error}") from error
+        with opened(self.name) as root:
+            found = [(name, root.find((name,))) for name in root.names_in(())]
+        return [name for name, status in found if status is not None and stat.S_ISREG(status.st_mode)]
 
     def length(self, name: str) -> Optional[int]:
-        path = os.path.join(self.name, name)
-        try:
-            status = os.lstat(path)
-        except FileNotFoundError:
-            # Of a disk that is not mounted nothing is known.
-            self.require_own()
-            return None
-        except OSError as error:
-            raise CopyFailed(f"{shown(path)}: {error.strerror or error}") from error
+        with opened(self.name) as root:
+            status = root.find((name,))
+            if status is None:
+                # Of a disk that is not mounted nothing is known.
+                require_own(self.owner, root)
+                return None
         if not stat.S_ISREG(status.st_mode):
             # A link may lead to the image, or to another copy.
-            raise CopyFailed(f"{shown(path)}: is no regular file")
+            raise CopyFailed(f"{shown(os.path.join(self.name, name))}: is no regular file")
         return status.st_size
 
     def send(self, local: str, name: str) -> None:
-        target = os.path.join(self.name, name)
-        new = target + ".new"
-        self.require_own()
-        try:
-            copy_own(local, new)
-            sync_file(new)
-            os.replace(new, target)
-            sync_folder(self.name)
-        except OSError as error:
-            with suppress(OSError):
-                os.unlink(new)
-            raise failed(target, error) from error
+        with opened(self.name) as root:
+            # The marker is in the folder that is written to, so nothing is written where no disk is mounted.
+            require_own(self.owner, root)
+            new = Place(root, (name + ".new",))
+            try:
+                copy(local, new, told=self.told)
+                root.rename(new.names, name)
+                root.sync(())
+            except OSError as error:
+                forget(new)
+                raise failed(root.local((name,)), error) from error
 
-    def fetch(self, name: str, local: str) -> None:
+    def fetch(self, name: str, target: Place) -> None:
         try:
-            copy_own(os.path.join(self.name, name), local)
+            copy(os.path.join(self.name, name), target, told=self.told)
         except OSError as error:
-            raise failed(local if is_full(error) else os.path.join(self.name, name), error) from error
+            forget(target)
+            raise failed(target.local() if is_full(error) else os.path.join(self.name, name), error) from error
 
     def look(self, name: str) -> Optional[Print]:
-        path = os.path.join(self.name, name)
-        try:
-            return print_of_file(path, fresh=True)
-        except FileNotFoundError:
-            # Of a disk that is not mounted nothing is known, and nothing is written in its place.
-            self.require_own()
-            return None
-        except OSError as error:
-            if error.errno in (errno.EIO, errno.ELOOP, errno.EINVAL):
-                # It is there, and none of a good copy; as a link or a named pipe is none.
-                return UNREADABLE
-            raise CopyFailed(f"{shown(path)}: {error.strerror or error}") from error
+        with opened(self.name) as root:
+            try:
+                return print_of_open(root.open_file((name,)), fresh=True, told=self.told)
+            except FileNotFoundError:
+                # Of a disk that is not mounted nothing is known, and nothing is written in its place.
+                require_own(self.owner, root)
+                return None
+            except OSError as error:
+                if error.errno in (errno.EIO, errno.ELOOP, errno.EINVAL):
+                    # It is there, and none of a good copy; as a link or a named pipe is none.
+                    return UNREADABLE
+                raise CopyFailed(f"{shown(root.local((name,)))}: {error.strerror or error}") from error
 
     def is_file(self, local: str, name: str) -> bool:
         try:
@@ -207,14 +217,30 @@ class RcloneRemote(Remote):
         new = self._path(name + ".new")
         try:
             self._run(["copyto", "--ignore-times", local, new])
+            self.told(os.path.getsize(local))
             self._run(["moveto", new, self._path(name)])
         except CopyFailed:
             with suppress(CopyFailed):
                 self._run(["deletefile", new])
             raise
 
-    def fetch(self, name: str, local: str) -> None:
-        self._run(["copyto", "--ignore-times", self._path(name), local])
+    def fetch(self, name: str, target: Place) -> None:
+        # Its bytes come through a pipe, since rclone would write to a path.
+        target.unlink()
+        descriptor = target.root.new_file(target.names, 0o600)
+        try:
+            with open(descriptor, "wb") as new:
+                for piece in self._pieces(name):
+                    new.write(piece)
+                    self.told(len(piece))
+                new.flush()
+                os.fsync(descriptor)
+        except CopyFailed:
+            forget(target)
+            raise
+        except OSError as error:
+            forget(target)
+            raise failed(target.local(), error) from error
 
     def _said(self, name: str, *words: str) -> Optional[Dict[str, Any]]:
         """What the remote says of a file; None where it is not there."""
@@ -245,15 +271,36 @@ class RcloneRemote(Remote):
     def look(self, name: str) -> Optional[Print]:
         if not self._run(["lsf", "--files-only", self._path(name)], missing=True):
             return None
-        # Into a file: it may print more than a pipe holds before the last byte comes.
+        whole, count = sha256(), 0
+        for piece in self._pieces(name):
+            whole.update(piece)
+            count += len(piece)
+            self.told(len(piece))
+        return Print(count, whole.digest())
+
+    def _pieces(self, name: str) -> Iterator[bytes]:
+        """The bytes of a file there."""
+        # What rclone says goes into a file: it may print more than a pipe holds before the last byte comes.
         with TemporaryFile() as told:
-            with subprocess.Popen(["rclone", "cat", self._path(name)], stdin=subprocess.DEVNULL, stdout=subprocess.PIPE, stderr=told) as process:
+            words = ["rclone", "cat", self._path(name)]
+            with started(words, stdin=subprocess.DEVNULL, stdout=subprocess.PIPE, stderr=told) as process:
                 assert process.stdout
-                found = print_of(process.stdout)
+                try:
+                    yield from iter(partial(process.stdout.read, PIECE), b"")
+                except BaseException:
+                    process.kill()
+                    raise
             told.seek(0)
             if process.returncode:
                 raise CopyFailed(f"rclone cat {self.name}: {last_line(told.read())}")
-        return found
+
+
+def started(words: List[str], **streams: Any) -> "subprocess.Popen[bytes]":
+    """rclone, or `CopyFailed` where it is not there."""
+    try:
+        return subprocess.Popen(words, **streams)
+    except FileNotFoundError as error:
+        raise CopyFailed("the program rclone is not on the PATH (Debian: rclone)") from error
 
 
 def last_line(told: bytes) -> str:
@@ -268,8 +315,8 @@ def owner_of(catalogue: Catalogue) -> Owner:
     return Owner(config.folder, catalogue.id, config.label, config.same_device)
 
 
-def remote_of(catalogue: Catalogue, name: str) -> Remote:
+def remote_of(catalogue: Catalogue, name: str, told: Told = untold) -> Remote:
     """The place of a name in `archive.toml`. A disc is none: somebody has to put it in a drive."""
     if name.startswith(DISC):
         raise CopyFailed(f"{name[len(DISC):]}: is a disc: name it with --disc, and its drive with --device")
-    return FolderRemote(name, owner_of(catalogue)) if os.path.isabs(name) else RcloneRemote(name)
+    return FolderRemote(name, owner_of(catalogue), told) if os.path.isabs(name) else RcloneRemote(name, told)

@@ -4,11 +4,16 @@ from __future__ import annotations
 
 import argparse
 import time
+from contextlib import contextmanager
 from datetime import datetime, timezone
+from typing import Iterator
 
 from ..progress import Progress, plural, printable, size
 from ..protocol import Path, escaped
 from .names import text_of
+
+NO_END = 1 << 62
+"""More bytes than any archive has."""
 
 
 def shown_path(path: Path) -> str:
@@ -55,13 +60,44 @@ class Tell(Progress):
 
     def working(self, what: str) -> None:
         """What is being done now, on a terminal: the next line takes its place."""
-        if self.bar:
-            self.redraw(printable(what))
+        self.what = printable(what)
+        if self.bar and not self.bytes:
+            self.redraw(self.what)
+        elif self.bar:
+            self.shown = 0.0
+            self._draw(0)
+
+    # ---- a whole of bytes
+
+    _end = NO_END
+    """The bytes that count as done at most, within a portion."""
+
+    def passed(self, count: int) -> None:
+        """So many bytes of the whole were read or written."""
+        count = min(count, self._end - self.done_bytes)
+        self.done_bytes += count
+        if self.bar and self.bytes:
+            self._draw(count)
+
+    def more(self, count: int) -> None:
+        """So many bytes are to come that were not foreseen, in this portion."""
+        self.bytes += count
+        self._end += count
+        if self.tqdm is not None:
+            self.tqdm.total = self.bytes
+
+    @contextmanager
+    def portion(self, count: int) -> Iterator[None]:
+        """A part of the whole, with so many bytes. At its end all of it counts as done, and no more, whatever was read."""
+        self._end = self.done_bytes + count
+        try:
+            yield
+        finally:
+            self.passed(self._end - self.done_bytes)
+            self._end = NO_END
 
     def say_step(self, line: str, **fields: object) -> None:
         """A step that is no file's."""
-        if self.bar:
-            self.end()
         if not self.quiet:
             self.say(line, **fields)
 

@@ -7,16 +7,15 @@ import time
 from contextlib import closing
 from typing import Callable, Dict, Iterable, Iterator, List, NamedTuple, Optional, Tuple
 
-from ..beneath import new_given
 from ..blocks import Space
 from ..client import Client
 from ..connection import find_program, run_program
 from ..digests import Files
 from ..errors import ConnectionFailed, Damaged, DiskFull, DriveFailed, Full, NumberUsedElsewhere, OutOfMemory, ProgramFailed, UsageError, WrongVolume
 from ..ledger import Ledger, MemoryLedger, Volume as Known
-from ..ledger_file import sync_folder
 from ..manifest import PAYLOAD
 from ..operations import Operation, Outcome, clamped, now
+from ..own_files import move, new as new_file, remove
 from ..protocol import Code, Create, MakeDir, Path, Remove, limits
 from ..reader import Kind
 from .bag import manifest_size
@@ -85,12 +84,10 @@ class OpenVolume:
             return
         new = self.image + ".new"
         for left in (new, self.ledger):
-            if os.path.lexists(left):
-                os.unlink(left)
-        new_given(new, self.config.mode)
+            remove(left)
+        new_file(new, self.config.mode)
         run_program(self.program, ["format", new, self.row.label, str(self.row.formatted), str(self.row.capacity)])
-        os.rename(new, self.image)
-        sync_folder(os.path.dirname(self.image))
+        move(new, self.image)
 
     def begin(self) -> None:
         """Writes what each volume begins with, as far as it is not there."""

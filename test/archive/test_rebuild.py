@@ -1,0 +1,131 @@
+"""Which archive a catalogue that was lost was of, and what a killed run has left."""
+
+from __future__ import annotations
+
+import fcntl
+import os
+import shutil
+import subprocess
+from typing import List
+
+from .support import WithArchive, write
+
+
+class Chosen(WithArchive):
+    """Two archives with one label, whose volumes have come into one folder. The catalogue is lost."""
+
+    def setUp(self) -> None:
+        super().setUp()
+        self.other = self.path("other")
+        self.copies = self.path("copies")
+        os.mkdir(self.copies)
+
+    def fill(self, archive: str, volumes: int) -> None:
+        """Makes and closes so many volumes."""
+        for number in range(1, volumes + 1):
+            write(os.path.join(self.source, "f"), b"%s %d" % (os.path.basename(archive).encode(), number))
+            self.run_in(archive, "add", self.source, "--at", f"/{os.path.basename(archive)}/{number}")
+            self.run_in(archive, "close")
+
+    def lose(self) -> None:
+        for name in os.listdir(self.archive):
+            if name.startswith("catalogue"):
+                os.unlink(os.path.join(self.archive, name))
+
+    def image(self, archive: str, number: int) -> str:
+        return os.path.join(archive, "closed", f"T-{number:06}.img")
+
+    def id_of(self, archive: str) -> str:
+        """The archive that a volume of it names."""
+        done = subprocess.run(["strings", "-n", "20", self.image(archive, 1)], capture_output=True, text=True, check=True)
+        return next(line for line in done.stdout.splitlines() if line.startswith("archive: "))[len("archive: "):]
+
+    def kept(self) -> List[str]:
+        return sorted(row["path"].split("/")[1] for row in self.rows())
+
+    def test_most_volumes_say_it(self) -> None:
+        """And not the first one."""
+        self.init()
+        self.init(archive=self.other)
+        self.fill(self.archive, 3)
+        self.fill(self.other, 1)
+        shutil.move(self.image(self.archive, 1), self.path("away.img"))
+        shutil.copy(self.image(self.other, 1), self.image(self.archive, 1))
+        self.lose()
+        done = self.do("rebuild", status=1)
+        self.assertEqual(self.kept(), ["archive", "archive"])
+        self.assertEqual(len(done.last()["failures"]), 1)
+        self.assertIn("T-000001.img: belongs to another archive", done.last()["failures"][0])
+        # The volume that was away is of the archive.
+        shutil.move(self.path("away.img"), self.image(self.archive, 1))
+        self.do("rebuild")
+        self.assertEqual(self.kept(), ["archive"] * 3)
+
+    def test_a_marker_says_it(self) -> None:
+        """Whatever most of the volumes say."""
+        self.init("--copies", self.copies)
+        self.init(archive=self.other)
+        self.fill(self.archive, 1)
+        self.fill(self.other, 3)
+        for number in (2, 3):
+            shutil.copy(self.image(self.other, number), self.image(self.archive, number))
+        self.lose()
+        done = self.do("rebuild", status=1)
+        self.assertEqual(self.kept(), ["archive"])
+        self.assertEqual(len([line for line in done.last()["failures"] if "belongs to another archive" in line]), 2)
+        self.do("close")
+
+    def test_nothing_says_it(self) -> None:
+        """Nothing is chosen, and nothing is changed."""
+        self.init()
+        self.init(archive=self.other)
+        self.fill(self.archive, 1)
+        self.fill(self.other, 2)
+        shutil.copy(self.image(self.other, 2), self.image(self.archive, 2))
+        self.lose()
+        for words in ((), ("--dry-run",)):
+            done = self.do("rebuild", *words, status=1)
+            self.assertIn("as many volumes of the archive", done.errors)
+            self.assertIn("move those away", done.errors)
+        self.assertEqual(self.rows(), [])
+        os.unlink(self.image(self.archive, 2))
+        self.do("rebuild")
+        self.assertEqual(self.kept(), ["archive"])
+
+    def test_only_copies_are_there(self) -> None:
+        """In a folder that has copies of another archive too."""
+        self.init("--copies", self.copies)
+        self.fill(self.archive, 2)
+        id = self.id_of(self.archive)
+        self.init(archive=self.other)
+        self.fill(self.other, 1)
+        shutil.rmtree(self.archive)
+        shutil.move(os.path.join(self.copies, "T-000001.img"), self.path("away.img"))
+        shutil.copy(self.image(self.other, 1), os.path.join(self.copies, "T-000001.img"))
+        shutil.copy(self.path("away.img"), os.path.join(self.copies, "T-000003.img"))
+        self.init("--copies", self.copies)
+        self.do("rebuild", status=1)
+        self.assertEqual(self.kept(), ["archive"])
+        markers = [name for name in os.listdir(self.copies) if name.startswith("udfburn-archive-")]
+        self.assertEqual(markers, [f"udfburn-archive-{id}.txt"])
+
+
+class Left(WithArchive):
+    def test_folders_that_killed_runs_left(self) -> None:
+        """Those of this archive whose processes have ended go; others stay."""
+        self.init()
+        write(os.path.join(self.source, "f"), b"1")
+        self.add()
+        with open(self.path("archive", "archive.toml"), encoding="utf-8") as file:
+            id = next(line.split('"')[1] for line in file if line.startswith("id = "))
+        for command in ("rebuild", "repair"):
+            names = [f".{command}-{id}-dead", f".{command}-{id}-alive", f".{command}-other-dead", f".{command}-"]
+            for name in names:
+                write(self.path("archive", name, "T-000001.img"), b"left")
+            lock = os.open(self.path("archive", names[1]), os.O_RDONLY)
+            fcntl.flock(lock, fcntl.LOCK_EX)
+            self.do(command)
+            self.assertEqual([os.path.exists(self.path("archive", name, "T-000001.img")) for name in names], [False, True, True, True])
+            os.close(lock)
+            self.do(command)
+            self.assertEqual([os.path.exists(self.path("archive", name)) for name in names], [False, False, True, True])
