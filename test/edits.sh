@@ -16,8 +16,8 @@
 # contracts are others by now. It and the options after it try no edit. --count prints how many edits each crate has in
 # must-fail/ and here. --outdated names those of both whose text is not in its file exactly once, and its status is 1 if there is
 # one. --list prints them all, each with the promise that it breaks, the clause that refuses it, and the test that refuses it too;
-# 'gate' is at those of must-fail/. --promises prints each promise once, with its clause and how many edits break it. It takes a
-# POSIX shell, the tools of a base system, and to try edits the Rattle kit.
+# 'gate' is at those of must-fail/. --promises prints each law by its comment, and each promise that edits name, with its clause and
+# how many edits break it. It takes a POSIX shell, the tools of a base system, and to try edits the Rattle kit.
 #
 # The edits are in test/edits/CRATE, and those that change a definition in test/edits/laws/CRATE. They are tried on a copy of
 # the tree in which they are in crates/CRATE/must-fail, by rt ci, which takes what it has passed on this machine.
@@ -132,8 +132,24 @@ list() {
     done
 }
 
-# promises [CRATE..]: prints each promise that edits name, with its clause and the number of these edits, in the order of list.
+# laws CRATE..: prints the public functions without parameters and with an empty body, whose contracts are theorems, by their comments.
+laws() {
+    for crate; do
+        find "crates/$crate/src" -name '*.rt' | LC_ALL=C sort | xargs awk -v crate="$crate" '
+            FNR == 1 { said = ""; name = "" }
+            /^\/\/\/ / { said = said (said == "" ? "" : " ") substr($0, 5); next }
+            /^pub fn [a-z_]+\(\)$/ { name = $3; sub(/\(\)/, "", name); next }
+            /^\{\}$/ && name != "" { path = FILENAME; sub(/^crates\/[^\/]*\//, "", path); printf "%s: %s\n    law: %s, %s\n", crate, said, path, name }
+            /^[^ ]/ || /^$/ { said = ""; name = "" }'
+    done
+}
+
+# promises [CRATE..]: prints the laws, and each promise that edits name, with its clause and the number of these edits.
 promises() {
+    if [ $# -eq 0 ]; then
+        for folder in crates/*/; do set -- "$@" "$(basename "$folder")"; done
+    fi
+    laws "$@"
     list "$@" | awk '
         /^[a-z_]+: / { crate = $1; promise = ""; edits++; next }
         /^    promise: / { promise = crate " " substr($0, 14); if (!(promise in number)) order[++count] = promise; number[promise]++; named++; next }
