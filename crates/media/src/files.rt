@@ -32,6 +32,11 @@ impl<'a, R: Files<File = File>> FileMedia<'a, R> {
             seen: Seen::new(&[]),
         }
     }
+
+    /// The same for a `main`: it names no record, since any will do. So nothing is known of what these media hold.
+    pub fn of(rt: &'a R) -> FileMedia<'a, R> {
+        FileMedia::over(rt)
+    }
 }
 
 impl<'a, R: Files<File = File>> Media for FileMedia<'a, R> {

@@ -16,4 +16,4 @@ pub mod Telling
 pub mod Framing
 pub mod Tallies
 pub mod Processes
-pub mod OverFiles
+pub mod InTurn

@@ -16,4 +16,4 @@ pub mod Counting
 pub mod Counted
 pub mod CutShort
 pub mod Processes
-pub mod OverFiles
+pub mod InTurn

@@ -1,7 +1,7 @@
 //! What holds of the programs and of their counts. Nothing here runs: each function's contract is a law.
 
 ghost use Rattle.programs.specs.Counting.{FramesAreMessages};
-ghost use Rattle.programs.specs.OverFiles.{ThreeProcesses, TwoProcesses};
+ghost use Rattle.programs.specs.InTurn.{ThreeProcesses, TwoProcesses};
 ghost use Rattle.programs.specs.Processes.{ProcessesAreRuns};
 
 /// A stream has as many frames as it has messages when it is served, and so as many as there are answers.

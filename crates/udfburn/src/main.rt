@@ -1,13 +1,16 @@
-//! The program `udfburn`: `programs::command_over_files`, with the words and the streams of the process.
+//! The program `udfburn`: `programs::run_command` over the files of the system, with the words and the streams of the
+//! process.
 #![tactic(auto)]
 
-use programs::command_over_files;
+use media::FileMedia;
+use programs::run_command;
 use std::process::ExitCode;
 
 fn main(rt: HostRuntime) -> ExitCode {
+    let mut media = FileMedia::of(&rt);
     let mut input = rt.stdin();
     let output = rt.stdout();
     let mut errors = rt.stderr();
-    let (status, _) = command_over_files(&rt, &mut input, output, &mut errors);
+    let (status, _) = run_command(&rt, &mut media, &mut input, output, &mut errors);
     ExitCode::from(status)
 }

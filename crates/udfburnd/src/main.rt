@@ -1,11 +1,14 @@
-//! The program `udfburnd`: `programs::daemon_of_files` on a socket, with the words of the process.
+//! The program `udfburnd`: `programs::run_daemon` over the files of the system, on a socket, with the words of the
+//! process.
 #![tactic(auto)]
 
-use programs::{Sockets, daemon_of_files};
+use media::FileMedia;
+use programs::{Sockets, run_daemon};
 use std::process::ExitCode;
 
 fn main(rt: HostRuntime) -> ExitCode {
+    let mut media = FileMedia::of(&rt);
     let mut sockets = Sockets::new(&rt);
     let mut errors = rt.stderr();
-    ExitCode::from(daemon_of_files(&rt, &mut sockets, &mut errors))
+    ExitCode::from(run_daemon(&rt, &mut media, &mut sockets, &mut errors))
 }

@@ -1,4 +1,4 @@
-use Rattle.programs.proofs.OverFiles.{three_processes}
+use Rattle.programs.proofs.InTurn.{three_processes}
 use Rattle.programs.proofs.laws.three_processes.Goals as goal
 
 pub returns : goal.returns

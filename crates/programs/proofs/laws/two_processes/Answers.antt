@@ -1,4 +1,4 @@
-use Rattle.programs.proofs.OverFiles.{two_processes}
+use Rattle.programs.proofs.InTurn.{two_processes}
 use Rattle.programs.proofs.laws.two_processes.Goals as goal
 
 pub returns : goal.returns
