@@ -11,6 +11,7 @@
 #   `crates/NAME/src/x.rt`   a path from the top of the repository, in code: it is there
 #   src/x.rt, specs/X.antt   a file of some crate, in the text
 #   `FILE`, `name`           a file and what it defines: the name is in the file
+#   `FILE`, `name`, `label`  a file of Rattle, functions in it, and labels of clauses: a clause of one of them has each label
 #   `src/x.rt`, `X.edit`     below a heading that is a crate's name, a file of that crate and an edit that it must refuse
 #   `a::b`, `CamelCase`, `snake_case`   in a document on the code, a name: some source defines the last part
 #   ```antt FILE             a quotation: each line is in the file, in this order; '..' is for lines left out
@@ -46,6 +47,12 @@ function is_name(word) {
 }
 function is_source(word) {
     return word ~ /^[a-z]+\/.*\.(rt|antt|py)$/
+}
+# What followed a source is told together: functions, and labels of their clauses.
+function ended() {
+    if (source ~ /\.rt$/ && group != "") told("clauses", source, group)
+    source = ""
+    group = ""
 }
 # A path of the crate of this heading, from the top of the repository.
 function of_crate(word) {
@@ -88,20 +95,21 @@ fenced {
                 text = substr(text, RSTART + RLENGTH)
             }
             # A file is followed by what it defines, as `FILE`, `name` and `name`.
-            if (source != "" && parts[i] !~ /^(, |, and | and )$/) source = ""
+            if (source != "" && parts[i] !~ /^(, |, and | and )$/) ended()
             continue
         }
         span = of_crate(parts[i])
-        if (span ~ /^[a-z_.0-9]+\.edit$/) { told("edit", crate == "" ? "*" : crate, span); source = ""; continue }
+        if (span ~ /^[a-z_.0-9]+\.edit$/) { told("edit", crate == "" ? "*" : crate, span); ended(); continue }
         words = split(span, word, " ")
         for (j = 1; j <= words; j++) {
             if (word[j] ~ /^[.A-Za-z_-]+\// && word[j] !~ /[*$]|NAME|(^|\/)out\//) told("path", word[j], "")
         }
-        if (is_source(span)) { source = span; continue }
-        if (source != "" && span ~ /^[A-Za-z_][A-Za-z0-9_:]*$/) { told("in", source, span); continue }
-        source = ""
+        if (is_source(span)) { ended(); source = span; continue }
+        if (source != "" && span ~ /^[A-Za-z_][A-Za-z0-9_:]*$/) { told("in", source, span); group = group " " span; continue }
+        ended()
         if (on_code && is_name(span)) told("name", span, "")
     }
+    ended()
 }
 AWK
 while read -r document; do
@@ -155,6 +163,32 @@ sed -nE 's/^CREATE (TABLE|VIRTUAL TABLE|VIEW|INDEX|EXTENSION)( IF NOT EXISTS)? (
 suite=links
 # shellcheck source=test/shell.sh
 . test/shell.sh
+
+# unlabelled FILE NAME..: those of the names that are neither defined in the file nor a label in the contract of one that is.
+unlabelled() {
+    file=$1
+    shift
+    awk -v names="$*" '
+        BEGIN { count = split(names, name, " "); for (i = 1; i <= count; i++) sub(/^.*::/, "", name[i]) }
+        match($0, /(^| )(fn|struct|enum|trait|const|static|type) [A-Za-z_0-9]+/) && !/^ *\/\// {
+            owner = substr($0, RSTART, RLENGTH)
+            sub(/^.* /, "", owner)
+            defined[owner] = 1
+        }
+        /^ *(requires|ensures|ghost) [a-z_0-9]+/ {
+            label = $2
+            sub(/:$/, "", label)
+            labels[owner, label] = 1
+            if ($1 == "ghost") defined[label] = 1
+        }
+        END {
+            for (i = 1; i <= count; i++) {
+                found = name[i] in defined
+                for (j = 1; j <= count; j++) if ((name[j], name[i]) in labels) found = 1
+                if (!found) print name[i]
+            }
+        }' "$file"
+}
 
 # heading FILE NAME: whether a heading of the file is shown under this name.
 heading() {
@@ -215,6 +249,14 @@ while IFS="$tab" read -r document line kind first second; do
             else
                 fail "$where: no $second in $first"
             fi
+            ;;
+        clauses)
+            if ! [ -e "$first" ]; then
+                continue
+            fi
+            # shellcheck disable=SC2086
+            found=$(unlabelled "$first" $second | tr '\n' ' ')
+            if [ -z "$found" ]; then pass; else fail "$where: no clause $found of what is named before it in $first"; fi
             ;;
         name)
             if grep -qx -- "${first##*::}" "$room/defined"; then pass; else fail "$where: no $first in the sources"; fi
