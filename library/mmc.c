@@ -426,16 +426,6 @@ static int32_t write_held(struct udfburn_mmc *mmc) {
     return mmc->verifies ? compare(mmc, first) : 0;
 }
 
-/* After a write that failed: what the drive may still have in its buffer goes where it can, and the next packet comes after it. */
-static void give_up(struct udfburn_mmc *mmc, uint32_t first, int32_t outcome) {
-    uint32_t free_blocks;
-    mmc->count = 0;
-    for (int i = 0; i < UDFBURN_GROUPS; i++)
-        if (mmc->groups[i].first + mmc->groups[i].count > first) mmc->groups[i].count = 0;
-    synchronize(mmc);
-    if ((look(mmc, &free_blocks) != 0 || mmc->next < first) && mmc->lost == 0) mmc->lost = outcome;
-}
-
 int32_t udfburn_mmc_write(void *context, uint32_t address, uint32_t count, const void *blocks) {
     struct udfburn_mmc *mmc = context;
     if (mmc->lost) return mmc->lost;
@@ -444,11 +434,11 @@ int32_t udfburn_mmc_write(void *context, uint32_t address, uint32_t count, const
     memcpy(mmc->held + (size_t)mmc->count * UDFBURN_BLOCK, blocks, (size_t)count * UDFBURN_BLOCK);
     mmc->count += count;
     if (count != 1 || !udfburn_is_vat_icb(blocks, address)) return 0;
-    uint32_t first = mmc->next;
     int32_t outcome = fill_up(mmc);
     if (outcome == 0) outcome = write_held(mmc);
-    if (outcome != 0) give_up(mmc, first, outcome);
     mmc->count = 0;
+    /* What a packet that failed left is found out when the disc is opened again. */
+    if (outcome != 0 && mmc->lost == 0) mmc->lost = outcome;
     return outcome;
 }
 
