@@ -25,7 +25,7 @@ if TYPE_CHECKING:
 
 class Client:
     """A volume at a daemon's socket (`unix:PATH`), or in an image: with the program `udfburn apply` (`image:PATH`), or in this process
-    with the C library (`library:PATH`).
+    with the C library (`library:PATH`), or to the disc in a recorder (`device:PATH`).
 
     `ledger` is the file that keeps numbers, frames and replies; it is opened with the first request, and made where
     it is missing. A `Ledger` that is open already is taken too, and closed with the client. `client` is this ledger's number at the
@@ -70,6 +70,7 @@ class Client:
     def close(self) -> None:
         """Ends the conversation, and gives the ledger to others."""
         self.line.drop()
+        self.endpoint.close()
         if self._session is not None:
             self._session.ledger.close()
             self._session = None

@@ -16,6 +16,8 @@ from .words import patience_of
 
 def way_of(arguments: argparse.Namespace) -> str:
     """Where the volume is."""
+    if arguments.device:
+        return on_device(arguments)
     if arguments.library:
         return by_library(arguments)
     if arguments.image:
@@ -26,7 +28,7 @@ def way_of(arguments: argparse.Namespace) -> str:
         return f"image:{arguments.image}"
     if os.environ.get("UDFBURN_SOCKET"):
         return f"unix:{os.environ['UDFBURN_SOCKET']}"
-    raise UsageError("name the volume with --socket PATH or --image PATH")
+    raise UsageError("name the volume with --socket PATH, --image PATH or --device PATH")
 
 
 def by_library(arguments: argparse.Namespace) -> str:
@@ -34,6 +36,13 @@ def by_library(arguments: argparse.Namespace) -> str:
     if arguments.socket or not arguments.image:
         raise UsageError("--library opens an image in this process: give --image PATH, and no --socket")
     return f"library:{arguments.image}"
+
+
+def on_device(arguments: argparse.Namespace) -> str:
+    """The disc in a recorder."""
+    if arguments.socket or arguments.image or arguments.library:
+        raise UsageError("--device names the disc in a recorder: give no --image, no --socket and no --library")
+    return f"device:{arguments.device}"
 
 
 def progress_of(arguments: argparse.Namespace) -> Progress:
@@ -70,7 +79,7 @@ def reader(arguments: argparse.Namespace) -> Iterator[Client]:
         raise UsageError("--as-of reads an image: name it with --image")
     if commit is None:
         with Client(connect, program=arguments.program, **patience_of(arguments)) as client:
-            if connect.startswith("unix:") or not taken(client):
+            if connect.startswith(("unix:", "device:")) or not taken(client):
                 yield client
                 return
     from . import past

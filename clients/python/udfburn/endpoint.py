@@ -1,4 +1,4 @@
-"""Where a volume is: at a daemon's socket, or in an image with the program `udfburn apply` or the C library."""
+"""Where a volume is: at a daemon's socket, in an image with the program `udfburn apply` or the C library, or on the disc in a recorder."""
 
 from __future__ import annotations
 
@@ -7,27 +7,31 @@ import os
 from typing import TYPE_CHECKING, Optional, Union
 
 from .beneath import status_given
-from .connection import Connection, ImageConnection, UnixConnection, check_word, find_program
-from .errors import ProgramFailed, UsageError
+from .connection import Connection, ImageConnection, Lost, UnixConnection, check_word, find_program
+from .errors import ConnectionFailed, DiscFailed, ProgramFailed, UsageError
 from .protocol import is_bytes, shown
 
 if TYPE_CHECKING:
     from .library import Library
+    from .recorder import DiscConnection
 
 
 class Endpoint:
     """Where a volume is: at a daemon's socket (`unix:PATH`), or in an image that is written by the program (`image:PATH`) or by the C
-    library (`library:PATH`). `kind` is `image` for both of these; `library` is None for the program.
+    library (`library:PATH`), or on the disc in a recorder (`device:PATH`). `kind` is `image` for both kinds of images; `library` is None for
+    the program.
     """
 
     def __init__(self, connect: str, program: Optional[str] = None):
         kind, colon, path = connect.partition(":")
-        if not colon or kind not in ("unix", "image", "library") or not path:
-            raise UsageError(f"{connect!r} is neither unix:PATH nor image:PATH nor library:PATH")
-        self.kind = "unix" if kind == "unix" else "image"
+        if not colon or kind not in ("unix", "image", "library", "device") or not path:
+            raise UsageError(f"{connect!r} is neither unix:PATH nor image:PATH nor library:PATH nor device:PATH")
+        self.kind = "image" if kind == "library" else kind
         self.name = kind
         self.path = os.path.abspath(path)
-        self.library = library() if kind == "library" else None
+        self.library = library() if kind in ("library", "device") else None
+        self._disc: Optional[str] = None
+        self._opened: Optional[DiscConnection] = None
         if kind == "image":
             check_word(self.path)
         # Without `image:` the program is used only to look at an image: for its history, and for the blocks that are left.
@@ -37,8 +41,38 @@ class Endpoint:
         return f"{self.name}:{shown(self.path)}"
 
     def key(self) -> Union[str, bytes]:
-        """The endpoint's name in a ledger, by the file that links lead to; as bytes where these are not UTF-8."""
-        return key_of(self.kind, self.path)
+        """The endpoint's name in a ledger, by the file that links lead to; as bytes where these are not UTF-8. That of a disc is its own,
+        whichever drive it is in."""
+        if self.kind != "device":
+            return key_of(self.kind, self.path)
+        if self._disc is None:
+            try:
+                self._opened = self._open_disc(120.0)
+            except Lost as lost:
+                raise ConnectionFailed(f"{self}: {lost}") from lost
+        return f"disc:{self._disc}"
+
+    def close(self) -> None:
+        """Closes a disc that was opened to learn its name, and not used."""
+        opened, self._opened = self._opened, None
+        if opened is not None:
+            opened.close()
+
+    def _open_disc(self, timeout: float) -> DiscConnection:
+        """A conversation about the disc, which is the one that was there before."""
+        from .recorder import DiscConnection
+
+        assert self.library
+        connection = DiscConnection(self.path, self.library, timeout)
+        try:
+            name = connection.name()
+            if self._disc not in (None, name):
+                raise DiscFailed(f"{shown(self.path)}: another disc was put in: {name}, and not {self._disc}")
+        except BaseException:
+            connection.close()
+            raise
+        self._disc = name
+        return connection
 
     def status(self) -> Optional[os.stat_result]:
         """What the system says of the socket or the image; None where it says nothing."""
@@ -48,6 +82,9 @@ class Endpoint:
         """A new conversation, or `Lost`. `timeout` is the longest wait in it, in seconds."""
         if self.kind == "unix":
             return UnixConnection(self.path, timeout)
+        if self.kind == "device":
+            opened, self._opened = self._opened, None
+            return opened or self._open_disc(timeout)
         if not os.path.isfile(self.path):
             raise ProgramFailed(f"{shown(self.path)}: {os.strerror(errno.ENOENT)}, or not a regular file")
         if self.library:

@@ -70,11 +70,16 @@ class OpenVolume:
         self._process = os.getpid()
         self._handle = HANDLE()
         try:
-            library.require(library.calls.udfburn_open(os.fsencode(path), ctypes.byref(self._handle)))
+            library.require(self._opened(path))
         except BaseException:
             # An interrupt may come after the volume was opened.
             self.close()
             raise
+
+    def _opened(self, path: str) -> int:
+        """The status of the call that opens it."""
+        status: int = self._library.calls.udfburn_open(os.fsencode(path), ctypes.byref(self._handle))
+        return status
 
     def answer(self, frames: bytes) -> None:
         """Sends bytes of the stream of messages. Every message that is complete is answered."""
@@ -126,8 +131,11 @@ class LibraryConnection(Connection):
         try:
             self.volume.answer(bytes(data))
         except Refused as refused:
-            raise told(refused) from refused
+            raise self._told(refused) from refused
         return len(data)
+
+    def _told(self, refused: Refused) -> Exception:
+        return told(refused)
 
 
 def told(refused: Refused) -> Exception:
@@ -163,13 +171,18 @@ def load(name: str) -> ctypes.CDLL:
         calls = ctypes.CDLL(name)
     except OSError as error:
         raise UsageError(f"{name} cannot be loaded ({error}): install libudfburn, or name it in UDFBURN_LIBRARY; image:PATH works without it") from error
-    for call, (result, words) in CALLS.items():
+    declare(name, calls, CALLS)
+    return calls
+
+
+def declare(name: str, calls: ctypes.CDLL, table: Dict[str, Tuple[Optional[type], List[object]]]) -> None:
+    """Declares functions of the library, or `UsageError` where it lacks one."""
+    for call, (result, words) in table.items():
         try:
             function = getattr(calls, call)
         except AttributeError as error:
             raise UsageError(f"{name} has no {call}: it is older than this client, or a different library. Name the right one in UDFBURN_LIBRARY") from error
         function.restype, function.argtypes = result, words
-    return calls
 
 
-__all__ = ["Library", "LibraryConnection", "OpenVolume", "Refused", "find_library"]
+__all__ = ["HANDLE", "Library", "LibraryConnection", "OpenVolume", "Refused", "declare", "find_library"]

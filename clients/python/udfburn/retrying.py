@@ -145,6 +145,8 @@ class RetryingConnection:
 
     def _why_fault(self) -> Tuple[Type[UdfburnError], str]:
         """What is likely to be wrong with a drive that fails."""
+        if self.endpoint.kind == "device":
+            return DriveFailed, "the recorder fails, or its disc does"
         if self.image is None:
             return DriveFailed, "the drive fails, or its disk is full: check the disk with the daemon's image"
         left = room_left(self.image)

@@ -29,12 +29,13 @@ def add(subs: Subs) -> None:
     """The words of these commands."""
     new = command(
         subs, "format", format_image, "make a volume on an image",
-        "The image must be new or empty. The moment of the format distinguishes it from all other volumes.", volume=False,
+        "The image must be new or empty, and a disc blank. The moment of the format distinguishes it from all other volumes.", volume=False,
     )
-    new.add_argument("image_path", metavar="IMAGE", help="the image file; created if it is missing")
+    new.add_argument("image_path", nargs="?", metavar="IMAGE", help="the image file; created if it is missing")
     add_library(new)
+    new.add_argument("--device", metavar="PATH", help="in place of an image: the disc in a recorder, such as /dev/sr0, with the C library")
     new.add_argument("--label", metavar="TEXT", help="the volume's name, at most 30 characters (default: the file name without its extension)")
-    new.add_argument("--capacity", metavar="N", type=capacity, default=CAPACITY, help="blocks of 2,048 bytes, from 512 to 450,000, or a size such as 700MiB (default: 359,844 blocks, a CD-R of 80 minutes)")
+    new.add_argument("--capacity", metavar="N", type=capacity, help="blocks of 2,048 bytes, from 512 to 450,000, or a size such as 700MiB (default: 359,844 blocks, a CD-R of 80 minutes)")
     new.add_argument("--moment", metavar="MOMENT", type=moment_of, help="the moment of the format: microseconds from 1970, or a time such as 2026-11-26T22:00:00Z (default: now)")
     new.add_argument("--mode", metavar="MODE", type=mode_of, default=0o600, help="the permissions of a new file, in octal (default: 600, nobody's but the user's)")
     state = command(
@@ -95,32 +96,54 @@ def label_fault(label: str) -> Optional[str]:
 
 def format_image(arguments: argparse.Namespace) -> int:
     """Makes a volume."""
+    if arguments.device:
+        return format_device(arguments)
+    if arguments.image_path is None:
+        raise UsageError("name the image to make, or a recorder with --device")
     image: str = arguments.image_path
     label = label_of(arguments)
     when = now() if arguments.moment is None else arguments.moment
+    blocks: int = CAPACITY if arguments.capacity is None else arguments.capacity
     made = new_given(image, arguments.mode)
     try:
         if arguments.library:
-            format_by_library(image, label, when, arguments.capacity)
+            format_by_library(image, label, when, blocks)
         else:
-            format_by_program(image, label, when, arguments)
+            format_by_program(image, label, when, blocks, arguments.program)
     except BaseException:
         if made:
             remove_empty(image)
         raise
     progress_of(arguments).result(
-        f"formatted {shown(image)}: {label}, {moment(when)}, {arguments.capacity:,} blocks ({size(arguments.capacity * limits.BLOCK)})",
-        path=as_text(image), label=label, moment=when, capacity=arguments.capacity,
+        f"formatted {shown(image)}: {label}, {moment(when)}, {blocks:,} blocks ({size(blocks * limits.BLOCK)})",
+        path=as_text(image), label=label, moment=when, capacity=blocks,
     )
     return 0
 
 
-def format_by_program(image: str, label: str, when: int, arguments: argparse.Namespace) -> None:
+def format_device(arguments: argparse.Namespace) -> int:
+    """Makes a volume on the disc in a recorder, as large as the disc allows."""
+    from .library import find_library
+    from .recorder import format_disc
+
+    device: str = arguments.device
+    if arguments.image_path is not None or arguments.capacity is not None or arguments.library:
+        raise UsageError("--device takes the place of IMAGE, --library and --capacity: the disc says how many blocks there are")
+    if arguments.label is None:
+        raise UsageError("name the volume with --label")
+    label = label_of(arguments)
+    when = now() if arguments.moment is None else arguments.moment
+    format_disc(find_library(), device, label, when)
+    progress_of(arguments).result(f"formatted the disc in {shown(device)}: {label}, {moment(when)}", path=device, label=label, moment=when)
+    return 0
+
+
+def format_by_program(image: str, label: str, when: int, blocks: int, given: Optional[str]) -> None:
     """Makes a volume with the program udfburn."""
-    program = find_program(arguments.program)
+    program = find_program(given)
     check_word(os.path.abspath(image))
     try:
-        run_program(program, ["format", os.path.abspath(image), label, str(when), str(arguments.capacity)])
+        run_program(program, ["format", os.path.abspath(image), label, str(when), str(blocks)])
     except ProgramFailed as error:
         raise SourceError(why_not_formatted(image, str(error))) from error
 

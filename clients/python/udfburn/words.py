@@ -64,6 +64,7 @@ def command(
     where = sub.add_argument_group("the volume")
     if volume:
         add_volume(where)
+        where.add_argument("--device", metavar="PATH", help="the disc in a recorder, such as /dev/sr0, written in place with the C library")
     where.add_argument("--program", metavar="PATH", help="the program udfburn (default: $UDFBURN, or the one on the PATH)")
     if ledger:
         where.add_argument("--ledger", metavar="PATH", help="the ledger, one for each machine (default: ~/.local/state/udfburn/ledger.sqlite)")

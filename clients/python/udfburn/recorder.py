@@ -1,0 +1,144 @@
+"""A volume on the disc in a recorder, written in place with the C library: each commit is a packet, which is read back.
+
+A disc is known by its label and by the moment of its format, and not by the drive that it is in.
+"""
+
+from __future__ import annotations
+
+import ctypes
+import errno
+import os
+from typing import Dict, List, Optional, Tuple
+
+from .connection import Connection, Lost
+from .errors import DiscFailed
+from .library import HANDLE, OK, Library, LibraryConnection, OpenVolume, Refused, declare
+from .protocol import shown
+
+VERIFY = 1
+"""The flag of udfburn.h by which each packet is read back before its requests are acknowledged."""
+
+
+class Volume(ctypes.Structure):
+    """`struct udfburn_volume`."""
+
+    _fields_ = [
+        ("size", ctypes.c_size_t), ("identity", ctypes.c_uint64), ("moment", ctypes.c_uint64),
+        *((name, ctypes.c_uint32) for name in ("capacity", "next", "unused", "commits", "files", "directories", "clients")), ("label", ctypes.c_char * 64),
+    ]
+
+
+class Reason(ctypes.Structure):
+    """`struct udfburn_reason`."""
+
+    _fields_ = [("size", ctypes.c_size_t), ("status", ctypes.c_int32), ("error", ctypes.c_int32), ("call", ctypes.c_char * 32), ("path", ctypes.c_char * 256)]
+
+
+CALLS: Dict[str, Tuple[Optional[type], List[object]]] = {
+    "udfburn_format_mmc": (ctypes.c_int32, [ctypes.c_char_p, ctypes.c_char_p, ctypes.c_uint64]),
+    "udfburn_open_mmc": (ctypes.c_int32, [ctypes.c_char_p, ctypes.c_uint32, ctypes.POINTER(HANDLE)]),
+    "udfburn_describe": (ctypes.c_int32, [HANDLE, ctypes.POINTER(Volume)]),
+    "udfburn_reason": (ctypes.c_int32, [HANDLE, ctypes.POINTER(Reason)]),
+}
+"""The functions of udfburn.h that a recorder takes, beside those of `udfburn.library`."""
+
+KINDS = "put in a CD-R, a DVD-R, a DVD+R or a BD-R"
+
+WHY = {
+    ("TEST UNIT READY", errno.ENOMEDIUM): f"there is no disc in it: {KINDS}",
+    ("GET CONFIGURATION", errno.ENOMEDIUM): f"there is no disc in it: {KINDS}",
+    ("TEST UNIT READY", errno.EMEDIUMTYPE): f"the disc is none that can be written in place: {KINDS}",
+    ("GET CONFIGURATION", errno.EMEDIUMTYPE): f"the disc is none that can be written in place: {KINDS}",
+    ("READ DISC INFORMATION", errno.EROFS): "the disc is closed, and takes nothing more",
+    ("READ DISC INFORMATION", errno.EEXIST): "the disc has other tracks",
+    ("READ TRACK INFORMATION", errno.EROFS): "the disc takes nothing more",
+    ("anchor", errno.EIO): "the block with the anchor is spoiled, so the disc is of no use: take another one",
+    ("header", errno.EIO): "a block of the volume's header is spoiled, so the disc is of no use: take another one",
+    ("open", errno.ENOENT): "there is no such drive",
+    ("open", errno.ENODEV): "is no drive",
+    ("INQUIRY", errno.ENODEV): "is no drive for CD, DVD or BD",
+    ("INQUIRY", errno.ENOTTY): "is no drive for CD, DVD or BD",
+    ("open", errno.EBUSY): "another program has it, or the disc is mounted",
+}
+"""What reasons mean."""
+
+
+def reason_of(library: Library, handle: object) -> Tuple[str, int]:
+    """The call that failed and its number, of the last call on a handle, or without one."""
+    reason = Reason(ctypes.sizeof(Reason))
+    if library.calls.udfburn_reason(handle, ctypes.byref(reason)) != OK:
+        return "", 0
+    return reason.call.decode(errors="replace"), reason.error
+
+
+def explained(library: Library, handle: object, status: str) -> Tuple[str, bool]:
+    """Why a call on a disc was refused, in words, and whether another try may help."""
+    call, error = reason_of(library, handle)
+    if status == "UDFBURN_BUSY":
+        return WHY["open", errno.EBUSY], True
+    if (call, error) in WHY:
+        return WHY[call, error], False
+    if status == "UDFBURN_VOLUME":
+        return "the disc has no volume, or a damaged one; 'udfburn-client format --device' makes one on a blank disc", False
+    # Sense data is above any errno (udfburn.h).
+    what = f"sense {error:06x}" if error > 0xFFFF else os.strerror(error) if error else ""
+    return f"{status}: {call} failed{f' ({what})' if what else ''}" if call else status, status != "UDFBURN_READ_ONLY"
+
+
+class OpenDisc(OpenVolume):
+    """An open volume on a disc. The recorder is nobody else's meanwhile."""
+
+    def _opened(self, path: str) -> int:
+        status: int = self._library.calls.udfburn_open_mmc(os.fsencode(path), VERIFY, ctypes.byref(self._handle))
+        return status
+
+    def name(self) -> str:
+        """What the volume is known by: the moment of its format, and its label."""
+        volume = Volume(ctypes.sizeof(Volume))
+        self._library.require(self._library.calls.udfburn_describe(self._handle, ctypes.byref(volume)))
+        return f"{volume.identity}:{volume.label.decode(errors='replace')}"
+
+    def explained(self, status: str) -> str:
+        return explained(self._library, self._handle, status)[0]
+
+
+class DiscConnection(LibraryConnection):
+    """A conversation with the C library about the disc in a recorder."""
+
+    def __init__(self, device: str, library: Library, timeout: float = 120.0):
+        Connection.__init__(self, timeout)
+        declare(library.name, library.calls, CALLS)
+        self.image = device
+        try:
+            self.disc = OpenDisc(library, device)
+            self.volume = self.disc
+        except Refused as refused:
+            why, is_passing = explained(library, None, refused.name)
+            raise Lost(why) if is_passing else DiscFailed(f"{shown(device)}: {why}") from refused
+
+    def name(self) -> str:
+        """What the volume is known by."""
+        try:
+            return self.disc.name()
+        except Refused as refused:
+            raise self._told(refused) from refused
+
+    def _told(self, refused: Refused) -> Exception:
+        return Lost(self.disc.explained(refused.name))
+
+
+def format_disc(library: Library, device: str, label: str, moment: int) -> None:
+    """Makes a volume on a blank disc, or finishes one whose format was interrupted."""
+    declare(library.name, library.calls, CALLS)
+    try:
+        library.require(library.calls.udfburn_format_mmc(os.fsencode(device), label.encode(), moment))
+    except Refused as refused:
+        why, _ = explained(library, None, refused.name)
+        if refused.name == "UDFBURN_VOLUME" and not reason_of(library, None)[0]:
+            why = "holds something already, and stays as it is: put a blank disc in; or repeat a format that was cut short with its own --label and --moment"
+        elif refused.name == "UDFBURN_DEVICE":
+            why += f". The same command may finish it, with --moment {moment}"
+        raise DiscFailed(f"{shown(device)}: {why}") from refused
+
+
+__all__ = ["DiscConnection", "OpenDisc", "format_disc"]
