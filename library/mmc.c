@@ -250,7 +250,6 @@ int32_t udfburn_begin_mmc(struct udfburn_mmc *mmc) {
     if (outcome != 0) return outcome == EROFS ? UDFBURN_READ_ONLY : UDFBURN_DEVICE;
     if (free_blocks > UINT32_MAX - mmc->next) return refuse(UDFBURN_DEVICE, "READ TRACK INFORMATION", ERANGE);
     mmc->capacity = room_of(mmc, mmc->next + free_blocks);
-    if (mmc->capacity < mmc->next) mmc->capacity = mmc->next;
     return UDFBURN_OK;
 }
 
@@ -447,8 +446,10 @@ int32_t udfburn_mmc_capacity(void *context, uint32_t *blocks) {
     return 0;
 }
 
+/* The link after the last packet of a full CD may lie beyond what a volume has: there is no next address then. */
 int32_t udfburn_mmc_next(void *context, uint32_t *address) {
     const struct udfburn_mmc *mmc = context;
-    *address = mmc->next + mmc->count;
+    uint32_t next = mmc->next + mmc->count;
+    *address = next < mmc->capacity ? next : mmc->capacity;
     return mmc->lost;
 }

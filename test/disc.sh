@@ -3,6 +3,10 @@
 # and what is said where a disc cannot be burned. The recorders are emulated (test/disc/recorder.py).
 #
 # usage: test/disc.sh [UDFBURN]
+#        test/disc.sh --packets LIBRARY [UDFBURN]
+#        test/disc.sh --device DEVICE LIBRARY [UDFBURN]
+# --packets stores files one by one with the C library, which is in the folder LIBRARY: first without a kernel, where power is lost and
+# writes fail; then in the machine. --device tries the blank disc in a real drive, which is then no longer blank (docs/DISCS.md).
 # The recorders answer over iSCSI on this machine alone, and a virtual machine of QEMU takes them for its drives: it starts once for
 # all tests. What is not there is installed from Debian's packages where we may; what cannot be had is said, and is a failure where
 # CI=true. Its last line is 'disc: N passed, M failed'.
@@ -11,6 +15,22 @@ home=$(cd "$(dirname "$0")" && pwd)
 suite=disc
 # shellcheck source=test/shell.sh
 . "$home/shell.sh"
+library=
+device=
+case ${1:-} in
+    --packets) [ $# -ge 2 ] && library=$2 && shift 2 ;;
+    --device) [ $# -ge 3 ] && device=$2 && library=$3 && shift 3 ;;
+esac
+case ${1:-} in -*)
+    echo 'usage: test/disc.sh [--packets LIBRARY | --device DEVICE LIBRARY] [UDFBURN]' >&2
+    exit 2
+    ;;
+esac
+if [ -n "$library" ]; then
+    suite=packets
+    [ -f "$library/libudfburn.so.0" ] || { echo "disc: $library has no C library" >&2; exit 2; }
+    library=$(absolute "$library")
+fi
 udfburn=$(absolute "${1:-$home/../crates/udfburn/out/udfburn}")
 if ! [ -x "$udfburn" ]; then
     echo "disc: $udfburn is no program"
@@ -47,6 +67,29 @@ kernel() {
         dpkg-deb -x "$room/package/"*.deb "$room/kernel"
 }
 
+if [ -n "$device" ]; then
+    mkdir "$room/room"
+    "$python" "$home/disc/real.py" "$device" "$library" "$udfburn" "$room/room"
+    exit
+fi
+if [ -n "$library" ]; then
+    command -v cc > "$room/which" || install gcc libc6-dev
+    mkdir "$room/packets"
+    status=0
+    nice -n 0 "$python" "$home/disc/packets.py" "$udfburn" "$library" "$room/packets" > "$room/output" 2>&1 || status=$?
+    sed '$d' "$room/output"
+    last=$(tail -n 1 "$room/output")
+    case $last in
+        *' passed, '*' failed')
+            passed=${last%% *}
+            failed=${last#*, }
+            failed=${failed%% *}
+            ;;
+        *) fail "without a kernel: $last, status $status" ;;
+    esac
+    rm -rf "$room/packets"
+fi
+
 for tool in qemu-system-x86_64:qemu-system-x86 xorriso:xorriso ldd:libc-bin; do
     command -v "${tool%:*}" > "$room/which" || install "${tool#*:}"
     command -v "${tool%:*}" > "$room/which" || left_out "${tool%:*} is not there"
@@ -57,5 +100,19 @@ ls /usr/lib/*/qemu/block-iscsi.so > "$room/which" 2>&1 || left_out 'QEMU has no 
 kernel || left_out 'no kernel with udf'
 mkdir "$room/room"
 status=0
-"$python" "$home/disc/discs.py" "$udfburn" "$room/kernel" "$room/room" > "$room/output" 2>&1 || status=$?
-counted_in "$room/output" "$status"
+"$python" "$home/disc/discs.py" "$udfburn" "$room/kernel" "$room/room" ${library:+"$library"} > "$room/output" 2>&1 || status=$?
+if [ -z "$library" ]; then
+    counted_in "$room/output" "$status"
+    exit
+fi
+sed '$d' "$room/output"
+last=$(tail -n 1 "$room/output")
+case $last in
+    *' passed, '*' failed')
+        passed=$((passed + ${last%% *}))
+        last=${last#*, }
+        failed=$((failed + ${last%% *}))
+        ;;
+    *) fail "in the machine: $last, status $status" ;;
+esac
+counted

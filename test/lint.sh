@@ -56,7 +56,7 @@ if have mypy mypy; then
     holds 'the tests of damaged images are typed' apart test/bad_day "$top/clients/python:$top/test" --config-file ../../clients/python/pyproject.toml bad_day.py images.py
     others=$top/test:$top/test/readers:$top/bench/apply:$top/clients/python
     holds 'the other tests are typed' apart "$top" "$others" --config-file clients/python/pyproject.toml test/protocol.py test/modules.py test/copies/*.py test/readers/*.py test/documents/*.py
-    holds 'the tests of discs are typed' apart test/disc "$top/test/disc:$top/test/readers:$top/clients/python" --config-file ../../clients/python/pyproject.toml discs.py packets.py
+    holds 'the tests of discs are typed' apart test/disc "$top/test/disc:$top/test/readers:$top/clients/python" --config-file ../../clients/python/pyproject.toml discs.py packets.py real.py
     holds 'what burns discs in the machine is typed' apart test/disc "$top/clients/python" --config-file ../../clients/python/pyproject.toml --python-version 3.11 guest.py
     # Some of these have the same name, so each folder is looked at apart.
     for folder in bench/*/; do

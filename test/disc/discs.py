@@ -1,8 +1,10 @@
 """Burns discs in emulated recorders, from a virtual machine that takes them for drives.
 
-    discs.py UDFBURN KERNEL ROOM
+    discs.py UDFBURN KERNEL ROOM            whole volumes, by xorriso
+    discs.py UDFBURN KERNEL ROOM LIBRARY    file by file, by the C library
 
-KERNEL is the folder into which a kernel's package was unpacked. The machine's programs are those of this one.
+KERNEL is the folder into which a kernel's package was unpacked, and LIBRARY that of the C library. The machine's programs are those of
+this one.
 """
 
 from __future__ import annotations
@@ -39,6 +41,13 @@ def all_recorders() -> List[Recorder]:
     ]
 
 
+def packet_recorders() -> List[Recorder]:
+    """Drives of each kind, with and without a last recorded address. They may report the end of a track differently."""
+    kinds = {"CDR": "cdr", "DVDR": "dvdr", "DVD+R": "dvd+r", "BDR": "bdr"}
+    found = [Recorder(name, kind) for name, kind in kinds.items()]
+    return [*found, *(Recorder(f"{name} NO LAST", kind, faults=Faults(no_last=True)) for name, kind in kinds.items()), Recorder("REAL", "dvd+r")]
+
+
 # ---- what the machine has
 
 def libraries(program: str) -> Set[str]:
@@ -59,6 +68,9 @@ def machine_files(udfburn: str, room: Path) -> Dict[str, Path]:
     python, xorriso = os.path.realpath(sys.executable), shutil.which("xorriso") or "xorriso"
     found = {str(path): path for path in python_files()}
     programs = {python: Path(python), "/usr/bin/xorriso": Path(xorriso), "/bin/udfburn": Path(udfburn)}
+    library = room / "work/libudfburn.so.0"
+    if library.exists():
+        programs["/work/libudfburn.so.0"] = library
     needs = {name for path in [*programs.values(), *(path for path in found.values() if path.suffix == ".so")] for name in libraries(str(path))}
     found.update({name: Path(name) for name in needs})
     found.update(programs)
@@ -91,14 +103,28 @@ def start_archive(udfburn: str, kernel: Path, room: Path) -> Path:
     return out
 
 
-def make_work(udfburn: str, room: Path, count: int) -> None:
-    """An archive with two closed volumes, an image, and one whose copies would lie past its partition."""
+def make_client(room: Path, count: int) -> None:
+    """The client, and how many drives there are."""
     client = room / "client"
     shutil.copytree(TOP / "clients/python/udfburn", client / "udfburn")
     subprocess.run([sys.executable, "-m", "compileall", "-q", "--invalidation-mode", "unchecked-hash", str(client)], check=True)
-    work, tree = room / "work", room / "tree"
-    work.mkdir()
-    (work / "count").write_text(str(count))
+    (room / "work").mkdir()
+    (room / "work/count").write_text(str(count))
+
+
+def make_files(room: Path, library: Path) -> None:
+    """The C library, and files to store: inside their entries, and of one block and more."""
+    shutil.copyfile(library / "libudfburn.so.0", room / "work/libudfburn.so.0")
+    shutil.copyfile(Path(__file__).with_name("real.py"), room / "work/real.py")
+    for folder, count in (("first", 20), ("second", 5)):
+        (room / "work" / folder).mkdir()
+        for at in range(count):
+            (room / "work" / folder / f"f{at}.bin").write_bytes(bytes([count, at]) * (at % 7 * at * 300))
+
+
+def make_work(udfburn: str, room: Path) -> None:
+    """An archive with two closed volumes, an image, and one whose copies would lie past its partition."""
+    client, work, tree = room / "client", room / "work", room / "tree"
     environment = {**os.environ, "UDFBURN": udfburn, "PYTHONPATH": str(client), "UDFBURN_LEDGER": str(room / "ledger")}
 
     def python(*words: str) -> None:
@@ -146,8 +172,13 @@ def words_of(kernel: Path, machine: Path, console: Path, urls: List[str]) -> Lis
 
 def main() -> int:
     udfburn, kernel, room = os.path.realpath(sys.argv[1]), Path(sys.argv[2]), Path(sys.argv[3])
-    devices = recorders(all_recorders())
-    make_work(udfburn, room, len(devices))
+    library = Path(sys.argv[4]) if len(sys.argv) > 4 else None
+    devices = recorders(packet_recorders() if library else all_recorders())
+    make_client(room, len(devices))
+    if library:
+        make_files(room, library)
+    else:
+        make_work(udfburn, room)
     machine, console = start_archive(udfburn, kernel, room), room / "console"
     passed = failed = 0
     with Target(dict(devices)) as target:

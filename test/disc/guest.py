@@ -20,6 +20,9 @@ sys.path.insert(0, "/client")
 
 ARCHIVE, IMAGE, LABEL = "/work/archive", "/work/disc.img", "DISCS-000001"
 CLOSED = f"{ARCHIVE}/closed/{LABEL}.img"
+LIBRARY = "/work/libudfburn.so.0"
+"""The C library, where files are stored one by one."""
+
 BLOCK = 2048
 READ_ONLY, FINIT_MODULE, POWER_OFF = 1, 313, 0x4321FEDC
 
@@ -223,6 +226,70 @@ def past_the_partition(device: str) -> None:
     is_refused(device)
 
 
+# ---- file by file
+
+def files_are_there(device: str, folders: Dict[str, str]) -> None:
+    """Mounts a disc without options, and compares what it has with local folders."""
+    with mounted(device) as disc:
+        for name, local in folders.items():
+            if sorted(os.listdir(f"{disc}/{name}")) != sorted(os.listdir(local)):
+                raise AssertionError(f"{name} has {os.listdir(f'{disc}/{name}')}")
+            for file in os.listdir(local):
+                if bytes_of(f"{disc}/{name}/{file}", 1 << 20) != bytes_of(f"{local}/{file}", 1 << 20):
+                    raise AssertionError(f"{name}/{file} differs")
+
+
+def in_place(device: str, name: str) -> None:
+    """Formatted, filled, ejected, loaded, mounted; and once more with what is appended. A disc that is mounted is not written."""
+    from udfburn.burning import take_in_again
+
+    def quiet(line: str) -> None:
+        pass
+
+    where = ("--device", device)
+    expect(client("format", "--label", name.replace(" ", "-"), *where), 0, "formatted")
+    expect(client("put", "-r", "/work/first", "/first", *where), 0, "stored 20 files")
+    take_in_again(device, quiet)
+    files_are_there(device, {"first": "/work/first"})
+    with mounted(device):
+        expect(client("put", "-r", "/work/second", "/second", "--wait", "0", *where), 1, "another program has it, or the disc is mounted")
+    expect(client("put", "-r", "/work/second", "/second", *where), 0, "stored 5 files")
+    take_in_again(device, quiet)
+    files_are_there(device, {"first": "/work/first", "second": "/work/second"})
+    expect(client("verify", "/work/first", "/first", *where), 0, "20 files")
+
+
+def no_disc_drive() -> None:
+    """A device of another kind gets no command of a recorder."""
+    expect(client("ls", "/", "--device", "/dev/null"), 1, "is no drive for CD, DVD or BD")
+    expect(client("ls", "/", "--device", "/dev/none"), 1, "there is no such drive")
+
+
+def as_a_real_one(device: str) -> None:
+    """The steps of `test/disc.sh --device`."""
+    import runpy
+
+    os.mkdir("/tmp/real")
+    words, sys.argv = sys.argv, ["real.py", device, "/work", "/bin/udfburn", "/tmp/real"]
+    output = io.StringIO()
+    try:
+        with redirect_stdout(output):
+            runpy.run_path("/work/real.py", run_name="__main__")
+    except SystemExit as ended:
+        # The machine has no program that mounts.
+        expect((int(ended.code or 0), output.getvalue()), 0, "disc: 27 passed, 0 failed")
+    finally:
+        sys.argv = words
+
+
+def packet_tests(found: Dict[str, str]) -> List[Tuple[str, Callable[[], None]]]:
+    real = found.pop("REAL")
+    return [
+        *((f"in place: {name}", partial(in_place, device, name)) for name, device in sorted(found.items())), ("no disc drive", no_disc_drive),
+        ("what a real drive is tried with", lambda: as_a_real_one(real)),
+    ]
+
+
 def tests(found: Dict[str, str]) -> List[Tuple[str, Callable[[], None]]]:
     return [
         ("too small", lambda: refused(found["SMALL"], "is too small")),
@@ -253,7 +320,10 @@ def main() -> None:
     found = drives(count)
     if len(found) != count:
         say(f"failed drives: {found}")
-    for name, test in tests(found):
+    packets = os.path.exists(LIBRARY)
+    if packets:
+        os.environ["UDFBURN_LIBRARY"] = LIBRARY
+    for name, test in packet_tests(found) if packets else tests(found):
         began = time.monotonic()
         try:
             test()

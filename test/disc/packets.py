@@ -60,7 +60,7 @@ class Room:
     """What the tests share: the programs, and files to store."""
 
     def __init__(self, udfburn: str, library: Path, folder: Path):
-        self.udfburn, self.folder = udfburn, folder
+        self.udfburn, self.folder, self.library = udfburn, folder, library
         self.programs = {name: str(folder / name) for name in ("packet", "mmc")}
         words = ["cc", "-std=c99", "-O1", "-g", "-Wall", "-Wextra", "-Werror", "-pedantic", f"-I{library}", f"-I{TOP / 'test/library'}"]
         for name, source in (("packet", TOP / "examples/packet.c"), ("mmc", TOP / "test/disc/mmc.c")):
@@ -96,6 +96,18 @@ class Room:
             done = subprocess.run([self.programs[name], DEVICE, *words], env=environment, capture_output=True, text=True, timeout=PATIENCE, check=False)
         stored = [line[7:] for line in done.stdout.splitlines() if line.startswith("stored ")]
         return Ran(done.returncode, done.stdout, done.stderr, stored)
+
+    def client(self, recorder: Recorder, *words: str) -> Ran:
+        """Runs the client on the disc in a recorder."""
+        with self.line(recorder) as environment:
+            environment.update(
+                PYTHONPATH=str(TOP / "clients/python"), UDFBURN_LIBRARY=str(self.library / "libudfburn.so.0"), UDFBURN_LEDGER=str(self.folder / "ledger"),
+                UDFBURN=self.udfburn,
+            )
+            done = subprocess.run(
+                [sys.executable, "-m", "udfburn", *words, "--device", DEVICE], env=environment, capture_output=True, text=True, timeout=PATIENCE, check=False,
+            )
+        return Ran(done.returncode, done.stdout, done.stderr, [])
 
     def store(self, recorder: Recorder, files: List[Path]) -> Ran:
         return self.run(recorder, "packet", "DISC", *map(str, files))
@@ -305,6 +317,83 @@ def slow(room: Room, kind: str) -> None:
     expect(said.status == 0 and len(said.stored) == 2 and recorder.slow == 0, said)
 
 
+# ---- the client
+
+def tree_of(room: Room, name: str, count: int) -> Path:
+    """A folder with new files."""
+    folder = room.folder / name
+    folder.mkdir()
+    for path in room.files(count):
+        path.rename(folder / path.name)
+    return folder
+
+
+def by_client(room: Room, kind: str) -> None:
+    """The commands on a disc. Another disc in the same drive is another volume, and the first one is known again."""
+    recorder, other, tree = Recorder(f"CLIENT-{kind}", kind), Recorder(f"OTHER-{kind}", kind), tree_of(room, f"tree-{kind}", 8)
+    said = room.client(recorder, "ls", "/")
+    expect(said.status == 1 and "the disc has no volume" in said.errors, said)
+    expect(room.client(recorder, "format", "--label", "ONE").status == 0, "format")
+    said = room.client(recorder, "put", "-r", str(tree), "/tree")
+    expect(said.status == 0 and "stored 8 files" in said.output, said)
+    synchronized = recorder.synchronized
+    said = room.client(recorder, "put", "-r", str(tree), "/tree")
+    expect(said.status == 0 and "8 were there" in said.output and recorder.synchronized == synchronized, said)
+    expect(room.client(other, "format", "--label", "TWO").status == 0, "format")
+    said = room.client(other, "put", "-r", str(tree), "/tree")
+    expect(said.status == 0 and "stored 8 files" in said.output, said)
+    said = room.client(recorder, "put", "-r", str(tree), "/tree")
+    expect(said.status == 0 and "8 were there" in said.output, said)
+    out = room.folder / f"out-{kind}"
+    said = room.client(recorder, "get", "-r", "/tree", str(out))
+    expect(said.status == 0, said)
+    for path in tree.iterdir():
+        expect((out / path.name).read_bytes() == path.read_bytes(), path)
+    said = room.client(recorder, "verify", str(tree), "/tree")
+    expect(said.status == 0, said)
+    said = room.client(recorder, "format", "--label", "THREE")
+    expect(said.status == 1 and "holds something already" in said.errors, said)
+    recorder.closed = True
+    said = room.client(recorder, "put", "-r", str(tree), "/again")
+    expect(said.status == 1 and "the disc is closed" in said.errors, said)
+    said = room.client(Recorder("NONE", None), "ls", "/")
+    expect(said.status == 1 and "there is no disc in it" in said.errors, said)
+
+
+def client_deletes(room: Room, kind: str) -> None:
+    """Power is lost while sources are deleted as they are stored. What is not there any more is on the medium."""
+    recorder, kept, gone = Recorder(f"DELETES-{kind}", kind), {}, 0
+    expect(room.client(recorder, "format", "--label", "GONE").status == 0, "format")
+    for turn in range(3):
+        tree = tree_of(room, f"gone-{kind}-{turn}", 6)
+        kept.update({path: path.read_bytes() for path in tree.iterdir()})
+        recorder.cut_at, recorder.cut = WRITES, room.chance.randint(1, 9)
+        room.client(recorder, "put", "-r", str(tree), f"/{turn}", "--delete-source", "--wait", "0")
+        recorder.cut = None
+        image = str(room.image_of(recorder))
+        for path, data in kept.items():
+            if not path.exists():
+                gone += 1
+                name = f"/{path.parent.name[-1]}/{path.name}"
+                found = subprocess.run([room.udfburn, "get", image, name], capture_output=True, check=False)
+                expect(found.returncode == 0 and found.stdout == data, f"{path} was deleted, and is not there: {found.stderr!r}")
+    expect(gone > 0, "no source was deleted")
+
+
+def client_faults(room: Room, kind: str) -> None:
+    """A write that fails is tried again, after what it spoiled; an anchor that is spoiled is the end of the disc."""
+    recorder, tree = Recorder("WORN", kind, faults=Faults(write=400, once=True, spoils=True)), tree_of(room, f"worn-{kind}", 16)
+    expect(room.client(recorder, "format", "--label", "WORN").status == 0, "format")
+    said = room.client(recorder, "put", "-r", str(tree), "/tree")
+    expect(said.status == 0 and recorder.failed, said)
+    expect(room.client(recorder, "verify", str(tree), "/tree").status == 0, "verify")
+    spoiled = Recorder("SPOILED", kind, faults=Faults(write=256, once=True, spoils=True))
+    said = room.client(spoiled, "format", "--label", "WORN", "--moment", "7")
+    expect(said.status == 1 and "WRITE(10) failed (sense 030c00)" in said.errors and "--moment 7" in said.errors, said)
+    said = room.client(spoiled, "format", "--label", "WORN", "--moment", "7")
+    expect(said.status == 1 and "take another one" in said.errors, said)
+
+
 def tests(room: Room) -> List[Tuple[str, Callable[[], None]]]:
     found: List[Tuple[str, Callable[[], None]]] = []
     for kind in KINDS:
@@ -324,6 +413,12 @@ def tests(room: Room) -> List[Tuple[str, Callable[[], None]]]:
             (f"{kind}: a wrong bit", partial(wrong_bit, room, kind)),
             (f"{kind}: reads that fail", partial(reads, room, kind)),
             (f"{kind}: a slow drive", partial(slow, room, kind)),
+        ]
+    for kind in ("cdr", "dvdr"):
+        found += [
+            (f"{kind}: the client", partial(by_client, room, kind)),
+            (f"{kind}: the client deletes sources, and power is lost", partial(client_deletes, room, kind)),
+            (f"{kind}: the client and writes that fail", partial(client_faults, room, kind)),
         ]
     found += [
         ("cdr: the last link is not counted", partial(good, room, "cdr", Faults(ends_early=True))),

@@ -465,4 +465,4 @@ class Recorder:
 
 def recorders(wanted: "List[Recorder]") -> "Dict[str, Recorder]":
     """Recorders by the names of their targets."""
-    return {f"iqn.2026-11.disc:{recorder.name.lower()}": recorder for recorder in wanted}
+    return {f"iqn.2026-11.disc:{recorder.name.lower().replace(' ', '-')}": recorder for recorder in wanted}
