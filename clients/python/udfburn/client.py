@@ -95,7 +95,13 @@ class Client:
             ledger = self._ledger
             if not isinstance(ledger, Ledger):
                 ledger = Ledger(ledger or default_path(), self._wanted, self._patience)
-            self._session = Session(self.line, ledger, self._shared)
+            try:
+                self._session = Session(self.line, ledger, self._shared)
+            except BaseException:
+                # Where a disc cannot be had there is no session that would close it.
+                if ledger is not self._ledger:
+                    ledger.close()
+                raise
         return self._session
 
     # ---- requests

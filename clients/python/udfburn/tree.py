@@ -39,7 +39,9 @@ class Importer:
         if options.verify and options.dry_run:
             raise UsageError("nothing is read back of a dry run")
         self.client = client
-        self.options = options
+        # A commit whose packet was not as it was sent is on the disc all the same, and a repeat of its request is acknowledged by it.
+        reads_back = options.verify or client.endpoint.kind == "device" and not options.dry_run
+        self.options = options._replace(verify=reads_back)
         self.told, self.stored = told, stored
         self.summary = Summary()
         self.present = Present()
