@@ -183,11 +183,13 @@ def checked(room: Room, kind: str) -> None:
 
 def full(room: Room, kind: str) -> None:
     """A small disc takes files until there is no room, and stays sound."""
-    recorder = Recorder("FULL", kind, 700)
-    said = room.store(recorder, room.files(60))
-    expect(said.status == 1 and "UDFBURN_FULL" in said.output and 5 < len(said.stored) < 60, said)
-    expect(recorder.written() <= 700, recorder.written())
-    room.require(recorder, said.stored)
+    # The last VAT ICB of a CD-R may come to lie in each of the last blocks.
+    for blocks in range(600, 612) if kind == "cdr" else (700,):
+        recorder = Recorder("FULL", kind, blocks)
+        said = room.store(recorder, room.files(40))
+        expect(said.status == 1 and "UDFBURN_FULL" in said.output and 5 < len(said.stored) < 40, said)
+        expect(not said.errors and recorder.written() <= blocks, (said, recorder.written()))
+        room.require(recorder, said.stored)
 
 
 # ---- discs and drives that are refused
@@ -296,7 +298,7 @@ def reads(room: Room, kind: str) -> None:
     """A read that fails is no block of zeros: the volume would go back to an earlier commit. One that fails at the first try is tried again."""
     recorder = Recorder("READS", kind)
     stored, refused_runs = room.store(recorder, room.files(5)).stored, 0
-    for number in range(1, 15):
+    for number in range(1, 40, 3):
         recorder.reads, recorder.faults = 0, Faults(hardware=number)
         said = room.store(recorder, room.files(1))
         refused_runs += said.status != 0
@@ -387,6 +389,15 @@ def client_faults(room: Room, kind: str) -> None:
     said = room.client(recorder, "put", "-r", str(tree), "/tree")
     expect(said.status == 0 and recorder.failed, said)
     expect(room.client(recorder, "verify", str(tree), "/tree").status == 0, "verify")
+    flips = Recorder("FLIPS", kind, faults=Faults(flips=4))
+    changed = room.folder / f"flips-{kind}"
+    changed.mkdir()
+    for at in range(6):
+        (changed / str(at)).write_bytes(bytes([at + 1]) * 40_000)
+    expect(room.client(flips, "format", "--label", "FLIPS").status == 0, "format")
+    said = room.client(flips, "put", "-r", str(changed), "/flips", "--delete-source")
+    expect(said.status == 1 and "the volume has other bytes than were stored" in said.errors, said)
+    expect(len(list(changed.iterdir())) == 1, "a source is gone that is not on the disc")
     spoiled = Recorder("SPOILED", kind, faults=Faults(write=256, once=True, spoils=True))
     said = room.client(spoiled, "format", "--label", "WORN", "--moment", "7")
     expect(said.status == 1 and "WRITE(10) failed (sense 030c00)" in said.errors and "--moment 7" in said.errors, said)

@@ -60,7 +60,7 @@ class Faults(NamedTuple):
     drive goes on after it. `no_last`: no last recorded address is given. `ends_early`: the last link is not counted as recorded.
     `loses`: the blocks of this synchronisation, counted from 1, are lost, which nothing says. `flips`: those of it have a wrong bit.
     `unsynchronized`: it fails, with its blocks on the medium. `stuck`: it and all after it fail, and the blocks stay in the buffer. `resets`: the drive resets before it, and loses them. `slow`: so many times a
-    command is refused, since the drive is not ready yet. `hardware`: this READ, counted from 1, fails for another reason than the medium.
+    command is refused, since the drive is not ready yet. `hardware`: this READ, counted from 1, and five after it fail for another reason than the medium.
     `flaky`: what is read from a cache fails at the first try.
     """
 
@@ -361,7 +361,7 @@ class Recorder:
             raise Sense(ILLEGAL, 0x2100)
         wanted = range(address, address + count)
         self.reads += 1
-        if self.reads == self.faults.hardware:
+        if 0 <= self.reads - self.faults.hardware < 6 and self.faults.hardware:
             # The drive's parts do not talk to each other.
             raise Sense(HARDWARE_ERROR, 0x0800)
         if self.faults.flaky and not cdb[1] & 8 and (address, count) not in self.tried:
