@@ -192,6 +192,11 @@ class Commands(WithLibrary):
             self.assertEqual(first.read(), second.read())
         self.assertIn("holds something already", self.run_command("format", made, "--library", where=[], status=1))
 
+    def test_why_it_cannot_be_made(self) -> None:
+        """The call of the system that failed is named, with its errno."""
+        told = self.run_command("format", os.path.join(self.room, "none", "made.img"), "--library", where=[], status=1)
+        self.assertRegex(told, r"UDFBURN_DEVICE. .open of .*none.*: No such file or directory.")
+
     def test_a_walk(self) -> None:
         self.write("sources/a", b"a")
         self.write("sources/b/c", b"c" * 5000)

@@ -23,6 +23,7 @@ from udfburn.retrying import TURN, RetryingConnection
 STUB = """
 #include <stdint.h>
 #include <stdlib.h>
+#include <string.h>
 static int32_t said(const char *name) { return getenv(name) ? atoi(getenv(name)) : 0; }
 const char *udfburn_version(void) { return "9.8.7"; }
 const char *udfburn_error_name(int32_t s) {
@@ -36,6 +37,16 @@ int32_t udfburn_answer(void *handle, const void *bytes, size_t count) { return s
 size_t udfburn_answered(const void *handle) { return 0; }
 #endif
 size_t udfburn_take(void *handle, void *into, size_t room) { return 0; }
+struct udfburn_reason { size_t size; int32_t status, error; char call[32], path[256]; };
+int32_t udfburn_reason(void *handle, struct udfburn_reason *reason) {
+    if (!getenv("STUB_CALL")) return 7;
+    if (reason->size != sizeof *reason) return 6;
+    reason->status = said(handle ? "STUB_ANSWER" : getenv("STUB_FORMAT") ? "STUB_FORMAT" : "STUB_OPEN") + said("STUB_LATER");
+    reason->error = said("STUB_NUMBER");
+    strcpy(reason->call, getenv("STUB_CALL"));
+    strcpy(reason->path, handle ? "" : "/a/disc.img");
+    return 0;
+}
 void udfburn_close(void *handle) {}
 """
 
@@ -145,6 +156,19 @@ class Statuses(WithStub):
             with mock.patch.dict(os.environ, STUB_FORMAT=status), redirect_stderr(errors):
                 self.assertEqual(main(["format", "--library", "--quiet", self.image]), 1)
             self.assertRegex(errors.getvalue(), words)
+
+    def test_the_reason(self) -> None:
+        """What failed below a call, with its errno and its path, is in the message; 28 is ENOSPC and 5 EIO on Linux."""
+        full = r"UDFBURN_NO_SPACE: the disk of the image is full .fsync: No space left on device. .tried"
+        self.fails(e.ConnectionFailed, full, answer="11", call="fsync", number="28")
+        self.fails(e.ConnectionFailed, r"UDFBURN_DEVICE: .* .open of /a/disc.img: Input/output error. .tried", open="2", call="open", number="5")
+        self.fails(e.ConnectionFailed, r"UDFBURN_DEVICE: .* .fstat of /a/disc.img. .tried", open="2", call="fstat")
+        # That of another call is not taken for it.
+        self.fails(e.ConnectionFailed, r"its disk failed .tried", open="2", call="open", number="5", later="1")
+        errors = StringIO()
+        with mock.patch.dict(os.environ, STUB_FORMAT="2", STUB_CALL="pwrite", STUB_NUMBER="5"), redirect_stderr(errors):
+            self.assertEqual(main(["format", "--library", "--quiet", self.image]), 1)
+        self.assertIn("(UDFBURN_DEVICE) (pwrite of /a/disc.img: Input/output error)", errors.getvalue())
 
     def test_an_interrupted_open(self) -> None:
         """The volume is closed again."""

@@ -11,6 +11,7 @@ from typing import Dict, List, NamedTuple, Optional, Tuple
 
 from .connection import Connection, Lost
 from .errors import DAMAGE, Damaged, UsageError
+from .protocol import shown
 
 NAME = "libudfburn.so.0"
 
@@ -18,6 +19,15 @@ OK = 0
 """The status of a call that succeeded."""
 
 HANDLE = ctypes.c_void_p
+
+
+class ReasonOfC(ctypes.Structure):
+    """`struct udfburn_reason`."""
+
+    _fields_ = [
+        ("size", ctypes.c_size_t), ("status", ctypes.c_int32), ("error", ctypes.c_int32), ("call", ctypes.c_char * 32), ("path", ctypes.c_char * 256),
+    ]
+
 
 CALLS: Dict[str, Tuple[Optional[type], List[object]]] = {
     "udfburn_version": (ctypes.c_char_p, []),
@@ -28,16 +38,25 @@ CALLS: Dict[str, Tuple[Optional[type], List[object]]] = {
     "udfburn_answered": (ctypes.c_size_t, [HANDLE]),
     "udfburn_take": (ctypes.c_size_t, [HANDLE, ctypes.c_char_p, ctypes.c_size_t]),
     "udfburn_close": (None, [HANDLE]),
+    "udfburn_reason": (ctypes.c_int32, [HANDLE, ctypes.POINTER(ReasonOfC)]),
 }
 """The functions of udfburn.h that are used here: what each returns and takes."""
 
 
 class Refused(Exception):
-    """A call returned a status other than UDFBURN_OK. `name` is the status."""
+    """A call returned a status other than UDFBURN_OK. `name` is the status. `error` is the errno of the call of the system that failed below
+    it, `call`, on the file at `path`; 0 and no text where none failed, or its path is not known."""
 
-    def __init__(self, name: str):
+    def __init__(self, name: str, error: int = 0, call: str = "", path: str = ""):
         super().__init__(name)
-        self.name = name
+        self.name, self.error, self.call, self.path = name, error, call, path
+
+    def reason(self) -> str:
+        """Why it failed, as it is added to a message; nothing where the library does not know more."""
+        if not self.call:
+            return ""
+        where = f" of {shown(self.path)}" if self.path else ""
+        return f" ({self.call}{where}: {os.strerror(self.error)})" if self.error else f" ({self.call}{where})"
 
 
 class Library(NamedTuple):
@@ -51,10 +70,14 @@ class Library(NamedTuple):
         said: bytes = self.calls.udfburn_version()
         return said.decode(errors="replace")
 
-    def require(self, status: int) -> None:
-        """Raises `Refused` unless the status is UDFBURN_OK."""
+    def require(self, status: int, handle: Optional[HANDLE] = None) -> None:
+        """Raises `Refused` unless the status is UDFBURN_OK. The call was on a handle, or on none."""
         if status != OK:
             said: bytes = self.calls.udfburn_error_name(status)
+            reason = ReasonOfC(ctypes.sizeof(ReasonOfC))
+            # What it says may be of an earlier call, where this one was refused before it began.
+            if self.calls.udfburn_reason(handle, ctypes.byref(reason)) == OK and reason.status == status:
+                raise Refused(said.decode(errors="replace"), reason.error, reason.call.decode(errors="replace"), os.fsdecode(reason.path))
             raise Refused(said.decode(errors="replace"))
 
     def format(self, path: str, label: str, moment: int, blocks: int) -> None:
@@ -85,7 +108,7 @@ class OpenVolume:
         """Sends bytes of the stream of messages. Every message that is complete is answered."""
         if os.getpid() != self._process:
             raise UsageError("the volume was opened before the fork and belongs to the parent: when the parent has closed it, close it in the child too and open it again")
-        self._library.require(self._library.calls.udfburn_answer(self._handle, frames, len(frames)))
+        self._library.require(self._library.calls.udfburn_answer(self._handle, frames, len(frames)), self._handle)
 
     def take(self, most: int) -> bytes:
         """The next bytes of the answers, at most so many. Empty if no answer waits."""
@@ -151,7 +174,7 @@ def told(refused: Refused) -> Exception:
         "UDFBURN_NO_SPACE": "the disk of the image is full",
         "UDFBURN_READ_ONLY": "the image may not be written",
     }
-    return Lost(f"{refused.name}: {why.get(refused.name, 'the library refused')}")
+    return Lost(f"{refused.name}: {why.get(refused.name, 'the library refused')}{refused.reason()}")
 
 
 _found: Dict[str, Library] = {}

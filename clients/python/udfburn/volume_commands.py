@@ -155,19 +155,19 @@ def format_by_library(image: str, label: str, when: int, blocks: int) -> None:
     try:
         find_library().format(os.path.realpath(image), label, when, blocks)
     except Refused as refused:
-        raise SourceError(why_not_formatted(image, refused.name)) from refused
+        raise SourceError(why_not_formatted(image, refused.name, refused.reason())) from refused
 
 
-def why_not_formatted(image: str, line: str) -> str:
-    """What the program's line, or the library's status, means for whoever formats."""
+def why_not_formatted(image: str, line: str, reason: str = "") -> str:
+    """What the program's line, or the library's status with its reason, means for whoever formats."""
     if "61 NotBlank" in line or line == "UDFBURN_VOLUME":
         return (
             f"{shown(image)}: holds something already, and stays as it is. Use another name; or, if it was left by a format that was cut"
             " short, remove it, or repeat that format with its own --label, --capacity and --moment"
         )
     if "64 Device" in line or line in ("UDFBURN_BUSY", "UDFBURN_DEVICE", "UDFBURN_NO_SPACE", "UDFBURN_READ_ONLY"):
-        return f"{shown(image)}: cannot be made or written: its folder is missing, its disk is full or fails, or another program has it ({line})"
-    return f"{shown(image)}: {line}"
+        return f"{shown(image)}: cannot be made or written: its folder is missing, its disk is full or fails, or another program has it ({line}){reason}"
+    return f"{shown(image)}: {line}{reason}"
 
 
 # ---- status
