@@ -70,6 +70,8 @@ class Chosen(WithArchive):
         for number in (2, 3):
             shutil.copy(self.image(self.other, number), self.image(self.archive, number))
         self.lose()
+        # What only has the name of a marker is none, and takes nothing from the others.
+        os.mkdir(os.path.join(self.copies, f"udfburn-archive-{'0' * 36}.txt"))
         done = self.do("rebuild", status=1)
         self.assertEqual(self.kept(), ["archive"])
         self.assertEqual(len([line for line in done.last()["failures"] if "belongs to another archive" in line]), 2)

@@ -219,6 +219,9 @@ class Races(WithTree):
         tried(lambda: own_files.move(path + ".new", os.path.join(self.tree, "g")))
         with own_files.from_top(path + ".new") as place:
             tried(lambda: own_files.copy(os.path.join(self.tree, "g"), place))
+        tried(lambda: os.close(own_files.opened(path)))
+        with own_files.from_top(path + ".new") as place:
+            tried(lambda: os.close(place.root.lock_file(place.names)))
         tried(lambda: own_files.remove(path))
 
     def opened(self, descriptor: int) -> bytes:

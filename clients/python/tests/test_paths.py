@@ -39,7 +39,6 @@ ALLOWED: Dict[str, Dict[str, str]] = {
     "archive.adopt": {"os.path.isfile": KIND, "os.path.lexists": FOLDER},
     "archive.base": {"os.path.lexists": FOLDER, "sqlite3.connect": OWN},
     "archive.batch": {"os.mkdir": OURS, "os.lstat": OURS, "shutil.rmtree": OURS, "open": OURS, "os.open": OURS},
-    "archive.claims": {"os.open": "it opens no link and waits for no pipe, and reads and writes nothing: the file is a lock"},
     "archive.close": {"os.path.getsize": KIND, "os.path.isfile": KIND, "os.path.lexists": FOLDER, "tempfile.TemporaryDirectory": OURS, "open": OURS},
     "archive.commands": {"os.path.exists": KIND},
     "archive.config": {"os.listdir": KIND, "os.scandir": KIND},

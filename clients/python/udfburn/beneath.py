@@ -197,11 +197,16 @@ class Root:
         except FileNotFoundError:
             return None
 
-    def open_file(self, names: Names, keep_access_time: bool = False) -> int:
-        """Opens a regular file to read it. Its time of access stays, if asked for, where the system lets this user: a time that changes is
+    def open_file(self, names: Names, keep_access_time: bool = False, writes: bool = False) -> int:
+        """Opens a regular file to read it, or to write to it too. Its time of access stays, if asked for, where the system lets this user: a time that changes is
         one more thing for the disk to write."""
         with self.at(names[:-1]) as descriptor:
-            return open_regular(names[-1], READ | (NO_ACCESS_TIME if keep_access_time else 0), descriptor)
+            return open_regular(names[-1], READ | (NO_ACCESS_TIME if keep_access_time else 0) | (os.O_RDWR if writes else 0), descriptor)
+
+    def lock_file(self, names: Names) -> int:
+        """Opens a file whose lock alone counts, made where it is missing. Nothing is read of it or written to it."""
+        with self.at(names[:-1]) as descriptor:
+            return os.open(plain(names[-1]), os.O_RDWR | os.O_CREAT | os.O_NOFOLLOW | os.O_NONBLOCK | os.O_CLOEXEC, 0o600, dir_fd=descriptor)
 
     def new_file(self, names: Names, mode: int = 0o666) -> int:
         """Makes a file that was not there, and opens it."""

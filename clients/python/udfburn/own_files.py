@@ -27,6 +27,12 @@ def from_top(path: str) -> Iterator[Place]:
         yield Place(root, names_from_top(path))
 
 
+def opened(path: str) -> int:
+    """A descriptor of a regular file, to read and to write it."""
+    with from_top(path) as place:
+        return place.root.open_file(place.names, writes=True)
+
+
 def move(path: str, to: str) -> None:
     """Gives a file another name, in the place of what has that. Both folders are durable then."""
     with from_top(path) as place:
@@ -81,4 +87,4 @@ def copy_bytes(old: int, new: int, most: Optional[int] = None, told: Told = unto
             piece = piece[os.write(new, piece) :]
 
 
-__all__ = ["Told", "copy", "copy_bytes", "from_top", "move", "new", "remove", "set_mode", "untold"]
+__all__ = ["Told", "copy", "copy_bytes", "from_top", "move", "new", "opened", "remove", "set_mode", "untold"]

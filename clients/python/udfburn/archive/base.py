@@ -4,11 +4,11 @@ from __future__ import annotations
 
 import os
 import sqlite3
-from contextlib import contextmanager, suppress
+from contextlib import contextmanager
 from typing import Any, Dict, Iterable, Iterator, List, NamedTuple, Optional, Sequence, Tuple
 
+from ..beneath import new_given
 from ..ledger_file import sync_folder
-from ..own_files import new
 from ..sources import shown
 from .config import without_password
 from .errors import CatalogueError, CatalogueLost
@@ -106,9 +106,7 @@ class SqliteBase(Base):
             raise CatalogueError(f"{shown(path)}: the catalogue is missing: 'udfburn-archive rebuild' makes a new one from the volumes")
         if not there:
             # Its log and its index get the same permissions.
-            with suppress(OSError):
-                # What cannot be made SQLite cannot open, and says why.
-                new(path, mode)
+            new_given(path, mode)
         try:
             self._base = sqlite3.connect(path, isolation_level=None, timeout=60)
             self._base.execute("PRAGMA journal_mode = WAL")

@@ -20,7 +20,7 @@ from typing import IO, Optional, Type
 from ..beneath import open_own
 from ..disk import room_left
 from ..ledger_file import remove
-from ..own_files import from_top
+from ..own_files import from_top, opened
 from ..protocol import limits
 from ..scratch import own_folder, sweep
 from ..sources import shown
@@ -93,7 +93,7 @@ def forget_tail(image: str) -> None:
 
 def locked(image: str) -> int:
     """A descriptor of an image that no other process writes meanwhile."""
-    descriptor = open_own(image, os.O_RDWR)
+    descriptor = opened(image)
     try:
         fcntl.flock(descriptor, fcntl.LOCK_EX | fcntl.LOCK_NB)
     except BlockingIOError as error:

@@ -12,6 +12,7 @@ import os
 from hashlib import sha256
 from typing import Any, List
 
+from ..own_files import from_top
 from ..protocol import Path
 from .base import Base, PostgresBase, connect, trouble
 from .errors import CatalogueLost, Claimed
@@ -58,7 +59,8 @@ class FileClaims(Claims):
         self._held: List[int] = []
 
     def _lock(self, name: str, alone: bool) -> bool:
-        descriptor = os.open(os.path.join(self._folder, name), os.O_RDWR | os.O_CREAT | os.O_NOFOLLOW | os.O_NONBLOCK | os.O_CLOEXEC, 0o600)
+        with from_top(os.path.join(self._folder, name)) as place:
+            descriptor = place.root.lock_file(place.names)
         try:
             fcntl.flock(descriptor, (fcntl.LOCK_EX if alone else fcntl.LOCK_SH) | fcntl.LOCK_NB)
         except BlockingIOError:

@@ -17,7 +17,7 @@ from ..beneath import is_own, open_own, place_of
 from ..connection import find_program, run_program
 from ..manifest import BAG_DECLARATION, BAG_INFO, DECLARATION, MANIFEST, PAYLOAD, TAG_MANIFEST, Line, bag_manifest
 from ..operations import Operation, now
-from ..own_files import Told, move, remove, untold
+from ..own_files import Told, move, opened, remove, untold
 from ..protocol import Code, Create, Path, Remove, Replace, limits
 from ..sources import shown
 from .bag import info, tag_manifest
@@ -202,7 +202,7 @@ class Closer:
     def _end(self, image: str, contents: Contents) -> None:
         """Ends the image after its last VAT ICB, looks at all of it, and makes it read-only."""
         end = (contents.last_address + 1) * limits.BLOCK
-        descriptor = open_own(image, os.O_RDWR)
+        descriptor = opened(image)
         try:
             fcntl.flock(descriptor, fcntl.LOCK_EX | fcntl.LOCK_NB)
             if os.fstat(descriptor).st_size > end:

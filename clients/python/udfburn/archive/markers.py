@@ -150,9 +150,13 @@ def markers_of(label: str, folder: str) -> Set[str]:
     with opened(folder) as root:
         for name in root.names_in(()):
             match = NAME.fullmatch(name)
-            fields = read_marker(root, name) if match else {}
-            if match and (fields.get("archive"), fields.get("label")) == (match.group(1), label):
-                found.add(match.group(1))
+            if match is None:
+                continue
+            # One that cannot be read is none, and the others are as good without it.
+            with suppress(OSError):
+                fields = read_marker(root, name)
+                if (fields.get("archive"), fields.get("label")) == (match.group(1), label):
+                    found.add(match.group(1))
     return found
 
 

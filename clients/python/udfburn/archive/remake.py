@@ -135,6 +135,8 @@ def open_or_make(config: Config, tell: Tell) -> "Tuple[Catalogue, Kept]":
         catalogue = Catalogue(config, make=True)
         catalogue.mend_index()
         return catalogue, NOTHING
+    # The user may keep it in a folder that a link leads to.
+    path = os.path.join(os.path.realpath(os.path.dirname(path)), os.path.basename(path))
     aside = f"{path}.damaged-{time.time_ns()}"
     tell.note(f"{shown(path)}: is damaged ({why}); it is kept as {shown(aside)}", did="put aside", path=aside)
     for end in ("-wal", "-shm", ""):
