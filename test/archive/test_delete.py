@@ -25,6 +25,23 @@ sys.exit(main(sys.argv[1:]))
 """
 """Runs the command, and does something right before sources go that were stored just now."""
 
+GONE = """
+import os, sys
+from udfburn.archive import delete
+real = delete.delete
+def first(source):
+    real(source)
+    for path in os.environ["IMAGES"].split(os.pathsep):
+        if os.path.exists(path):
+            open(path + ".other", "w").close()
+            os.replace(path + ".other", path) if os.environ["OTHER"] else os.unlink(path)
+delete.delete = first
+from udfburn.archive.cli import main
+sys.exit(main(sys.argv[1:]))
+"""
+"""Runs the command, and removes or replaces images once the first source is gone."""
+
+
 
 class WithCopies(WithArchive):
     """A closed volume with two copies in folders."""
@@ -83,6 +100,19 @@ class Acknowledged(WithCopies):
         self.require_left([b"the one"], "two does not have them")
         shutil.rmtree(self.copies[1])
         self.assertEqual(self.add("--delete-source").last()["deleted"], 0)
+
+    def test_images_that_go_meanwhile(self) -> None:
+        """What is open can be read still, and is nowhere any more."""
+        left = len(self.before)
+        for other in ("yes", ""):
+            room = {**environment(), "IMAGES": os.pathsep.join([self.image, self.copy(0), self.copy(1)]), "OTHER": other}
+            kept = [shutil.copy(path, path + ".kept") for path in (self.image, self.copy(0), self.copy(1))]
+            words = ["add", self.source, "--at", "/s", "--archive", self.archive, "--delete-source"]
+            done = subprocess.run([sys.executable, "-c", GONE, *words], env=room, capture_output=True, text=True, timeout=PATIENCE)
+            left -= 1
+            self.assertEqual(len(digests(self.source)), left, done.stdout + done.stderr)
+            for path in kept:
+                os.replace(path, path[: -len(".kept")])
 
     def test_a_good_copy_is_enough(self) -> None:
         os.unlink(self.image)
