@@ -6,7 +6,7 @@ use Rattle.std.proofs.lemmas.List.{length-replicate}
 use Rattle.model.specs.Tree.{Name, Path, Content, Tree, Has, names_at, names_in, found_names, found_directory, has_names, is_directory_at, parent_of, last_of, paths_eq}
 use Rattle.model.specs.Tree.Content.{File, Directory}
 use Rattle.model.specs.Operation.{Operation, code_of, is_other, done}
-use Rattle.model.specs.Operation.Operation.{Create, Replace, MakeDir, Rename, Remove}
+use Rattle.model.specs.Operation.Operation.{Create, Replace, Append, MakeDir, Rename, Remove}
 use Rattle.model.specs.Session.{State, Request, after_one}
 use Rattle.model.specs.Addresses.{free_address}
 use Rattle.model.specs.Graph.{Graph, Stored, Entry, Body, Reach, entries_in, entries_of, content_in, node_of, as_stored, is_directory}
@@ -20,7 +20,8 @@ use Rattle.durability.specs.Formats.{Block, Table_, Formats, AreExact, AreBounde
 use Rattle.durability.specs.Volume.{Medium, partition_start, blocks_for, graph_of, RecoversTo}
 use Rattle.durability.specs.Commit.{most_inside, file_blocks, most_for_file, most_for_directory, most_for_directory_at, most_for_nodes, most_for_table, table_size, need}
 use Rattle.durability.specs.Plan.{zeros, packed, Writing, Written, IsPlaced, PlacesFile, PlacesBody, WritesNodes, IsPlanned, Plans, PlansAddition, PlansRenaming, PlansMove}
-use Rattle.durability.specs.Plan.PlacesFile.{nowhere, inside, outside}
+use Rattle.durability.specs.Plan.PlacesFile.{nowhere, inside, outside, appended}
+use Rattle.durability.specs.Commit.{most_for_append}
 use Rattle.durability.proofs.Packed.{length-packed}
 use Rattle.durability.proofs.Planned.{zero_or, tree_done, moved_reach, table_length_is}
 
@@ -69,37 +70,58 @@ content_names (Bytes bytes) = refl
 content_names (Entries parent entries) = refl
 
 module _ (formats : Formats) (spelled : Name → ℕ) (short : AreShort formats spelled) where
+  abbrev pub most_for_kept : ℕ → Body → ℕ
+  most_for_kept kept (Bytes bytes) = most_for_append kept (length bytes - kept) bytes
+  most_for_kept kept (Entries parent entries) = most_for_directory spelled (map (λ e. e.name) entries)
+
   abbrev pub most_for_body : Body → ℕ
-  most_for_body (Bytes bytes) = most_for_file bytes
-  most_for_body (Entries parent entries) = most_for_directory spelled (map (λ e. e.name) entries)
+  most_for_body body = most_for_kept 0 body
 
   abbrev pub most_for_all : List Writing → ℕ
   most_for_all [] = 0
-  most_for_all (node ∷ nodes) = most_for_body node.stored.body + most_for_all nodes
+  most_for_all (node ∷ nodes) = most_for_kept node.kept node.stored.body + most_for_all nodes
 
-  file_short : (bytes : List ℕ) (from : ℕ) (before : List Block) (place : _) → PlacesFile formats bytes from before place → length before + 1 ≤ most_for_file bytes
-  file_short bytes from before place (nowhere size blocks at) = omega (arith, ap (λ (bs : List Block). length bs) blocks)
-  file_short bytes from before place (inside some few blocks at) = omega (arith, ap (λ (bs : List Block). length bs) blocks)
-  file_short bytes from before place (outside many first placed at) =
+  at_none : (before kept : ℕ) (bytes : List ℕ) → kept ≡ 0 → before ≤ most_for_file bytes → before ≤ most_for_append kept (length bytes - kept) bytes
+  at_none before kept bytes all-new h = subst (λ (k : ℕ). before ≤ most_for_append k (length bytes - k) bytes) (sym all-new) h
+
+  file_short : (medium : Medium) (kept : ℕ) (bytes : List ℕ) (from : ℕ) (before : List Block) (place : _) → PlacesFile formats medium kept bytes from before place → length before + 1 ≤ most_for_append kept (length bytes - kept) bytes
+  file_short medium kept bytes from before place (nowhere all-new size blocks at) = at_none _ kept bytes all-new (omega (arith, ap (λ (bs : List Block). length bs) blocks))
+  file_short medium kept bytes from before place (inside all-new some few blocks at) = at_none _ kept bytes all-new (omega (arith, ap (λ (bs : List Block). length bs) blocks))
+  file_short medium kept bytes from before place (appended front new firsts whole kept-is some-front count within holds some few first placed spelled names at) =
+      let size : length bytes - kept ≡ length new = omega (arith, ap (λ (xs : List ℕ). length xs) whole, length-append front new, kept-is) in
+      let other : kept ≡ 0 → ⊥ = λ none. omega (arith, none, kept-is, some-front) in
+      let most : most_for_append kept (length bytes - kept) bytes ≡ 2 * blocks_for (length new) + 1 =
+      ap (λ (b : Bool). if b then most_for_file bytes else 2 * blocks_for (length bytes - kept) + 1) (ne_eqb kept 0 other) ∙ ap (λ (n : ℕ). 2 * blocks_for n + 1) size in
+      omega (arith, most, placed_short formats new from first before placed)
+  file_short medium kept bytes from before place (outside all-new many first placed at) =
       let count : file_blocks (length bytes) ≡ blocks_for (length bytes) = ap (λ b. cond b (blocks_for (length bytes)) 0) (lt-ltb most_inside (length bytes) many) in
-      omega (arith, count, placed_short formats bytes from first before placed)
+      at_none _ kept bytes all-new (omega (arith, count, placed_short formats bytes from first before placed))
 
-  body_short : (body : Body) (from : ℕ) (before : List Block) (place : _) (size : ℕ) → PlacesBody formats body from before place size → length before + 1 ≤ most_for_body body
-  body_short (Bytes bytes) from before place size (count, places) = file_short bytes from before place places
-  body_short (Entries parent entries) from before place size (at, count, holds) = omega (arith, short parent from size entries before holds)
+  body_short : (medium : Medium) (kept : ℕ) (body : Body) (from : ℕ) (before : List Block) (place : _) (size : ℕ) → PlacesBody formats medium kept body from before place size → length before + 1 ≤ most_for_kept kept body
+  body_short medium kept (Bytes bytes) from before place size (count, places) = file_short medium kept bytes from before place places
+  body_short medium kept (Entries parent entries) from before place size (at, count, holds) = omega (arith, short parent from size entries before holds)
 
-  nodes_short : (nodes : List Writing) (from : ℕ) (blocks : List Block) (written : List Written) → WritesNodes formats nodes from blocks written → length blocks ≤ most_for_all nodes
-  nodes_short [] from blocks written (blocks_are, written_is) = omega (arith, ap (λ (bs : List Block). length bs) blocks_are)
-  nodes_short (node ∷ nodes) from blocks written (first, others, number, rest, blocks_are, written_is, one, all) =
+  nodes_short : (medium : Medium) (nodes : List Writing) (from : ℕ) (blocks : List Block) (written : List Written) → WritesNodes formats medium nodes from blocks written → length blocks ≤ most_for_all nodes
+  nodes_short medium [] from blocks written (blocks_are, written_is) = omega (arith, ap (λ (bs : List Block). length bs) blocks_are)
+  nodes_short medium (node ∷ nodes) from blocks written (first, others, number, rest, blocks_are, written_is, one, all) =
       omega (
         arith,
         ap (λ (bs : List Block). length bs) blocks_are,
         length-append first others,
         ap (λ (bs : List Block). length bs) one.blocks_are,
         length-append one.before (one.entry ∷ []),
-        body_short node.stored.body from one.before one.place one.size one.body,
-        nodes_short nodes (from + length first) others rest all,
+        body_short medium node.kept node.stored.body from one.before one.place one.size one.body,
+        nodes_short (medium ++ first) nodes (from + length first) others rest all,
       )
+
+  append_short : (offset : ℕ) (front bytes : List ℕ) → length front ≡ offset → most_for_append offset (length (front ++ bytes) - offset) (front ++ bytes) ≡ most_for_append offset (length bytes) bytes
+  append_short offset [] bytes size = subst (λ (k : ℕ). most_for_append k (length bytes - k) bytes ≡ most_for_append k (length bytes) bytes) size refl
+  append_short offset (x ∷ front) bytes size =
+      let other : offset ≡ 0 → ⊥ = λ none. omega (arith, none, size) in
+      let rest : length ((x ∷ front) ++ bytes) - offset ≡ length bytes = omega (arith, size, length-append (x ∷ front) bytes) in
+      ap (λ (b : Bool). if b then most_for_file ((x ∷ front) ++ bytes) else 2 * blocks_for (length ((x ∷ front) ++ bytes) - offset) + 1) (ne_eqb offset 0 other)
+      ∙ ap (λ (n : ℕ). 2 * blocks_for n + 1) rest
+      ∙ sym (ap (λ (b : Bool). if b then most_for_file bytes else 2 * blocks_for (length bytes) + 1) (ne_eqb offset 0 other))
 
   -- a body with names is a directory's
   listing_short : (body : Body) (change : List Entry → List Entry) (x : Name) → Contains (names_of_body body) x → most_for_body (with_entries change body) ≡ most_for_directory spelled (map (λ e. e.name) (change (entries_in body)))
@@ -210,12 +232,12 @@ module _ (formats : Formats) (spelled : Name → ℕ) (short : AreShort formats 
         gainer = gains_short (parent_of to) plan.beyond (last_of to) (renamed plan.name plan.moved) plan.to_last (may_rename from to S.tree e).directory (names_at tree' (parent_of to)) (lists.gets plan.elsewhere)
 
         abbrev turn : Writing
-        turn = record { address = plan.moved.address; stored = as_stored plan.stored.identity plan.stored.moment (with_parent plan.beyond.address plan.stored.body) }
+        turn = record { address = plan.moved.address; kept = 0; stored = as_stored plan.stored.identity plan.stored.moment (with_parent plan.beyond.address plan.stored.body) }
 
         abbrev both : List Writing
         both =
-            record { address = plan.above.address; stored = as_stored plan.above.stored.identity r.moment (with_entries (without from) plan.above.stored.body) }
-            ∷ record { address = plan.beyond.address; stored = as_stored plan.beyond.stored.identity r.moment (with_entries (λ entries. entries ++ renamed plan.name plan.moved ∷ []) plan.beyond.stored.body) }
+            record { address = plan.above.address; kept = 0; stored = as_stored plan.above.stored.identity r.moment (with_entries (without from) plan.above.stored.body) }
+            ∷ record { address = plan.beyond.address; kept = 0; stored = as_stored plan.beyond.stored.identity r.moment (with_entries (λ entries. entries ++ renamed plan.name plan.moved ∷ []) plan.beyond.stored.body) }
             ∷ []
 
         abbrev picked : Bool → List Writing
@@ -257,6 +279,8 @@ module _ (formats : Formats) (spelled : Name → ℕ) (short : AreShort formats 
       nodes_need (MakeDir path) nodes gone e (plan, none) =
           addition_short path (names_at (after_tree (MakeDir path)) (parent_of path)) (most_for_directory spelled []) nodes (Directory []) (may_add path S.tree e).directory (lists_after r.moment S.next_identity S.tree stands.tells.tree (MakeDir path) e) plan refl
       nodes_need (Replace path bytes) nodes gone e (plan, none) = sum_one (most_for_all nodes) _ (most_for_file bytes) (ap most_for_all plan.nodes_are) refl
+      nodes_need (Append path offset bytes) nodes gone e (plan, none) =
+          sum_one (most_for_all nodes) _ (most_for_append offset (length bytes) bytes) (ap most_for_all plan.nodes_are) (append_short offset plan.front bytes plan.size)
       nodes_need (Rename from to) nodes gone e (plan, none) = renames_short from to nodes e plan
       nodes_need (Remove path) nodes gone e plan =
           let may = may_remove path S.tree e in
@@ -277,7 +301,7 @@ module _ (formats : Formats) (spelled : Name → ℕ) (short : AreShort formats 
 
         whole_short : (most : ℕ) → most_for_all p.nodes ≤ most → length (blocks ++ mark ∷ []) ≤ most + most_for_table (after_one S r)
         whole_short most few =
-            omega (arith, few, table_short, nodes_short p.nodes start p.node_blocks p.written p.writes, length-append blocks (mark ∷ []), ap (λ (bs : List Block). length bs) p.blocks_are, length-append p.node_blocks p.table_blocks)
+            omega (arith, few, table_short, nodes_short B p.nodes start p.node_blocks p.written p.writes, length-append blocks (mark ∷ []), ap (λ (bs : List Block). length bs) p.blocks_are, length-append p.node_blocks p.table_blocks)
 
         abbrev most_if : Bool → ℕ
         most_if b = (if b then most_for_nodes spelled r.operation (after_one S r).tree else 0) + most_for_table (after_one S r)

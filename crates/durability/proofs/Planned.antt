@@ -10,12 +10,12 @@ use Rattle.std.proofs.lemmas.List.Sums.{count_by-le-length}
 use Rattle.model.specs.Tree.{Path, Name, Content, Tree, IsTree, parent_of, last_of, has_names}
 use Rattle.model.specs.Tree.Content.{File, Directory}
 use Rattle.model.specs.Operation.{Operation, code_of, done, tree_after, files_made, directories_made, files_gone, directories_gone}
-use Rattle.model.specs.Operation.Operation.{Create, Replace, MakeDir, Rename, Remove}
+use Rattle.model.specs.Operation.Operation.{Create, Replace, Append, MakeDir, Rename, Remove}
 use Rattle.model.specs.Session.{State, Request, after_one}
 use Rattle.model.specs.Addresses.{free_address}
 use Rattle.model.specs.Graph.{Graph, Stored, Entry, Body, IsFunctional, Names, PathLeads, Reach, entries_of, content_in, as_stored, links_in, is_directory}
 use Rattle.model.specs.Graph.Body.{Bytes, Entries}
-use Rattle.model.specs.Change.{ChangesNodes, IsReached, IsKeptUnder, Found, Added, Replaced, Removed, Renamed, Moved, with_entries, with_parent, renamed, without}
+use Rattle.model.specs.Change.{ChangesNodes, IsReached, IsKeptUnder, Found, Added, Replaced, Appended, Removed, Renamed, Moved, with_entries, with_parent, renamed, without}
 use Rattle.model.proofs.Maps.{some_at}
 use Rattle.model.proofs.Paths.{push_longer}
 use Rattle.model.proofs.Codes.{MayRename, may_rename}
@@ -29,7 +29,7 @@ use Rattle.durability.specs.Step.{FollowsRequest, CarriesOut}
 use Rattle.std.proofs.lemmas.Grind.{div_ceil_times}
 use Rattle.durability.specs.Volume.{Medium, partition_start, IsWithin, extent, bytes_in_blocks, HasTable, NoneImitates, graph_of, RecoversTo}
 use Rattle.durability.proofs.Packed.{length-packed, bytes-packed}
-use Rattle.durability.specs.Plan.{zeros, packed, Writing, Written, WritesNodes, with_entry, with_written, without_all, entries_after, IsPlanned, Plans, turned, PlansAddition, PlansReplacement, PlansRemoval, PlansRenaming, PlansMove}
+use Rattle.durability.specs.Plan.{zeros, packed, Writing, Written, WritesNodes, with_entry, with_written, without_all, entries_after, IsPlanned, Plans, turned, PlansAddition, PlansReplacement, PlansAppend, PlansRemoval, PlansRenaming, PlansMove}
 use Rattle.durability.proofs.Commits.{keeps, reached_used}
 use Rattle.durability.proofs.Mediums.{within, none-append}
 use Rattle.durability.proofs.Stored.{stored_one}
@@ -80,12 +80,12 @@ pub record Laid (graph graph' : Graph) (nodes : List Writing) (gone : List ℕ) 
 -- what a move writes, by whether a directory is moved
 module _ (graph : Graph) (from to : Path) (moment : ℕ) (nodes : List Writing) (p : PlansMove graph from to moment nodes) where
   abbrev turned_node : Writing
-  turned_node = record { address = p.moved.address; stored = as_stored p.stored.identity p.stored.moment (with_parent p.beyond.address p.stored.body) }
+  turned_node = record { address = p.moved.address; kept = 0; stored = as_stored p.stored.identity p.stored.moment (with_parent p.beyond.address p.stored.body) }
 
   abbrev pair : List Writing
   pair =
-      record { address = p.above.address; stored = as_stored p.above.stored.identity moment (with_entries (without from) p.above.stored.body) }
-      ∷ record { address = p.beyond.address; stored = as_stored p.beyond.stored.identity moment (with_entries (λ entries. entries ++ renamed p.name p.moved ∷ []) p.beyond.stored.body) }
+      record { address = p.above.address; kept = 0; stored = as_stored p.above.stored.identity moment (with_entries (without from) p.above.stored.body) }
+      ∷ record { address = p.beyond.address; kept = 0; stored = as_stored p.beyond.stored.identity moment (with_entries (λ entries. entries ++ renamed p.name p.moved ∷ []) p.beyond.stored.body) }
       ∷ []
 
   abbrev chosen : Bool → List Writing
@@ -95,6 +95,15 @@ module _ (graph graph' : Graph) where
   pub replaced : (path : Path) (bytes : List ℕ) (moment : ℕ) (nodes : List Writing) → PlansReplacement graph path bytes moment nodes → Laid graph graph' nodes [] → Replaced graph graph' path bytes moment
   replaced path bytes moment nodes p l = record {
     file = p.file;
+    written = (subst (λ ns. AllIn graph' ns) p.nodes_are l.stored).0;
+    kept = λ other reached apart. l.kept other (subst (λ ns. IsNotNode other ns) (sym p.nodes_are) (apart, tt)) tt;
+  }
+
+  pub appended : (path : Path) (offset : ℕ) (bytes : List ℕ) (moment : ℕ) (nodes : List Writing) → PlansAppend graph path offset bytes moment nodes → Laid graph graph' nodes [] → Appended graph graph' path bytes moment
+  appended path offset bytes moment nodes p l = record {
+    file = p.file;
+    front = p.front;
+    holds = p.holds;
     written = (subst (λ ns. AllIn graph' ns) p.nodes_are l.stored).0;
     kept = λ other reached apart. l.kept other (subst (λ ns. IsNotNode other ns) (sym p.nodes_are) (apart, tt)) tt;
   }
@@ -219,21 +228,21 @@ length-without (g ∷ gone) V within =
     length-without gone (with_entry V g None) (subst (λ n. GoneWithin n gone) (sym same) within.2) ∙ same
 
 module _ (formats : Formats) where
-  unwritten : (nodes : List Writing) (from : ℕ) (blocks : List Block) (written : List Written) → WritesNodes formats nodes from blocks written → (address : ℕ) → IsNotNode address nodes → IsNotWritten address written
-  unwritten [] from blocks written (b, w) address apart = subst (λ ws. IsNotWritten address ws) (sym w) tt
-  unwritten (node ∷ nodes) from blocks written (first, others, number, rest, b, w, one, all) address apart =
-      subst (λ ws. IsNotWritten address ws) (sym w) (apart.0, unwritten nodes (from + length first) others rest all address apart.1)
+  unwritten : (medium : Medium) (nodes : List Writing) (from : ℕ) (blocks : List Block) (written : List Written) → WritesNodes formats medium nodes from blocks written → (address : ℕ) → IsNotNode address nodes → IsNotWritten address written
+  unwritten medium [] from blocks written (b, w) address apart = subst (λ ws. IsNotWritten address ws) (sym w) tt
+  unwritten medium (node ∷ nodes) from blocks written (first, others, number, rest, b, w, one, all) address apart =
+      subst (λ ws. IsNotWritten address ws) (sym w) (apart.0, unwritten (medium ++ first) nodes (from + length first) others rest all address apart.1)
 
-  written_apart : (nodes : List Writing) (from : ℕ) (blocks : List Block) (written : List Written) (size : ℕ) → WritesNodes formats nodes from blocks written → NodesApart size nodes → AreApart size written
-  written_apart [] from blocks written size (b, w) apart = subst (λ ws. AreApart size ws) (sym w) tt
-  written_apart (node ∷ nodes) from blocks written size (first, others, number, rest, b, w, one, all) apart =
+  written_apart : (medium : Medium) (nodes : List Writing) (from : ℕ) (blocks : List Block) (written : List Written) (size : ℕ) → WritesNodes formats medium nodes from blocks written → NodesApart size nodes → AreApart size written
+  written_apart medium [] from blocks written size (b, w) apart = subst (λ ws. AreApart size ws) (sym w) tt
+  written_apart medium (node ∷ nodes) from blocks written size (first, others, number, rest, b, w, one, all) apart =
       subst (λ ws. AreApart size ws) (sym w)
-      (apart.1, unwritten nodes (from + length first) others rest all node.address apart.2, written_apart nodes (from + length first) others rest size all apart.3)
+      (apart.1, unwritten (medium ++ first) nodes (from + length first) others rest all node.address apart.2, written_apart (medium ++ first) nodes (from + length first) others rest size all apart.3)
 
-  length-written : (nodes : List Writing) (from : ℕ) (blocks : List Block) (written : List Written) (V : List (Option ℕ)) → WritesNodes formats nodes from blocks written → length (with_written V written) ≡ size_after (length V) nodes
-  length-written [] from blocks written V (b, w) = ap (λ ws. length (with_written V ws)) w
-  length-written (node ∷ nodes) from blocks written V (first, others, number, rest, b, w, one, all) =
-      ap (λ ws. length (with_written V ws)) w ∙ length-written nodes (from + length first) others rest (with_entry V node.address (Some number)) all
+  length-written : (medium : Medium) (nodes : List Writing) (from : ℕ) (blocks : List Block) (written : List Written) (V : List (Option ℕ)) → WritesNodes formats medium nodes from blocks written → length (with_written V written) ≡ size_after (length V) nodes
+  length-written medium [] from blocks written V (b, w) = ap (λ ws. length (with_written V ws)) w
+  length-written medium (node ∷ nodes) from blocks written V (first, others, number, rest, b, w, one, all) =
+      ap (λ ws. length (with_written V ws)) w ∙ length-written (medium ++ first) nodes (from + length first) others rest (with_entry V node.address (Some number)) all
       ∙ ap (λ n. size_after n nodes) (length_longer V node.address (Some number))
 
 module _ (formats : Formats) (capacity volume : ℕ) (exact : AreExact formats) (distinct : AreDistinct formats) (B : Medium) (S : State) (stands : RecoversTo formats capacity volume B S) where
@@ -373,12 +382,12 @@ module _ (formats : Formats) (capacity volume : ℕ) (exact : AreExact formats) 
 
     keeps_after : (address : ℕ) → IsNotNode address p.nodes → IsNotGone address p.gone → IsKeptUnder graph graph' address
     keeps_after address unnode ungone =
-        keeps formats capacity volume B blocks S stands W address (same_after V p.written p.gone address (unwritten formats p.nodes start p.node_blocks p.written p.writes address unnode) ungone)
+        keeps formats capacity volume B blocks S stands W address (same_after V p.written p.gone address (unwritten formats B p.nodes start p.node_blocks p.written p.writes address unnode) ungone)
 
     laid : (gone : List ℕ) → p.gone ≡ gone → NodesApart (length V) p.nodes → Laid graph graph' p.nodes gone
     laid gone e apart = record {
       stored = subst (λ (bs : List Block). AllIn (graph_of formats (B ++ bs) W) p.nodes) (sym p.blocks_are)
-          (nodes_stored formats p.nodes B start p.node_blocks p.written p.table_blocks W low refl p.writes (lead_after V p.written p.gone (written_apart formats p.nodes start p.node_blocks p.written (length V) p.writes apart)));
+          (nodes_stored formats p.nodes B start p.node_blocks p.written p.table_blocks W low refl p.writes (lead_after V p.written p.gone (written_apart formats B p.nodes start p.node_blocks p.written (length V) p.writes apart)));
       kept = λ address unnode ungone. keeps_after address unnode (subst (λ gs. IsNotGone address gs) (sym e) ungone);
     }
 
@@ -467,6 +476,15 @@ module _ (formats : Formats) (capacity volume : ℕ) (exact : AreExact formats) 
           size = not_longer (Replace path bytes) e refl reached.0;
           changes = replaced graph graph' path bytes r.moment p.nodes plan (laid [] none apart);
         }
+    carried (Append path offset bytes) e (plan, none) =
+        let reached = one_reached p.nodes _ plan.nodes_are (let file : IsReached graph plan.file.address = (path, plan.file.reach) in file) in
+        let apart = reached_apart p.nodes reached.0 reached.1 in
+        record {
+          apart = apart;
+          gone = subst (λ gs. GoneWithin (length V) gs) (sym none) tt;
+          size = not_longer (Append path offset bytes) e refl reached.0;
+          changes = appended graph graph' path offset bytes r.moment p.nodes plan (laid [] none apart);
+        }
     carried (Rename source target) e (plan, none) = renaming source target e none plan
     carried (Remove path) e plan =
         let reached = one_reached p.nodes _ plan.nodes_are (let above : IsReached graph plan.above.address = (parent_of path, plan.above.reach) in above) in
@@ -522,7 +540,7 @@ module _ (formats : Formats) (capacity volume : ℕ) (exact : AreExact formats) 
 
     size_W : length W ≡ (after_one S r).table_length
     size_W =
-        length-written formats p.nodes start p.node_blocks p.written (without_all V p.gone) p.writes
+        length-written formats B p.nodes start p.node_blocks p.written (without_all V p.gone) p.writes
         ∙ ap (λ n. size_after n p.nodes) (length-without p.gone V settled.gone) ∙ settled.size
 
     pub table_length_is : length p.table.entries ≡ (after_one S r).table_length
@@ -530,14 +548,14 @@ module _ (formats : Formats) (capacity volume : ℕ) (exact : AreExact formats) 
 
     set_kept : slice_get W 0 ≡ slice_get V 0
     set_kept = same_after V p.written p.gone 0
-        (unwritten formats p.nodes start p.node_blocks p.written p.writes 0 (not_node_zero p.nodes (length V) settled.apart)) (not_gone_zero p.gone (length V) settled.gone)
+        (unwritten formats B p.nodes start p.node_blocks p.written p.writes 0 (not_node_zero p.nodes (length V) settled.apart)) (not_gone_zero p.gone (length V) settled.gone)
 
     -- none of the blocks imitates
     none_imitates : NoneImitates formats (length B) blocks
     none_imitates =
         let here : length B ≡ start + partition_start = omega (arith, low) in
         subst (λ (bs : List Block). NoneImitates formats (length B) bs) (sym p.blocks_are)
-        (none-append formats (length B) p.node_blocks p.table_blocks (none_nodes formats distinct p.nodes start p.node_blocks p.written (length B) here p.writes)
+        (none-append formats (length B) p.node_blocks p.table_blocks (none_nodes formats distinct B p.nodes start p.node_blocks p.written (length B) here p.writes)
         (none_placed formats distinct p.bytes (start + length p.node_blocks) p.first p.table_blocks (length B + length p.node_blocks) (omega (arith, low)) p.placed))
 
     -- a table is never empty

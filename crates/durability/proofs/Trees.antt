@@ -3,7 +3,7 @@ use Rattle.std.proofs.Common.{◌≡◌, ℕ, ◌+◌, ◌≤◌, ◌==◌, ◌&
 use Rattle.std.proofs.lemmas.Bool.{eqb-true, true≢false}
 use Rattle.model.specs.Tree.{Path, Node, Tree, IsTree}
 use Rattle.model.specs.Operation.{Operation, code_of, done}
-use Rattle.model.specs.Operation.Operation.{Create, Replace, MakeDir, Rename, Remove}
+use Rattle.model.specs.Operation.Operation.{Create, Replace, Append, MakeDir, Rename, Remove}
 use Rattle.model.specs.Session.{State, Request, after_one, draws_identity}
 use Rattle.model.specs.Graph.{Graph, MakesTree, IsFunctional}
 use Rattle.model.specs.Change.{IsReached, IsKeptUnder, Found}
@@ -37,6 +37,7 @@ drawn : (op : Operation) (next : ℕ) → next_after op next ≡ (if draws_ident
 drawn (Create path bytes) next = refl
 drawn (MakeDir path) next = refl
 drawn (Replace path bytes) next = refl
+drawn (Append path offset bytes) next = refl
 drawn (Rename from to) next = refl
 drawn (Remove path) next = refl
 

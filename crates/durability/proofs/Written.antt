@@ -9,9 +9,11 @@ use Rattle.model.proofs.Lists.{contains_here, contains_there}
 use Rattle.durability.specs.Formats.{Block, Kind, NodePlace, NodeFields, Formats, AreDistinct}
 use Rattle.durability.specs.Formats.Kind.{Directory, File, Table}
 use Rattle.durability.specs.Formats.NodePlace.{Extent}
+use Rattle.durability.specs.Volume.{AreWithin, bytes_of}
+use Rattle.durability.proofs.Extents.{extents_stay, one_more}
 use Rattle.durability.specs.Volume.{Medium, partition_start, blocks_for, IsWithin, extent, bytes_in_blocks, HoldsFile, HoldsDirectory, HoldsBody, IsStoredAt, graph_of, IsVatIcbAt, NoneImitates}
 use Rattle.durability.specs.Plan.{zeros, packed, kind_of_body, Writing, Written, IsPlaced, PlacesFile, PlacesBody, WritesNode, WritesNodes}
-use Rattle.durability.specs.Plan.PlacesFile.{nowhere, inside, outside}
+use Rattle.durability.specs.Plan.PlacesFile.{nowhere, inside, outside, appended}
 use Rattle.durability.proofs.Lists.{get_past}
 use Rattle.durability.proofs.Packed.{part_at, length-packed, bytes-packed}
 use Rattle.durability.proofs.Mediums.{none-append}
@@ -89,12 +91,12 @@ module _ (formats : Formats) where
         moment = refl;
         identity = refl;
         links = refl;
-        body = body_held B node.stored.body from w.before w.place w.size (w.entry ∷ []) node.stored.moment node.stored.links node.stored.identity low is w.body;
+        body = body_held B node.kept node.stored.body from w.before w.place w.size (w.entry ∷ []) node.stored.moment node.stored.links node.stored.identity low is w.body;
       })
 
   -- nodes that were written one after the other are stored
   pub nodes_stored : (nodes : List Writing) (B : Medium) (from : ℕ) (blocks : List Block) (written : List Written) (more : List Block) (table : List (Option ℕ)) → partition_start ≤ length B → from ≡ length B - partition_start
-      → WritesNodes formats nodes from blocks written → Lead table written → AllIn (graph_of formats (B ++ (blocks ++ more)) table) nodes
+      → WritesNodes formats B nodes from blocks written → Lead table written → AllIn (graph_of formats (B ++ (blocks ++ more)) table) nodes
   nodes_stored [] B from blocks written more table low is w lead = tt
   nodes_stored (node ∷ nodes) B from blocks written more table low is (first, others, number, rest, blocks_are, written_is, one, all) lead =
       let leads = subst (λ (ws : List Written). Lead table ws) written_is lead in
@@ -134,25 +136,26 @@ module _ (formats : Formats) where
     none_all [] at h = tt
     none_all (b ∷ blocks) at h = ((λ (low, fields, table, is). h b 0 refl (at - partition_start) fields is), none_all blocks (suc at) (λ block k e. h block (suc k) e))
 
-    none_file : (bytes : List ℕ) (from : ℕ) (blocks : List Block) (place : NodePlace) (at : ℕ) → at ≡ from + partition_start → PlacesFile formats bytes from blocks place → NoneImitates formats at blocks
-    none_file bytes from blocks place at is (nowhere size blocks_are p) = subst (λ (xs : List Block). NoneImitates formats at xs) (sym blocks_are) tt
-    none_file bytes from blocks place at is (inside some few blocks_are p) = subst (λ (xs : List Block). NoneImitates formats at xs) (sym blocks_are) tt
-    none_file bytes from blocks place at is (outside many first placed p) = none_placed bytes from first blocks at is placed
+    none_file : (medium : Medium) (kept : ℕ) (bytes : List ℕ) (from : ℕ) (blocks : List Block) (place : NodePlace) (at : ℕ) → at ≡ from + partition_start → PlacesFile formats medium kept bytes from blocks place → NoneImitates formats at blocks
+    none_file medium kept bytes from blocks place at is (nowhere all-new size blocks_are p) = subst (λ (xs : List Block). NoneImitates formats at xs) (sym blocks_are) tt
+    none_file medium kept bytes from blocks place at is (inside all-new some few blocks_are p) = subst (λ (xs : List Block). NoneImitates formats at xs) (sym blocks_are) tt
+    none_file medium kept bytes from blocks place at is (outside all-new many first placed p) = none_placed bytes from first blocks at is placed
+    none_file medium kept bytes from blocks place at is (appended front new firsts whole kept-is some-front count within holds some few first placed spelled names p) = none_placed new from first blocks at is placed
 
-    none_body : (body : Body) (from : ℕ) (blocks : List Block) (place : NodePlace) (size at : ℕ) → at ≡ from + partition_start → PlacesBody formats body from blocks place size → NoneImitates formats at blocks
-    none_body (Bytes bytes) from blocks place size at is (count, places) = none_file bytes from blocks place at is places
-    none_body (Entries parent entries) from blocks place size at is (p, count, holds) =
+    none_body : (medium : Medium) (kept : ℕ) (body : Body) (from : ℕ) (blocks : List Block) (place : NodePlace) (size at : ℕ) → at ≡ from + partition_start → PlacesBody formats medium kept body from blocks place size → NoneImitates formats at blocks
+    none_body medium kept (Bytes bytes) from blocks place size at is (count, places) = none_file medium kept bytes from blocks place at is places
+    none_body medium kept (Entries parent entries) from blocks place size at is (p, count, holds) =
         none_all blocks at (λ block k e location fields entry. distinct.directory parent from size entries blocks holds block (found blocks k block e) location fields entry)
 
     -- none of a node's blocks imitates
-    none_node : (node : Writing) (from : ℕ) (blocks : List Block) (number at : ℕ) → at ≡ from + partition_start → WritesNode formats node from blocks number → NoneImitates formats at blocks
-    none_node node from blocks number at is w =
+    none_node : (medium : Medium) (node : Writing) (from : ℕ) (blocks : List Block) (number at : ℕ) → at ≡ from + partition_start → WritesNode formats medium node from blocks number → NoneImitates formats at blocks
+    none_node medium node from blocks number at is w =
         subst (λ (xs : List Block). NoneImitates formats at xs) (sym w.blocks_are)
-        (none-append formats at w.before (w.entry ∷ []) (none_body node.stored.body from w.before w.place w.size at is w.body)
+        (none-append formats at w.before (w.entry ∷ []) (none_body medium node.kept node.stored.body from w.before w.place w.size at is w.body)
         ((λ t. plain_entry node.stored.body _ w.entry node.address (at + length w.before) refl w.is t), tt))
 
-    pub none_nodes : (nodes : List Writing) (from : ℕ) (blocks : List Block) (written : List Written) (at : ℕ) → at ≡ from + partition_start → WritesNodes formats nodes from blocks written → NoneImitates formats at blocks
-    none_nodes [] from blocks written at is (blocks_are, written_is) = subst (λ (xs : List Block). NoneImitates formats at xs) (sym blocks_are) tt
-    none_nodes (node ∷ nodes) from blocks written at is (first, others, number, rest, blocks_are, written_is, one, all) =
+    pub none_nodes : (medium : Medium) (nodes : List Writing) (from : ℕ) (blocks : List Block) (written : List Written) (at : ℕ) → at ≡ from + partition_start → WritesNodes formats medium nodes from blocks written → NoneImitates formats at blocks
+    none_nodes medium [] from blocks written at is (blocks_are, written_is) = subst (λ (xs : List Block). NoneImitates formats at xs) (sym blocks_are) tt
+    none_nodes medium (node ∷ nodes) from blocks written at is (first, others, number, rest, blocks_are, written_is, one, all) =
         subst (λ (xs : List Block). NoneImitates formats at xs) (sym blocks_are)
-        (none-append formats at first others (none_node node from first number at is one) (none_nodes nodes (from + length first) others rest (at + length first) (omega arith) all))
+        (none-append formats at first others (none_node medium node from first number at is one) (none_nodes (medium ++ first) nodes (from + length first) others rest (at + length first) (omega arith) all))

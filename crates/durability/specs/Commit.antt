@@ -3,7 +3,7 @@ use Rattle.std.specs.Prelude.{ℕ, ◌+◌, ◌*◌, ◌/◌, if◌then◌else�
 use Rattle.limits.specs.declared.TheConstants.{INSIDE_BYTES, LEAST_FILLED_BYTES, TABLE_HEAD_BYTES, RECORD_BYTES, ADDRESS_BYTES}
 use Rattle.model.specs.Tree.{Name, Tree, names_at, parent_of, is_directory_at, paths_eq}
 use Rattle.model.specs.Operation.{Operation, code_of}
-use Rattle.model.specs.Operation.Operation.{Create, Replace, MakeDir, Rename, Remove}
+use Rattle.model.specs.Operation.Operation.{Create, Replace, Append, MakeDir, Rename, Remove}
 use Rattle.model.specs.Session.{State, Request, after_one}
 use Rattle.durability.specs.Formats.{identifiers_size}
 use Rattle.durability.specs.Volume.{blocks_for}
@@ -19,6 +19,10 @@ file_blocks size = if nat_lt most_inside size then blocks_for size else 0
 -- the most blocks that a file's data and its entry take: before the data there may be as many blocks of zeros
 abbrev pub most_for_file : List ℕ → ℕ
 most_for_file bytes = 2 * file_blocks (length bytes) + 1
+
+-- the most that so many bytes take after those that a file has, of which there are `offset`, with the file's entry
+abbrev pub most_for_append : ℕ → ℕ → ℕ
+most_for_append offset size = 2 * (if offset == 0 then file_blocks size else blocks_for size) + 1
 
 -- the most blocks that a directory's data and its entry take
 abbrev pub most_for_directory : (Name → ℕ) → List Name → ℕ
@@ -40,6 +44,7 @@ abbrev pub most_for_nodes : (Name → ℕ) → Operation → Tree → ℕ
 most_for_nodes spelled (Create path bytes) tree = most_for_file bytes + most_for_directory_at spelled tree (parent_of path)
 most_for_nodes spelled (MakeDir path) tree = most_for_directory spelled [] + most_for_directory_at spelled tree (parent_of path)
 most_for_nodes spelled (Replace path bytes) tree = most_for_file bytes
+most_for_nodes spelled (Append path offset bytes) tree = most_for_append offset (length bytes)
 most_for_nodes spelled (Rename from to) tree =
     if paths_eq (parent_of from) (parent_of to) then most_for_directory_at spelled tree (parent_of to)
     else (if is_directory_at tree to then most_for_directory_at spelled tree to else 0)

@@ -1,10 +1,10 @@
 -- The blocks that a request writes: which nodes, in which order and where, and the table after them.
 use Rattle.std.specs.Prelude.{◌≡◌, ℕ, zero, suc, ◌+◌, ◌*◌, ◌-◌, ◌<◌, ◌≤◌, ◌==◌, if◌then◌else◌, List, [], ◌∷◌, ◌++◌, ◌⊎◌, length, take, drop, replicate, slice_set, Contains, Option, Some, None}
-use Rattle.limits.specs.declared.TheConstants.{BLOCK_BYTES}
+use Rattle.limits.specs.declared.TheConstants.{BLOCK_BYTES, FILE_BYTES}
 use Rattle.model.specs.Tree.{Name, Path, Content, parent_of, last_of, has_names, files_of, directories_of}
 use Rattle.model.specs.Tree.Content.{File, Directory}
 use Rattle.model.specs.Operation.{Operation, code_of}
-use Rattle.model.specs.Operation.Operation.{Create, Replace, MakeDir, Rename, Remove}
+use Rattle.model.specs.Operation.Operation.{Create, Replace, Append, MakeDir, Rename, Remove}
 use Rattle.model.specs.Session.{State, Request, after_one}
 use Rattle.model.specs.Addresses.{free_address}
 use Rattle.model.specs.Graph.{Graph, Stored, Entry, Body, as_stored, entries_of, is_directory}
@@ -12,8 +12,8 @@ use Rattle.model.specs.Graph.Body.{Bytes, Entries}
 use Rattle.model.specs.Change.{Found, with_entries, with_parent, new_body, without, renamed}
 use Rattle.durability.specs.Formats.{Block, Kind, NodePlace, Table_, Formats}
 use Rattle.durability.specs.Formats.Kind.{File as FileEntry, Directory as DirectoryEntry, Table as TableEntry}
-use Rattle.durability.specs.Formats.NodePlace.{Nowhere, Extent, Inside}
-use Rattle.durability.specs.Volume.{Medium, partition_start, blocks_for, NoneImitates, RecoversTo, graph_of}
+use Rattle.durability.specs.Formats.NodePlace.{Nowhere, Extent, Extents, Inside}
+use Rattle.durability.specs.Volume.{Medium, partition_start, blocks_for, AreWithin, bytes_in_extents, NoneImitates, RecoversTo, graph_of}
 use Rattle.durability.specs.Commit.{most_inside, table_size}
 
 abbrev pub zeros : Block
@@ -28,9 +28,10 @@ blocks_from (suc n) bytes = (take BLOCK_BYTES bytes ++ replicate (BLOCK_BYTES - 
 abbrev pub packed : List ℕ → List Block
 packed bytes = blocks_from (blocks_for (length bytes)) bytes
 
--- a node to be written under a virtual address
+-- a node to be written under a virtual address; so many of a file's bytes stay where they are
 pub record Writing : Type 0 where
   pub address : ℕ
+  pub kept : ℕ
   pub stored : Stored
 
 -- the block number of the entry that was written for a virtual address
@@ -64,9 +65,10 @@ pub record PlansAddition (graph : Graph) (free : ℕ) (path : Path) (content : C
   pub name : Name
   pub last : last_of path ≡ name ∷ []
   pub nodes_are : nodes ≡
-      record { address = free; stored = as_stored identity moment (new_body above.address content) }
+      record { address = free; kept = 0; stored = as_stored identity moment (new_body above.address content) }
       ∷ record {
         address = above.address;
+        kept = 0;
         stored = as_stored above.stored.identity moment
             (with_entries (λ entries. entries ++ record { name = name; is_directory = has_names content; address = free; identity = identity } ∷ []) above.stored.body);
       }
@@ -75,14 +77,22 @@ pub record PlansAddition (graph : Graph) (free : ℕ) (path : Path) (content : C
 -- a file's bytes; no directory is written
 pub record PlansReplacement (graph : Graph) (path : Path) (bytes : List ℕ) (moment : ℕ) (nodes : List Writing) : Type 0 where
   pub file : Found graph path
-  pub nodes_are : nodes ≡ record { address = file.address; stored = as_stored file.stored.identity moment (Bytes bytes) } ∷ []
+  pub nodes_are : nodes ≡ record { address = file.address; kept = 0; stored = as_stored file.stored.identity moment (Bytes bytes) } ∷ []
+
+-- bytes after those that the file has; no directory is written
+pub record PlansAppend (graph : Graph) (path : Path) (offset : ℕ) (bytes : List ℕ) (moment : ℕ) (nodes : List Writing) : Type 0 where
+  pub file : Found graph path
+  pub front : List ℕ
+  pub holds : file.stored.body ≡ Bytes front
+  pub size : length front ≡ offset
+  pub nodes_are : nodes ≡ record { address = file.address; kept = offset; stored = as_stored file.stored.identity moment (Bytes (front ++ bytes)) } ∷ []
 
 -- the directory above, without the name; what was there is unused from now on
 pub record PlansRemoval (graph : Graph) (path : Path) (moment : ℕ) (nodes : List Writing) (gone : List ℕ) : Type 0 where
   pub above : Found graph (parent_of path)
   pub node : Found graph path
   pub gone_is : gone ≡ node.address ∷ []
-  pub nodes_are : nodes ≡ record { address = above.address; stored = as_stored above.stored.identity moment (with_entries (without path) above.stored.body) } ∷ []
+  pub nodes_are : nodes ≡ record { address = above.address; kept = 0; stored = as_stored above.stored.identity moment (with_entries (without path) above.stored.body) } ∷ []
 
 -- another name within one directory
 pub record PlansRenaming (graph : Graph) (from to : Path) (moment : ℕ) (nodes : List Writing) : Type 0 where
@@ -95,6 +105,7 @@ pub record PlansRenaming (graph : Graph) (from to : Path) (moment : ℕ) (nodes 
   pub to_last : last_of to ≡ name ∷ []
   pub nodes_are : nodes ≡ record {
     address = above.address;
+    kept = 0;
     stored = as_stored above.stored.identity moment
         (with_entries (λ entries. without from entries ++ renamed name moved ∷ []) above.stored.body);
   } ∷ []
@@ -102,7 +113,7 @@ pub record PlansRenaming (graph : Graph) (from to : Path) (moment : ℕ) (nodes 
 -- a directory that is moved names the directory above it anew; a file is not written
 abbrev pub turned : Entry → Stored → ℕ → List Writing
 turned moved stored above =
-    if is_directory stored then record { address = moved.address; stored = as_stored stored.identity stored.moment (with_parent above stored.body) } ∷ [] else []
+    if is_directory stored then record { address = moved.address; kept = 0; stored = as_stored stored.identity stored.moment (with_parent above stored.body) } ∷ [] else []
 
 -- to another directory: what is moved, the directory that loses the name, the directory that gets one
 pub record PlansMove (graph : Graph) (from to : Path) (moment : ℕ) (nodes : List Writing) : Type 0 where
@@ -118,8 +129,8 @@ pub record PlansMove (graph : Graph) (from to : Path) (moment : ℕ) (nodes : Li
   pub to_last : last_of to ≡ name ∷ []
   pub nodes_are : nodes ≡
       turned moved stored beyond.address
-      ++ record { address = above.address; stored = as_stored above.stored.identity moment (with_entries (without from) above.stored.body) }
-      ∷ record { address = beyond.address; stored = as_stored beyond.stored.identity moment (with_entries (λ entries. entries ++ renamed name moved ∷ []) beyond.stored.body) }
+      ++ record { address = above.address; kept = 0; stored = as_stored above.stored.identity moment (with_entries (without from) above.stored.body) }
+      ∷ record { address = beyond.address; kept = 0; stored = as_stored beyond.stored.identity moment (with_entries (λ entries. entries ++ renamed name moved ∷ []) beyond.stored.body) }
       ∷ []
 
 -- the nodes that an operation answered 0 writes, in their order, and the virtual addresses that are unused after it
@@ -127,6 +138,7 @@ abbrev pub Plans : Graph → ℕ → Operation → ℕ → ℕ → List Writing 
 Plans graph free (Create path bytes) moment identity nodes gone = PlansAddition graph free path (File bytes) moment identity nodes × (gone ≡ [])
 Plans graph free (MakeDir path) moment identity nodes gone = PlansAddition graph free path (Directory []) moment identity nodes × (gone ≡ [])
 Plans graph free (Replace path bytes) moment identity nodes gone = PlansReplacement graph path bytes moment nodes × (gone ≡ [])
+Plans graph free (Append path offset bytes) moment identity nodes gone = PlansAppend graph path offset bytes moment nodes × (gone ≡ [])
 Plans graph free (Rename from to) moment identity nodes gone = (PlansRenaming graph from to moment nodes ⊎ PlansMove graph from to moment nodes) × (gone ≡ [])
 Plans graph free (Remove path) moment identity nodes gone = PlansRemoval graph path moment nodes gone
 
@@ -144,34 +156,39 @@ module _ (formats : Formats) where
     pub whole : blocks ≡ replicate (first - from) zeros ++ packed bytes
 
   -- the blocks before a file's entry, and where the entry says that its bytes are
-  pub data PlacesFile (bytes : List ℕ) (from : ℕ) (blocks : List Block) (place : NodePlace) : Type 0 where
-    nowhere : length bytes ≡ 0 → blocks ≡ [] → place ≡ Nowhere → PlacesFile bytes from blocks place
-    inside : 1 ≤ length bytes → length bytes ≤ most_inside → blocks ≡ [] → place ≡ Inside bytes → PlacesFile bytes from blocks place
-    outside : most_inside < length bytes → (first : ℕ) → IsPlaced bytes from first blocks → place ≡ Extent first → PlacesFile bytes from blocks place
+  pub data PlacesFile (medium : Medium) (kept : ℕ) (bytes : List ℕ) (from : ℕ) (blocks : List Block) (place : NodePlace) : Type 0 where
+    nowhere : kept ≡ 0 → length bytes ≡ 0 → blocks ≡ [] → place ≡ Nowhere → PlacesFile medium kept bytes from blocks place
+    inside : kept ≡ 0 → 1 ≤ length bytes → length bytes ≤ most_inside → blocks ≡ [] → place ≡ Inside bytes → PlacesFile medium kept bytes from blocks place
+    outside : kept ≡ 0 → most_inside < length bytes → (first : ℕ) → IsPlaced bytes from first blocks → place ≡ Extent first → PlacesFile medium kept bytes from blocks place
+    -- one extent more: those before it are on the medium, and full
+    appended : (front more firsts : List ℕ) → bytes ≡ front ++ more → length front ≡ kept → 0 < kept → kept ≡ FILE_BYTES * length firsts
+        → AreWithin medium kept firsts → front ≡ bytes_in_extents medium kept firsts → 0 < length more → length more ≤ FILE_BYTES
+        → (first : ℕ) → IsPlaced more from first blocks → (descriptors : List ℕ) → formats.firsts descriptors ≡ firsts ++ first ∷ [] → place ≡ Extents descriptors
+        → PlacesFile medium kept bytes from blocks place
 
   -- the blocks before a node's entry, from a block number on, and what the entry says of them
-  abbrev pub PlacesBody : Body → ℕ → List Block → NodePlace → ℕ → Type 0
-  PlacesBody (Bytes bytes) from blocks place size = (size ≡ length bytes) × PlacesFile bytes from blocks place
-  PlacesBody (Entries parent entries) from blocks place size = (place ≡ Extent from) × (length blocks ≡ blocks_for size) × formats.IsDirectory parent entries from size blocks
+  abbrev pub PlacesBody : Medium → ℕ → Body → ℕ → List Block → NodePlace → ℕ → Type 0
+  PlacesBody medium kept (Bytes bytes) from blocks place size = (size ≡ length bytes) × PlacesFile medium kept bytes from blocks place
+  PlacesBody medium kept (Entries parent entries) from blocks place size = (place ≡ Extent from) × (length blocks ≡ blocks_for size) × formats.IsDirectory parent entries from size blocks
 
   -- the blocks of a node from a block number on: its data, and then its entry, which has this number
-  pub record WritesNode (node : Writing) (from : ℕ) (blocks : List Block) (number : ℕ) : Type 0 where
+  pub record WritesNode (medium : Medium) (node : Writing) (from : ℕ) (blocks : List Block) (number : ℕ) : Type 0 where
     pub before : List Block
     pub entry : Block
     pub blocks_are : blocks ≡ before ++ entry ∷ []
     pub number_is : number ≡ from + length before
     pub place : NodePlace
     pub size : ℕ
-    pub body : PlacesBody node.stored.body from before place size
+    pub body : PlacesBody medium node.kept node.stored.body from before place size
     pub is : formats.IsEntry (record { kind = kind_of_body node.stored.body; moment = node.stored.moment; links = node.stored.links; identity = node.stored.identity; size = size; place = place }) entry node.address
 
-  -- the blocks of these nodes, one after the other, and where their entries are
-  abbrev pub WritesNodes : List Writing → ℕ → List Block → List Written → Type 0
-  WritesNodes [] from blocks written = (blocks ≡ []) × (written ≡ [])
-  WritesNodes (node ∷ nodes) from blocks written =
+  -- the blocks of these nodes after the medium, one after the other, and where their entries are
+  abbrev pub WritesNodes : Medium → List Writing → ℕ → List Block → List Written → Type 0
+  WritesNodes medium [] from blocks written = (blocks ≡ []) × (written ≡ [])
+  WritesNodes medium (node ∷ nodes) from blocks written =
       (first : List Block) × (others : List Block) × (number : ℕ) × (rest : List Written)
       × (blocks ≡ first ++ others) × (written ≡ record { address = node.address; number = number } ∷ rest)
-      × WritesNode node from first number × WritesNodes nodes (from + length first) others rest
+      × WritesNode medium node from first number × WritesNodes (medium ++ first) nodes (from + length first) others rest
 
   -- The planned blocks of a request at the recovered state, and its table entry after them.
   pub record IsPlanned (capacity volume : ℕ) (medium : Medium) (S : State) (stands : RecoversTo formats capacity volume medium S) (request : Request) (blocks : List Block) (mark : Block) : Type 0 where
@@ -181,7 +198,7 @@ module _ (formats : Formats) where
     pub refused : (code_of request.operation S.tree ≡ 0 → ⊥) → (nodes ≡ []) × (gone ≡ [])
     pub node_blocks : List Block
     pub written : List Written
-    pub writes : WritesNodes nodes (length medium - partition_start) node_blocks written
+    pub writes : WritesNodes medium nodes (length medium - partition_start) node_blocks written
     pub table : Table_
     pub table_is : table ≡ record {
       label = stands.tells.table.label;

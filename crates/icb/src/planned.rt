@@ -5,6 +5,7 @@ ghost use Rattle.icb.specs.Entry.{inside, place_of};
 
 use crate::encode::{BYTES_INSIDE, LONG_DESCRIPTORS, extent, write_entry};
 use crate::entry::{FileEntry, Place};
+use crate::extents::last_size;
 use ecma::Block;
 use limits::BLOCK_BYTES;
 use std::marker::Model;
@@ -13,6 +14,8 @@ use std::marker::Model;
 #[derive(Debug, Drop)]
 pub struct PlannedEntry<'a> {
     entry: FileEntry<'a>,
+    /// Where one more extent begins, after those of the descriptors in the entry.
+    last: Option<u32>,
     /// The timestamp of the entry's moment.
     stamp: [u8; 12],
     /// The virtual address of a node, or the block number of a VAT ICB.
@@ -32,12 +35,30 @@ impl<'a> Model for PlannedEntry<'a> {
 }
 
 impl<'a> PlannedEntry<'a> {
+    ghost use Rattle.std.specs.Prelude.{None, Some};
     ghost use Rattle.icb.specs.Entry.{FitsEntry, IsEntry, fields_of};
+    ghost use Rattle.icb.specs.Planned.{extended};
 
     /// The entry at a location: the virtual address of a node, or the block number of a VAT ICB.
     pub fn new(entry: &FileEntry<'a>, location: u32) -> PlannedEntry<'a>
         requires { FitsEntry (fields_of entry.now) }
         ensures { IsEntry (fields_of entry.now) location result }
+    {
+        PlannedEntry::with_last(entry, None, location)
+    }
+
+    /// The entry of a file with one more extent, which begins at block number `first`. The entry that is given says how
+    /// many bytes the file has with it, and has the descriptors of the extents before it in [`Place::Extents`].
+    pub fn with_extent(entry: &FileEntry<'a>, first: u32, location: u32) -> PlannedEntry<'a>
+        requires { FitsEntry (extended (fields_of entry.now) (Some first)) }
+        ensures { IsEntry (extended (fields_of entry.now) (Some first)) location result }
+    {
+        PlannedEntry::with_last(entry, Some(first), location)
+    }
+
+    fn with_last(entry: &FileEntry<'a>, last: Option<u32>, location: u32) -> PlannedEntry<'a>
+        requires { FitsEntry (extended (fields_of entry.now) last) }
+        ensures { IsEntry (extended (fields_of entry.now) last) location result }
     {
         let stamp = entry.moment.to_bytes();
         // Unused: it gives the proof that these are bytes.
@@ -53,6 +74,7 @@ impl<'a> PlannedEntry<'a> {
         };
         PlannedEntry {
             entry,
+            last,
             stamp,
             location,
         }
@@ -70,25 +92,43 @@ impl PlannedEntry<'_> {
         let loc = self.location;
         let stamp = &self.stamp;
         match entry.place {
-            Place::None => write_entry(entry, loc, LONG_DESCRIPTORS, 0, stamp, &[], block),
+            Place::None => write_entry(entry, loc, LONG_DESCRIPTORS, 0, stamp, &[], &[], block),
             Place::Extent(first) => {
                 let blocks = u64::from(entry.size).div_ceil(BLOCK_BYTES as u64);
                 let extent = extent(entry.size, first).to_bytes();
-                write_entry(entry, loc, LONG_DESCRIPTORS, blocks, stamp, &extent, block)
+                write_entry(entry, loc, LONG_DESCRIPTORS, blocks, stamp, &[], &extent, block)
             }
             Place::Extents(descriptors) => {
                 let blocks = u64::from(entry.size).div_ceil(BLOCK_BYTES as u64);
-                write_entry(
-                    entry,
-                    loc,
-                    LONG_DESCRIPTORS,
-                    blocks,
-                    stamp,
-                    descriptors,
-                    block,
-                )
+                match self.last {
+                    None => write_entry(
+                        entry,
+                        loc,
+                        LONG_DESCRIPTORS,
+                        blocks,
+                        stamp,
+                        &[],
+                        descriptors,
+                        block,
+                    ),
+                    Some(first) => {
+                        let last = extent(last_size(entry.size), first).to_bytes();
+                        write_entry(
+                            entry,
+                            loc,
+                            LONG_DESCRIPTORS,
+                            blocks,
+                            stamp,
+                            descriptors,
+                            &last,
+                            block,
+                        )
+                    }
+                }
             }
-            Place::Inside(bytes) => write_entry(entry, loc, BYTES_INSIDE, 0, stamp, bytes, block),
+            Place::Inside(bytes) => {
+                write_entry(entry, loc, BYTES_INSIDE, 0, stamp, &[], bytes, block)
+            }
         }
     }
 }

@@ -4,7 +4,7 @@ use Rattle.std.specs.Prelude.{slice_set}
 use Rattle.std.proofs.lemmas.Bool.{false≢true, eqb-true, eqb-false, ltb-true, ltb-false}
 use Rattle.model.specs.Tree.{Tree, IsTree}
 use Rattle.model.specs.Operation.{Operation, code_of}
-use Rattle.model.specs.Operation.Operation.{Create, Replace, MakeDir, Rename, Remove}
+use Rattle.model.specs.Operation.Operation.{Create, Replace, Append, MakeDir, Rename, Remove}
 use Rattle.model.specs.Graph.{Graph, Stored, MakesTree}
 use Rattle.model.specs.Change.{ChangesNodes, IsReached, stored_in}
 use Rattle.model.specs.Addresses.{AddressTable, HoldsNodes, UsedAfter, is_used, with_address, without_entry}
@@ -122,6 +122,9 @@ entries_follow (MakeDir path) moment identity tree before after table table' is 
 entries_follow (Replace path bytes) moment identity tree before after table table' is e makes holds change used =
     same_follow (stored_in before) (stored_in after) table table' holds
     (reached_after (Replace path bytes) moment identity tree (stored_in before) (stored_in after) is (one_in before) (one_in after) makes e change) used
+entries_follow (Append path offset bytes) moment identity tree before after table table' is e makes holds change used =
+    same_follow (stored_in before) (stored_in after) table table' holds
+    (reached_after (Append path offset bytes) moment identity tree (stored_in before) (stored_in after) is (one_in before) (one_in after) makes e change) used
 entries_follow (Rename from to) moment identity tree before after table table' is e makes holds change used =
     same_follow (stored_in before) (stored_in after) table table' holds
     (reached_after (Rename from to) moment identity tree (stored_in before) (stored_in after) is (one_in before) (one_in after) makes e change) used

@@ -4,7 +4,7 @@ use Rattle.std.specs.FinMap.{get}
 use Rattle.model.specs.Tree.{Name, Path, Content, Tree, IsTree, Has, names_in, names_at, is_directory_at, parent_of, last_of}
 use Rattle.model.specs.Tree.Content.{File, Directory}
 use Rattle.model.specs.Operation.{Operation, code_of, added, name_taken_out, is_other, done}
-use Rattle.model.specs.Operation.Operation.{Create, Replace, MakeDir, Rename, Remove}
+use Rattle.model.specs.Operation.Operation.{Create, Replace, Append, MakeDir, Rename, Remove}
 use Rattle.std.specs.FinMap.{remove}
 use Rattle.model.proofs.Codes.{MayAdd, may_add, MayRemove, may_remove, MayRename, may_rename}
 use Rattle.model.proofs.Paths.{ends, parent-push, last-push}
@@ -26,6 +26,7 @@ abbrev pub ListsAfter : Operation → Tree → Tree → Type 0
 ListsAfter (Create path bytes) tree tree' = names_at tree' (parent_of path) ≡ names_at tree (parent_of path) ++ last_of path
 ListsAfter (MakeDir path) tree tree' = names_at tree' (parent_of path) ≡ names_at tree (parent_of path) ++ last_of path
 ListsAfter (Replace path bytes) tree tree' = Unit {0}
+ListsAfter (Append path offset bytes) tree tree' = Unit {0}
 ListsAfter (Rename from to) tree tree' = ListsRenamed from to tree tree'
 ListsAfter (Remove path) tree tree' = names_at tree' (parent_of path) ≡ filter (is_other (last_of path)) (names_at tree (parent_of path))
 
@@ -118,5 +119,6 @@ module _ (moment identity : ℕ) (tree : Tree) (is : IsTree tree) where
   lists_after (Create path bytes) e = lists_added path (File bytes) refl (may_add path tree e)
   lists_after (MakeDir path) e = lists_added path (Directory []) refl (may_add path tree e)
   lists_after (Replace path bytes) e = tt
+  lists_after (Append path offset bytes) e = tt
   lists_after (Rename from to) e = lists_renamed from to (may_rename from to tree e)
   lists_after (Remove path) e = lists_removed path (may_remove path tree e)

@@ -6,10 +6,10 @@ use Rattle.std.proofs.lemmas.List.{length_push}
 use Rattle.std.proofs.lemmas.Option.{none-some, same_Some, slice_get_past, slice_get_cases}
 use Rattle.model.specs.Session.{State, Request, Reply, ClientRecord, Due, due, due_by, record_of, answered, reply_to, after_one, after, formatted}
 use Rattle.model.specs.Session.Due.{Repeat, Stale, Gap, ClientsFull, New}
-use Rattle.model.specs.Operation.{Operation, code_of, moves_too_deep}
+use Rattle.model.specs.Operation.{Operation, code_of, ends_at, moves_too_deep}
 use Rattle.std.specs.FinMap.{contains_key, len}
-use Rattle.limits.specs.declared.TheConstants.{DIRECTORY_NAMES, NODES}
-use Rattle.model.specs.Operation.Operation.{Create, Replace, MakeDir, Rename, Remove}
+use Rattle.limits.specs.declared.TheConstants.{DIRECTORY_NAMES, GREATEST_FILE, NODES}
+use Rattle.model.specs.Operation.Operation.{Create, Replace, Append, MakeDir, Rename, Remove}
 use Rattle.model.specs.Tree.{Tree, is_directory_at, names_at, parent_of, begins_with, paths_eq}
 use Rattle.model.specs.Runs.{AllNew, AllFromClients}
 use Rattle.model.specs.Records.{FallFrom, IsRecord, HasSessions, latest_of, replies_of}
@@ -26,6 +26,7 @@ pub code_at_most : (op : Operation) (tree : Tree) → code_of op tree ≤ 10
 code_at_most (Create path bytes) tree = few (length path == 0) 7 _ (omega arith) (few (nat_lt 16 (length path)) 8 _ (omega arith) (few (not (is_directory_at tree (parent_of path))) 1 _ (omega arith) (few (contains_key tree path) 3 _ (omega arith) (few (nat_le DIRECTORY_NAMES (length (names_at tree (parent_of path)))) 9 _ (omega arith) (few (nat_le NODES (len tree)) 10 _ (omega arith) (omega arith))))))
 code_at_most (MakeDir path) tree = few (length path == 0) 7 _ (omega arith) (few (nat_lt 16 (length path)) 8 _ (omega arith) (few (not (is_directory_at tree (parent_of path))) 1 _ (omega arith) (few (contains_key tree path) 3 _ (omega arith) (few (nat_le DIRECTORY_NAMES (length (names_at tree (parent_of path)))) 9 _ (omega arith) (few (nat_le NODES (len tree)) 10 _ (omega arith) (omega arith))))))
 code_at_most (Replace path bytes) tree = few (length path == 0) 7 _ (omega arith) (few (not (contains_key tree path)) 2 _ (omega arith) (few (is_directory_at tree path) 4 _ (omega arith) (omega arith)))
+code_at_most (Append path offset bytes) tree = few (length path == 0) 7 _ (omega arith) (few (not (contains_key tree path)) 2 _ (omega arith) (few (is_directory_at tree path) 4 _ (omega arith) (few (not (ends_at tree path offset)) 3 _ (omega arith) (few (nat_le GREATEST_FILE offset) 10 _ (omega arith) (omega arith)))))
 code_at_most (Rename from to) tree = few (length from == 0 || length to == 0) 7 _ (omega arith) (few (not (contains_key tree from)) 2 _ (omega arith) (few (nat_lt (length from) (length to) && begins_with to from) 6 _ (omega arith) (few (not (is_directory_at tree (parent_of to))) 1 _ (omega arith) (few (contains_key tree to) 3 _ (omega arith) (few (moves_too_deep from to tree) 8 _ (omega arith) (few (nat_le DIRECTORY_NAMES (length (names_at tree (parent_of to))) && not (paths_eq (parent_of to) (parent_of from))) 9 _ (omega arith) (omega arith)))))))
 code_at_most (Remove path) tree = few (length path == 0) 7 _ (omega arith) (few (not (contains_key tree path)) 2 _ (omega arith) (few (nat_lt 0 (length (names_at tree path))) 5 _ (omega arith) (omega arith)))
 

@@ -1,7 +1,7 @@
 -- The table of virtual addresses, apart from what its entries say: which addresses are used, and which a new node gets.
 use Rattle.std.specs.Prelude.{suc, ◌≡◌, ◌↔◌, ℕ, ◌<◌, ◌==◌, Bool, true, false, if◌then◌else◌, nat_lt, List, [], ◌∷◌, ◌++◌, length, drop, slice_get, slice_set, Option, Some, None, is_some, count_by}
 use Rattle.model.specs.Operation.{Operation}
-use Rattle.model.specs.Operation.Operation.{Create, Replace, MakeDir, Rename, Remove}
+use Rattle.model.specs.Operation.Operation.{Create, Replace, Append, MakeDir, Rename, Remove}
 use Rattle.model.specs.Graph.{Graph}
 use Rattle.model.specs.Change.{ChangesNodes, IsReached}
 
@@ -49,5 +49,6 @@ abbrev pub UsedAfter : (graph graph' : Graph) (op : Operation) (moment identity 
 UsedAfter graph graph' (Create path bytes) moment identity change table table' = (0 < change.address) × ((address : ℕ) → is_used table' address ≡ (if address == change.address then true else is_used table address))
 UsedAfter graph graph' (MakeDir path) moment identity change table table' = (0 < change.address) × ((address : ℕ) → is_used table' address ≡ (if address == change.address then true else is_used table address))
 UsedAfter graph graph' (Replace path bytes) moment identity change table table' = (address : ℕ) → is_used table' address ≡ is_used table address
+UsedAfter graph graph' (Append path offset bytes) moment identity change table table' = (address : ℕ) → is_used table' address ≡ is_used table address
 UsedAfter graph graph' (Rename from to) moment identity change table table' = (address : ℕ) → is_used table' address ≡ is_used table address
 UsedAfter graph graph' (Remove path) moment identity change table table' = (address : ℕ) → is_used table' address ≡ (if address == change.gone.address then false else is_used table address)

@@ -6,7 +6,7 @@ use Rattle.std.specs.declared.alloc.Global.{Global}
 use Rattle.model.specs.Tree.{Name, Path, Node, Content, Tree, paths_eq}
 use Rattle.model.specs.Tree.Content.{File, Directory}
 use Rattle.model.specs.Operation.{Operation, moved}
-use Rattle.model.specs.Operation.Operation.{Create, Replace, MakeDir, Rename, Remove}
+use Rattle.model.specs.Operation.Operation.{Create, Replace, Append, MakeDir, Rename, Remove}
 use Rattle.model.specs.declared.plain.Operation.{Operation as PlainOperation}
 use Rattle.model.specs.declared.plain.Operation.TheVariants as operation
 use Rattle.model.specs.Session.{Reply, ClientRecord, Due}
@@ -49,6 +49,7 @@ AreApart nodes = IsDistinct paths_eq (map path_in nodes)
 abbrev pub operation_in : PlainOperation → Operation
 operation_in (operation.Create path bytes) = Create (texts_in path.items) bytes.items
 operation_in (operation.Replace path bytes) = Replace (texts_in path.items) bytes.items
+operation_in (operation.Append path offset bytes) = Append (texts_in path.items) offset bytes.items
 operation_in (operation.MakeDir path) = MakeDir (texts_in path.items)
 operation_in (operation.Rename from to) = Rename (texts_in from.items) (texts_in to.items)
 operation_in (operation.Remove path) = Remove (texts_in path.items)

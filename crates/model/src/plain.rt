@@ -23,6 +23,12 @@ pub use state::{Refusal, Request, State};
 pub enum Operation {
     Create { path: Vec<String>, bytes: Vec<u8> },
     Replace { path: Vec<String>, bytes: Vec<u8> },
+    /// The bytes go after those that the file has, which are `offset`.
+    Append {
+        path: Vec<String>,
+        offset: u64,
+        bytes: Vec<u8>,
+    },
     MakeDir { path: Vec<String> },
     Rename { from: Vec<String>, to: Vec<String> },
     Remove { path: Vec<String> },

@@ -1,5 +1,5 @@
 -- How many blocks a commit may take, computed from the sizes of what it writes.
-use Rattle.std.specs.Prelude.{◌≡◌, ℕ, ◌+◌, ◌*◌, ◌<◌, ◌≤◌, List, [], ◌∷◌, length, map, take, slice_index_or, Option, Some, None, All}
+use Rattle.std.specs.Prelude.{◌≡◌, ℕ, ◌+◌, ◌*◌, ◌<◌, ◌≤◌, List, [], ◌∷◌, ◌++◌, length, map, take, slice_index_or, Option, Some, None, All}
 use Rattle.std.specs.Int.{div_ceil}
 use Rattle.limits.specs.declared.TheConstants.{BLOCK_BYTES}
 use Rattle.model.specs.Tree.{Name}
@@ -10,25 +10,30 @@ use Rattle.model.specs.Graph.Body.{Bytes, Entries}
 use Rattle.durability.specs.Formats.{identifiers_size}
 use Rattle.durability.specs.Volume.{Medium, blocks_for, RecoversTo}
 use Rattle.durability.specs.Plan.{Writing, Written}
-use Rattle.durability.specs.Commit.{most_for_file, most_for_directory, table_size, need}
+use Rattle.durability.specs.Commit.{most_for_append, most_for_directory, table_size, need}
 use Rattle.udf.specs.Udf.{udf, spelled_length}
 use Rattle.udf.specs.Said.{model_table}
 use Rattle.vat.specs.Table.{Table}
 use Rattle.table_update.specs.declared.node.NewNode.{NewNode}
 use Rattle.recover.specs.declared.node.Node.{Node}
 use Rattle.table_update.specs.NextTable.{ChangesVolume, begun}
-use Rattle.table_update.specs.Outside.{outside}
+use Rattle.table_update.specs.Outside.{outside_after}
 
-abbrev pub most_for_bytes : Option (List ℕ) → ℕ
+-- the bytes of a file that are written, after so many that stay where they are
+pub record FileData : Type 0 where
+  pub kept : ℕ
+  pub bytes : List ℕ
+
+abbrev pub most_for_bytes : Option FileData → ℕ
 most_for_bytes None = 0
-most_for_bytes (Some bytes) = most_for_file bytes
+most_for_bytes (Some file) = most_for_append file.kept (length file.bytes)
 
 abbrev pub most_for_directories : List (List Name) → ℕ
 most_for_directories [] = 0
 most_for_directories (names ∷ directories) = most_for_directory spelled_length names + most_for_directories directories
 
 -- by a file that is written, if one is, the names of each directory that is, and the table with the node that is made
-abbrev pub reckoned : Option (List ℕ) → List (List Name) → Table → ℕ
+abbrev pub reckoned : Option FileData → List (List Name) → Table → ℕ
 reckoned file directories t = most_for_bytes file + most_for_directories directories + (2 * blocks_for (table_size (length t.records) (length t.entries)) + 1)
 
 -- a directory's body with these names
@@ -42,17 +47,24 @@ AreDirectories [] (node ∷ nodes) = ⊥
 AreDirectories (names ∷ directories) [] = ⊥
 AreDirectories (names ∷ directories) (node ∷ nodes) = HasNames node.stored.body names × AreDirectories directories nodes
 
--- the nodes are a file with these bytes, where one is written, and then directories with these names
-abbrev pub AreOf : Option (List ℕ) → List (List Name) → List Writing → Type 0
+-- the node is a file whose bytes end with these
+pub record EndsWith (file : FileData) (node : Writing) : Type 0 where
+  pub kept : node.kept ≡ file.kept
+  pub front : List ℕ
+  pub size : length front ≡ file.kept
+  pub body : node.stored.body ≡ Bytes (front ++ file.bytes)
+
+-- the nodes are a file of which these bytes are written, where one is, and then directories with these names
+abbrev pub AreOf : Option FileData → List (List Name) → List Writing → Type 0
 AreOf None directories nodes = AreDirectories directories nodes
-AreOf (Some bytes) directories [] = ⊥
-AreOf (Some bytes) directories (node ∷ nodes) = (node.stored.body ≡ Bytes bytes) × AreDirectories directories nodes
+AreOf (Some file) directories [] = ⊥
+AreOf (Some file) directories (node ∷ nodes) = EndsWith file node × AreDirectories directories nodes
 
 -- it is what the request may need at the recovered state
 abbrev pub NeedIsComputed : Type 0
 NeedIsComputed =
     (capacity volume : ℕ) (medium : Medium) (S : State) (stands : RecoversTo udf capacity volume medium S) (request : Request) (nodes : List Writing) (unused : List ℕ) (written : List Written)
-    (made : Option NewNode) (taken : Option Node) (t : Table) (file : Option (List ℕ)) (directories : List (List Name))
+    (made : Option NewNode) (taken : Option Node) (t : Table) (file : Option FileData) (directories : List (List Name))
     → model_table t ≡ stands.tells.table → ChangesVolume capacity volume medium S stands request nodes unused written made taken → AreOf file directories nodes
     → reckoned file directories (begun stands.at request.client request.number (code_of request.operation S.tree) made t) ≡ need spelled_length S request
 
@@ -68,6 +80,6 @@ NamesAreCounted =
 abbrev pub NamesAreShort : Type 0
 NamesAreShort = (names : List Name) → All (λ name. spelled_length name ≤ 255) names → identifiers_size spelled_length names ≤ 40 + 296 * length names
 
--- a file's bytes, where they are outside its entry, and the entry
+-- a file's bytes after so many that stay, where they are outside its entry, and the entry
 abbrev pub FilesAreCounted : Type 0
-FilesAreCounted = (bytes : List ℕ) → 2 * div_ceil (length (outside bytes)) BLOCK_BYTES + 1 ≡ most_for_file bytes
+FilesAreCounted = (kept : ℕ) (bytes : List ℕ) → 2 * div_ceil (length (outside_after kept bytes)) BLOCK_BYTES + 1 ≡ most_for_append kept (length bytes)

@@ -3,7 +3,7 @@ use Rattle.std.specs.Prelude.{◌≡◌, ℕ, ◌-◌, List, [], ◌∷◌, leng
 use Rattle.dir.specs.declared.entry.Kind.TheVariants.{File, Directory}
 use Rattle.model.specs.Tree.{Tree, is_directory_at, files_of, directories_of}
 use Rattle.model.specs.Operation.{Operation, code_of}
-use Rattle.model.specs.Operation.Operation.{Create, Replace, MakeDir, Rename, Remove}
+use Rattle.model.specs.Operation.Operation.{Create, Replace, Append, MakeDir, Rename, Remove}
 use Rattle.model.specs.Session.{State, Request, after_one}
 use Rattle.model.specs.Addresses.{free_address}
 use Rattle.durability.specs.Formats.{Table_}
@@ -47,6 +47,7 @@ abbrev pub made_by : Operation → ℕ → Option NewNode
 made_by (Create path bytes) free = Some (record { kind = File; address = free })
 made_by (MakeDir path) free = Some (record { kind = Directory; address = free })
 made_by (Replace path bytes) free = None
+made_by (Append path offset bytes) free = None
 made_by (Rename from to) free = None
 made_by (Remove path) free = None
 
@@ -55,6 +56,7 @@ abbrev pub RemovesNode : Operation → Tree → List ℕ → Option Node → Typ
 RemovesNode (Create path bytes) tree unused taken = taken ≡ None
 RemovesNode (MakeDir path) tree unused taken = taken ≡ None
 RemovesNode (Replace path bytes) tree unused taken = taken ≡ None
+RemovesNode (Append path offset bytes) tree unused taken = taken ≡ None
 RemovesNode (Rename from to) tree unused taken = taken ≡ None
 RemovesNode (Remove path) tree unused taken = (node : Node) × (taken ≡ Some node) × (unused ≡ node.address ∷ []) × (node.kind ≡ name_kind (is_directory_at tree path))
 

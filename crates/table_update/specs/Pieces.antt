@@ -17,7 +17,7 @@ use Rattle.table_update.specs.NextTable.{ChangesVolume, next_table}
 -- entries are written for the nodes, in their order
 abbrev pub NodesAreWritten : Type 0
 NodesAreWritten =
-    (nodes : List Writing) (from : ℕ) (blocks : List Block) (written : List Written) → WritesNodes udf nodes from blocks written → map (λ w. w.address) written ≡ map (λ n. n.address) nodes
+    (medium : Medium) (nodes : List Writing) (from : ℕ) (blocks : List Block) (written : List Written) → WritesNodes udf medium nodes from blocks written → map (λ w. w.address) written ≡ map (λ n. n.address) nodes
 
 -- The table's bytes lie after the nodes' blocks, and its entry after them.
 pub record IsTableBehind (medium : Medium) (request : Request) (table : Table) (node_blocks : List Block) (bytes : List ℕ) (first : ℕ) (table_blocks : List Block) (mark : Block) : Type 0 where
@@ -31,7 +31,7 @@ abbrev pub PiecesArePlanned : Type 0
 PiecesArePlanned =
     (capacity volume : ℕ) (medium : Medium) (S : State) (stands : RecoversTo udf capacity volume medium S) (request : Request) (nodes : List Writing) (unused : List ℕ) (written : List Written)
     (made : Option NewNode) (taken : Option Node) (t : Table) → model_table t ≡ stands.tells.table → ChangesVolume capacity volume medium S stands request nodes unused written made taken
-    → (node_blocks : List Block) → WritesNodes udf nodes (length medium - partition_start) node_blocks written
+    → (node_blocks : List Block) → WritesNodes udf medium nodes (length medium - partition_start) node_blocks written
     → (bytes : List ℕ) (first : ℕ) (table_blocks : List Block) (mark : Block)
     → IsTableBehind medium request (next_table stands.at request.client request.number (code_of request.operation S.tree) made written taken t) node_blocks bytes first table_blocks mark
     → IsPlanned udf capacity volume medium S stands request (node_blocks ++ table_blocks) mark

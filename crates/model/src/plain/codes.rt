@@ -2,13 +2,13 @@
 
 ghost use Rattle.std.specs.Prelude.{◌≡◌, ◌==◌};
 ghost use Rattle.std.specs.List.{list_any};
-ghost use Rattle.model.specs.Operation.{code_of, code_of_addition, code_of_replacement, code_of_removal, code_of_move, is_too_deep, moves_too_deep};
+ghost use Rattle.model.specs.Operation.{code_of, code_of_addition, code_of_replacement, code_of_append, code_of_removal, code_of_move, ends_at, is_too_deep, moves_too_deep};
 ghost use Rattle.model.specs.Plain.{texts_in, path_in, tree_in, code_in, operation_in, AreApart};
 
 use super::Operation;
-use super::nodes::{Entry, find, is_directory_at, names_at};
+use super::nodes::{Entry, find, is_directory_at, names_at, size_at};
 use super::paths::{begins_with, parent, same_path};
-use limits::{DIRECTORY_NAMES, NODES, PATH_NAMES};
+use limits::{DIRECTORY_NAMES, FILE_BYTES, GREATEST_FILE, NODES, PATH_NAMES};
 
 /// How a committed request went. The codes and their order are in docs/PROTOCOL.md.
 #[derive(Clone, Copy, Debug, PartialEq, Eq)]
@@ -44,6 +44,11 @@ pub fn code_of(nodes: &[Entry], operation: &Operation) -> Code
         Operation::Create { path, bytes: _ } => code_of_addition(nodes, path),
         Operation::MakeDir { path } => code_of_addition(nodes, path),
         Operation::Replace { path, bytes: _ } => code_of_replacement(nodes, path),
+        Operation::Append {
+            path,
+            offset,
+            bytes: _,
+        } => code_of_append(nodes, path, *offset),
         Operation::Rename { from, to } => code_of_move(nodes, from, to),
         Operation::Remove { path } => code_of_removal(nodes, path),
     }
@@ -82,6 +87,31 @@ fn code_of_replacement(nodes: &[Entry], path: &[String]) -> Code
     } else {
         Code::Done
     }
+}
+
+fn code_of_append(nodes: &[Entry], path: &[String], offset: u64) -> Code
+    ensures { code_in result ≡ code_of_append (texts_in path.now) offset (tree_in nodes.now) }
+{
+    if path.is_empty() {
+        Code::Root
+    } else if find(nodes, path).is_none() {
+        Code::NotFound
+    } else if is_directory_at(nodes, path) {
+        Code::IsDirectory
+    } else if !ends_at(nodes, path, offset) {
+        Code::Exists
+    } else if offset >= u64::from(GREATEST_FILE) {
+        Code::TooMany
+    } else {
+        Code::Done
+    }
+}
+
+/// Whether the file at a path has so many bytes, and they fill its extents.
+fn ends_at(nodes: &[Entry], path: &[String], offset: u64) -> bool
+    ensures { result ≡ ends_at (tree_in nodes.now) (texts_in path.now) offset }
+{
+    size_at(nodes, path) as u64 == offset && offset % FILE_BYTES as u64 == 0
 }
 
 fn code_of_removal(nodes: &[Entry], path: &[String]) -> Code

@@ -1,10 +1,10 @@
 //! What an operation changes in the list of entries.
 
-ghost use Rattle.std.specs.Prelude.{◌≡◌, ◌++◌, IfOk, OnOk, filter, map, string_bytes, bytes_eq};
+ghost use Rattle.std.specs.Prelude.{◌≡◌, ◌++◌, [], IfOk, OnOk, filter, map, string_bytes, bytes_eq, unwrap_or};
 ghost use Rattle.std.specs.List.{list_any};
 ghost use Rattle.std.specs.FinMap.{get, remove};
-ghost use Rattle.model.specs.Operation.{with_names, with_bytes, is_other, name_added, name_taken_out, added, all_moved, changed_at, code_of, code_of_move, done};
-ghost use Rattle.model.specs.Tree.{IsTree};
+ghost use Rattle.model.specs.Operation.{with_names, with_bytes, is_other, name_added, name_taken_out, added, all_moved, changed_at, file_bytes, code_of, code_of_move, done};
+ghost use Rattle.model.specs.Tree.{IsTree, bytes_in};
 ghost use Rattle.model.specs.Plain.{texts_in, node_in, plain_content, entry_in, tree_in, operation_in, AreApart, ListsTree, paths_moved};
 
 use super::Operation;
@@ -40,6 +40,18 @@ impl Node {
     {
         self.moment = moment;
         self.content = Content::File(bytes);
+    }
+
+    /// Puts bytes after a file's.
+    pub fn add_bytes(&mut self, mut bytes: Vec<u8>, moment: u64) -> Result<(), AllocError>
+        ensures { OnOk result (node_in self.new ≡ with_bytes (unwrap_or (bytes_in (node_in self.old).content) [] ++ bytes.items) moment (node_in self.old)) }
+    {
+        self.moment = moment;
+        match &mut self.content {
+            Content::File(old) => old.append(&mut bytes)?,
+            Content::Directory(_) => self.content = Content::File(bytes),
+        }
+        Ok(())
     }
 }
 
@@ -143,6 +155,23 @@ pub fn replaced(mut nodes: Vec<Entry>, path: &[String], bytes: Vec<u8>, moment: 
     nodes
 }
 
+/// Puts bytes after those of a file.
+pub fn appended(
+    mut nodes: Vec<Entry>,
+    path: &[String],
+    bytes: Vec<u8>,
+    moment: u64,
+) -> Result<Vec<Entry>, AllocError>
+    requires { AreApart nodes.items }
+    ensures { IfOk result (λ new. ListsTree new.items (changed_at (texts_in path.now) (with_bytes (file_bytes (tree_in nodes.items) (texts_in path.now) ++ bytes.items) moment) (tree_in nodes.items))) }
+{
+    let Some(i) = position(&nodes, path) else {
+        return Ok(nodes);
+    };
+    nodes[i].node.add_bytes(bytes, moment)?;
+    Ok(nodes)
+}
+
 /// Replaces the prefix `from` of each path that has it by `to`.
 fn paths_moved(
     alloc: Global,
@@ -200,6 +229,11 @@ pub fn done(
             identity,
         ),
         Operation::Replace { path, bytes } => Ok(replaced(nodes, &path, bytes, moment)),
+        Operation::Append {
+            path,
+            offset: _,
+            bytes,
+        } => appended(nodes, &path, bytes, moment),
         Operation::MakeDir { path } => {
             let none = Content::Directory(Vec::new(alloc));
             added(alloc, nodes, path, none, moment, identity)

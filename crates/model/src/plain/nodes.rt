@@ -1,9 +1,10 @@
 //! The nodes as a list of paths and nodes.
 
-ghost use Rattle.std.specs.Prelude.{◌≡◌, position, length};
+ghost use Rattle.std.specs.Prelude.{◌≡◌, [], position, length, unwrap_or};
 ghost use Rattle.std.specs.Option.{option_copied, option_map};
 ghost use Rattle.std.specs.FinMap.{get};
-ghost use Rattle.model.specs.Tree.{paths_eq, is_directory, is_directory_at, names_at, names_of};
+ghost use Rattle.model.specs.Tree.{paths_eq, bytes_in, is_directory, is_directory_at, names_at, names_of};
+ghost use Rattle.model.specs.Operation.{file_bytes};
 ghost use Rattle.model.specs.Plain.{texts_in, path_in, node_in, tree_in};
 
 use super::paths::same_path;
@@ -47,6 +48,16 @@ impl Node {
             Content::Directory(names) => names.len(),
         }
     }
+
+    /// How many bytes it has. A directory has none.
+    pub fn size(&self) -> usize
+        ensures { result ≡ length (unwrap_or (bytes_in (node_in self.now).content) []) }
+    {
+        match &self.content {
+            Content::File(bytes) => bytes.len(),
+            Content::Directory(_) => 0,
+        }
+    }
 }
 
 /// The index of the entry of a path.
@@ -83,5 +94,15 @@ pub fn names_at(nodes: &[Entry], path: &[String]) -> usize
     match find(nodes, path) {
         None => 0,
         Some(node) => node.names(),
+    }
+}
+
+/// How many bytes the file at the path has: 0 if there is no file.
+pub fn size_at(nodes: &[Entry], path: &[String]) -> usize
+    ensures { result ≡ length (file_bytes (tree_in nodes.now) (texts_in path.now)) }
+{
+    match find(nodes, path) {
+        None => 0,
+        Some(node) => node.size(),
     }
 }
