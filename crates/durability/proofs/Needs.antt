@@ -18,10 +18,9 @@ use Rattle.model.proofs.Paths.{ends, parent-push}
 use Rattle.model.proofs.ListsAfter.{ListsRenamed, lists_after}
 use Rattle.durability.specs.Formats.{Block, Table_, Formats, AreExact, AreBounded, AreDistinct, AreShort}
 use Rattle.durability.specs.Volume.{Medium, partition_start, blocks_for, graph_of, RecoversTo}
-use Rattle.durability.specs.Commit.{most_inside, file_blocks, most_for_file, most_for_directory, most_for_directory_at, most_for_nodes, most_for_table, table_size, need}
+use Rattle.durability.specs.Commit.{most_inside, file_blocks, most_for_file, most_for_append, most_for_directory, most_for_directory_at, most_for_nodes, most_for_table, table_size, need}
 use Rattle.durability.specs.Plan.{zeros, packed, Writing, Written, IsPlaced, PlacesFile, PlacesBody, WritesNodes, IsPlanned, Plans, PlansAddition, PlansRenaming, PlansMove}
 use Rattle.durability.specs.Plan.PlacesFile.{nowhere, inside, outside, appended}
-use Rattle.durability.specs.Commit.{most_for_append}
 use Rattle.durability.proofs.Packed.{length-packed}
 use Rattle.durability.proofs.Planned.{zero_or, tree_done, moved_reach, table_length_is}
 
@@ -71,7 +70,7 @@ content_names (Entries parent entries) = refl
 
 module _ (formats : Formats) (spelled : Name → ℕ) (short : AreShort formats spelled) where
   abbrev pub most_for_kept : ℕ → Body → ℕ
-  most_for_kept kept (Bytes bytes) = most_for_append kept (length bytes - kept) bytes
+  most_for_kept kept (Bytes bytes) = most_for_append kept (length bytes - kept)
   most_for_kept kept (Entries parent entries) = most_for_directory spelled (map (λ e. e.name) entries)
 
   abbrev pub most_for_body : Body → ℕ
@@ -81,21 +80,22 @@ module _ (formats : Formats) (spelled : Name → ℕ) (short : AreShort formats 
   most_for_all [] = 0
   most_for_all (node ∷ nodes) = most_for_kept node.kept node.stored.body + most_for_all nodes
 
-  at_none : (before kept : ℕ) (bytes : List ℕ) → kept ≡ 0 → before ≤ most_for_file bytes → before ≤ most_for_append kept (length bytes - kept) bytes
-  at_none before kept bytes all-new h = subst (λ (k : ℕ). before ≤ most_for_append k (length bytes - k) bytes) (sym all-new) h
+  -- a file of which nothing stays
+  new_most : (kept : ℕ) (bytes : List ℕ) → kept ≡ 0 → most_for_append kept (length bytes - kept) ≡ most_for_file bytes
+  new_most kept bytes new = ap (λ (k : ℕ). most_for_append k (length bytes - k)) new ∙ ap (most_for_append 0) (let all : length bytes - 0 ≡ length bytes = omega arith in all)
 
-  file_short : (medium : Medium) (kept : ℕ) (bytes : List ℕ) (from : ℕ) (before : List Block) (place : _) → PlacesFile formats medium kept bytes from before place → length before + 1 ≤ most_for_append kept (length bytes - kept) bytes
-  file_short medium kept bytes from before place (nowhere all-new size blocks at) = at_none _ kept bytes all-new (omega (arith, ap (λ (bs : List Block). length bs) blocks))
-  file_short medium kept bytes from before place (inside all-new some few blocks at) = at_none _ kept bytes all-new (omega (arith, ap (λ (bs : List Block). length bs) blocks))
-  file_short medium kept bytes from before place (appended front new firsts whole kept-is some-front count within holds some few first placed spelled names at) =
-      let size : length bytes - kept ≡ length new = omega (arith, ap (λ (xs : List ℕ). length xs) whole, length-append front new, kept-is) in
-      let other : kept ≡ 0 → ⊥ = λ none. omega (arith, none, kept-is, some-front) in
-      let most : most_for_append kept (length bytes - kept) bytes ≡ 2 * blocks_for (length new) + 1 =
-      ap (λ (b : Bool). if b then most_for_file bytes else 2 * blocks_for (length bytes - kept) + 1) (ne_eqb kept 0 other) ∙ ap (λ (n : ℕ). 2 * blocks_for n + 1) size in
-      omega (arith, most, placed_short formats new from first before placed)
-  file_short medium kept bytes from before place (outside all-new many first placed at) =
+  file_short : (medium : Medium) (kept : ℕ) (bytes : List ℕ) (from : ℕ) (before : List Block) (place : _) → PlacesFile formats medium kept bytes from before place → length before + 1 ≤ most_for_append kept (length bytes - kept)
+  file_short medium kept bytes from before place (nowhere new size blocks at) = omega (arith, new_most kept bytes new, ap (λ (bs : List Block). length bs) blocks)
+  file_short medium kept bytes from before place (inside new some few blocks at) = omega (arith, new_most kept bytes new, ap (λ (bs : List Block). length bs) blocks)
+  file_short medium kept bytes from before place (outside new many first placed at) =
       let count : file_blocks (length bytes) ≡ blocks_for (length bytes) = ap (λ b. cond b (blocks_for (length bytes)) 0) (lt-ltb most_inside (length bytes) many) in
-      at_none _ kept bytes all-new (omega (arith, count, placed_short formats bytes from first before placed))
+      omega (arith, new_most kept bytes new, count, placed_short formats bytes from first before placed)
+  file_short medium kept bytes from before place (appended front more firsts whole is some-front count within holds some few first placed descriptors names at) =
+      let size : length bytes - kept ≡ length more = omega (arith, ap (λ (xs : List ℕ). length xs) whole, length-append front more, is) in
+      let other : kept ≡ 0 → ⊥ = λ none. omega (arith, none, some-front) in
+      let most : most_for_append kept (length bytes - kept) ≡ 2 * blocks_for (length more) + 1 =
+      ap (λ (b : Bool). 2 * (if b then file_blocks (length bytes - kept) else blocks_for (length bytes - kept)) + 1) (ne_eqb kept 0 other) ∙ ap (λ (n : ℕ). 2 * blocks_for n + 1) size in
+      omega (arith, most, placed_short formats more from first before placed)
 
   body_short : (medium : Medium) (kept : ℕ) (body : Body) (from : ℕ) (before : List Block) (place : _) (size : ℕ) → PlacesBody formats medium kept body from before place size → length before + 1 ≤ most_for_kept kept body
   body_short medium kept (Bytes bytes) from before place size (count, places) = file_short medium kept bytes from before place places
@@ -114,14 +114,8 @@ module _ (formats : Formats) (spelled : Name → ℕ) (short : AreShort formats 
         nodes_short (medium ++ first) nodes (from + length first) others rest all,
       )
 
-  append_short : (offset : ℕ) (front bytes : List ℕ) → length front ≡ offset → most_for_append offset (length (front ++ bytes) - offset) (front ++ bytes) ≡ most_for_append offset (length bytes) bytes
-  append_short offset [] bytes size = subst (λ (k : ℕ). most_for_append k (length bytes - k) bytes ≡ most_for_append k (length bytes) bytes) size refl
-  append_short offset (x ∷ front) bytes size =
-      let other : offset ≡ 0 → ⊥ = λ none. omega (arith, none, size) in
-      let rest : length ((x ∷ front) ++ bytes) - offset ≡ length bytes = omega (arith, size, length-append (x ∷ front) bytes) in
-      ap (λ (b : Bool). if b then most_for_file ((x ∷ front) ++ bytes) else 2 * blocks_for (length ((x ∷ front) ++ bytes) - offset) + 1) (ne_eqb offset 0 other)
-      ∙ ap (λ (n : ℕ). 2 * blocks_for n + 1) rest
-      ∙ sym (ap (λ (b : Bool). if b then most_for_file bytes else 2 * blocks_for (length bytes) + 1) (ne_eqb offset 0 other))
+  append_most : (offset : ℕ) (front bytes : List ℕ) → length front ≡ offset → most_for_append offset (length (front ++ bytes) - offset) ≡ most_for_append offset (length bytes)
+  append_most offset front bytes size = ap (most_for_append offset) (let rest : length (front ++ bytes) - offset ≡ length bytes = omega (arith, size, length-append front bytes) in rest)
 
   -- a body with names is a directory's
   listing_short : (body : Body) (change : List Entry → List Entry) (x : Name) → Contains (names_of_body body) x → most_for_body (with_entries change body) ≡ most_for_directory spelled (map (λ e. e.name) (change (entries_in body)))
@@ -275,12 +269,12 @@ module _ (formats : Formats) (spelled : Name → ℕ) (short : AreShort formats 
       -- the nodes that a plan writes may take as many blocks as the tree after it says
       pub nodes_need : (op : Operation) (nodes : List Writing) (gone : List ℕ) → code_of op S.tree ≡ 0 → Plans graph free op r.moment S.next_identity nodes gone → most_for_all nodes ≡ most_for_nodes spelled op (after_tree op)
       nodes_need (Create path bytes) nodes gone e (plan, none) =
-          addition_short path (names_at (after_tree (Create path bytes)) (parent_of path)) (most_for_file bytes) nodes (File bytes) (may_add path S.tree e).directory (lists_after r.moment S.next_identity S.tree stands.tells.tree (Create path bytes) e) plan refl
+          addition_short path (names_at (after_tree (Create path bytes)) (parent_of path)) (most_for_file bytes) nodes (File bytes) (may_add path S.tree e).directory (lists_after r.moment S.next_identity S.tree stands.tells.tree (Create path bytes) e) plan (new_most 0 bytes refl)
       nodes_need (MakeDir path) nodes gone e (plan, none) =
           addition_short path (names_at (after_tree (MakeDir path)) (parent_of path)) (most_for_directory spelled []) nodes (Directory []) (may_add path S.tree e).directory (lists_after r.moment S.next_identity S.tree stands.tells.tree (MakeDir path) e) plan refl
-      nodes_need (Replace path bytes) nodes gone e (plan, none) = sum_one (most_for_all nodes) _ (most_for_file bytes) (ap most_for_all plan.nodes_are) refl
+      nodes_need (Replace path bytes) nodes gone e (plan, none) = sum_one (most_for_all nodes) _ (most_for_file bytes) (ap most_for_all plan.nodes_are) (new_most 0 bytes refl)
       nodes_need (Append path offset bytes) nodes gone e (plan, none) =
-          sum_one (most_for_all nodes) _ (most_for_append offset (length bytes) bytes) (ap most_for_all plan.nodes_are) (append_short offset plan.front bytes plan.size)
+          sum_one (most_for_all nodes) _ (most_for_append offset (length bytes)) (ap most_for_all plan.nodes_are) (append_most offset plan.front bytes plan.size)
       nodes_need (Rename from to) nodes gone e (plan, none) = renames_short from to nodes e plan
       nodes_need (Remove path) nodes gone e plan =
           let may = may_remove path S.tree e in

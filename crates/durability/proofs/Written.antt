@@ -9,11 +9,10 @@ use Rattle.model.proofs.Lists.{contains_here, contains_there}
 use Rattle.durability.specs.Formats.{Block, Kind, NodePlace, NodeFields, Formats, AreDistinct}
 use Rattle.durability.specs.Formats.Kind.{Directory, File, Table}
 use Rattle.durability.specs.Formats.NodePlace.{Extent}
-use Rattle.durability.specs.Volume.{AreWithin, bytes_of}
-use Rattle.durability.proofs.Extents.{extents_stay, one_more}
-use Rattle.durability.specs.Volume.{Medium, partition_start, blocks_for, IsWithin, extent, bytes_in_blocks, HoldsFile, HoldsDirectory, HoldsBody, IsStoredAt, graph_of, IsVatIcbAt, NoneImitates}
+use Rattle.durability.specs.Volume.{Medium, partition_start, blocks_for, IsWithin, extent, bytes_in_blocks, AreWithin, bytes_in_extents, HoldsFile, HoldsDirectory, HoldsBody, IsStoredAt, graph_of, IsVatIcbAt, NoneImitates}
 use Rattle.durability.specs.Plan.{zeros, packed, kind_of_body, Writing, Written, IsPlaced, PlacesFile, PlacesBody, WritesNode, WritesNodes}
 use Rattle.durability.specs.Plan.PlacesFile.{nowhere, inside, outside, appended}
+use Rattle.durability.proofs.Extents.{extents_stay, one_more}
 use Rattle.durability.proofs.Lists.{get_past}
 use Rattle.durability.proofs.Packed.{part_at, length-packed, bytes-packed}
 use Rattle.durability.proofs.Mediums.{none-append}
@@ -48,17 +47,27 @@ module _ (formats : Formats) where
         ap (λ (M : Medium). take (blocks_for (length bytes)) (drop (first + partition_start) M)) whole ∙ part_at (first + partition_start) (blocks_for (length bytes)) (B ++ gap) (packed bytes) more front (sym size),
       )
 
-  file_held : (B : Medium) (bytes : List ℕ) (from : ℕ) (before : List Block) (place : NodePlace) (more : List Block) → partition_start ≤ length B → from ≡ length B - partition_start
-      → PlacesFile formats bytes from before place → HoldsFile formats (B ++ (before ++ more)) (length bytes) place bytes
-  file_held B bytes from before place more low is (nowhere size blocks at) = subst (λ p. HoldsFile formats (B ++ (before ++ more)) (length bytes) p bytes) (sym at) (empty bytes size)
+  file_held : (B : Medium) (kept : ℕ) (bytes : List ℕ) (from : ℕ) (before : List Block) (place : NodePlace) (more : List Block) → partition_start ≤ length B → from ≡ length B - partition_start
+      → PlacesFile formats B kept bytes from before place → HoldsFile formats (B ++ (before ++ more)) (length bytes) place bytes
+  file_held B kept bytes from before place more low is (nowhere new size blocks at) = subst (λ p. HoldsFile formats (B ++ (before ++ more)) (length bytes) p bytes) (sym at) (empty bytes size)
     where
       empty : (xs : List ℕ) → length xs ≡ 0 → xs ≡ []
       empty [] e = refl
       empty (x ∷ xs) e = absurd (omega arith)
-  file_held B bytes from before place more low is (inside some few blocks at) = subst (λ p. HoldsFile formats (B ++ (before ++ more)) (length bytes) p bytes) (sym at) refl
-  file_held B bytes from before place more low is (outside many first placed at) =
+  file_held B kept bytes from before place more low is (inside new some few blocks at) = subst (λ p. HoldsFile formats (B ++ (before ++ more)) (length bytes) p bytes) (sym at) refl
+  file_held B kept bytes from before place more low is (outside new many first placed at) =
       let held = placed_extent B bytes from first before more low is placed in
       subst (λ p. HoldsFile formats (B ++ (before ++ more)) (length bytes) p bytes) (sym at) (held.0, sym (ap (λ (xs : List Block). bytes_in_blocks (length bytes) xs) held.1 ∙ bytes-packed bytes))
+  file_held B kept bytes from before place more low is (appended front new firsts whole size some-front count within holds some few first placed descriptors names at) =
+      let M : Medium = B ++ (before ++ more) in
+      let held = placed_extent B new from first before more low is placed in
+      let stay = extents_stay B (before ++ more) kept firsts within in
+      let both = one_more M first new some few held.0 held.1 firsts kept count stay.0 in
+      let sum : kept + length new ≡ length bytes = omega (arith, ap (λ (xs : List ℕ). length xs) whole, length-append front new, size) in
+      subst (λ p. HoldsFile formats M (length bytes) p bytes) (sym at) (subst (λ (fs : List ℕ). AreWithin M (length bytes) fs × (bytes ≡ bytes_in_extents M (length bytes) fs)) (sym names) (
+        subst (λ (n : ℕ). AreWithin M n (firsts ++ first ∷ [])) sum both.0,
+        whole ∙ ap (λ (xs : List ℕ). xs ++ new) (holds ∙ sym stay.1) ∙ sym both.1 ∙ ap (λ (n : ℕ). bytes_in_extents M n (firsts ++ first ∷ [])) sum,
+      ))
 
   directory_held : (B : Medium) (parent : ℕ) (entries : List Entry) (from : ℕ) (before : List Block) (place : NodePlace) (size : ℕ) (more : List Block) → partition_start ≤ length B → from ≡ length B - partition_start
       → (place ≡ Extent from) × (length before ≡ blocks_for size) × formats.IsDirectory parent entries from size before → HoldsDirectory formats (B ++ (before ++ more)) size place parent entries
@@ -68,16 +77,16 @@ module _ (formats : Formats) where
       subst (λ p. HoldsDirectory formats (B ++ (before ++ more)) size p parent entries) (sym at)
       (omega (arith, length-append B (before ++ more), length-append before more), subst (λ (xs : List Block). formats.IsDirectory parent entries from size xs) (sym same) holds)
 
-  body_held : (B : Medium) (body : Body) (from : ℕ) (before : List Block) (place : NodePlace) (size : ℕ) (more : List Block) (moment links identity : ℕ) → partition_start ≤ length B → from ≡ length B - partition_start
-      → PlacesBody formats body from before place size
+  body_held : (B : Medium) (kept : ℕ) (body : Body) (from : ℕ) (before : List Block) (place : NodePlace) (size : ℕ) (more : List Block) (moment links identity : ℕ) → partition_start ≤ length B → from ≡ length B - partition_start
+      → PlacesBody formats B kept body from before place size
       → HoldsBody formats (B ++ (before ++ more)) (record { kind = kind_of_body body; moment = moment; links = links; identity = identity; size = size; place = place }) body
-  body_held B (Bytes bytes) from before place size more moment links identity low is (count, places) =
-      (refl, subst (λ n. HoldsFile formats (B ++ (before ++ more)) n place bytes) (sym count) (file_held B bytes from before place more low is places))
-  body_held B (Entries parent entries) from before place size more moment links identity low is places = (refl, directory_held B parent entries from before place size more low is places)
+  body_held B kept (Bytes bytes) from before place size more moment links identity low is (count, places) =
+      (refl, subst (λ n. HoldsFile formats (B ++ (before ++ more)) n place bytes) (sym count) (file_held B kept bytes from before place more low is places))
+  body_held B kept (Entries parent entries) from before place size more moment links identity low is places = (refl, directory_held B parent entries from before place size more low is places)
 
   -- a node that was written is stored where its entry leads
   node_stored : (B : Medium) (node : Writing) (from : ℕ) (blocks : List Block) (number : ℕ) (table : List (Option ℕ)) → partition_start ≤ length B → from ≡ length B - partition_start
-      → WritesNode formats node from blocks number → slice_get table node.address ≡ Some (Some number) → IsStoredAt formats (B ++ blocks) table node.address node.stored
+      → WritesNode formats B node from blocks number → slice_get table node.address ≡ Some (Some number) → IsStoredAt formats (B ++ blocks) table node.address node.stored
   node_stored B node from blocks number table low is w used =
       let there : slice_get (B ++ (w.before ++ w.entry ∷ [])) (number + partition_start) ≡ Some w.entry =
       get_past B (w.before ++ w.entry ∷ []) (number + partition_start) (length w.before) (omega (arith, w.number_is)) ∙ get_past w.before (w.entry ∷ []) (length w.before) 0 (omega arith) in
@@ -137,10 +146,10 @@ module _ (formats : Formats) where
     none_all (b ∷ blocks) at h = ((λ (low, fields, table, is). h b 0 refl (at - partition_start) fields is), none_all blocks (suc at) (λ block k e. h block (suc k) e))
 
     none_file : (medium : Medium) (kept : ℕ) (bytes : List ℕ) (from : ℕ) (blocks : List Block) (place : NodePlace) (at : ℕ) → at ≡ from + partition_start → PlacesFile formats medium kept bytes from blocks place → NoneImitates formats at blocks
-    none_file medium kept bytes from blocks place at is (nowhere all-new size blocks_are p) = subst (λ (xs : List Block). NoneImitates formats at xs) (sym blocks_are) tt
-    none_file medium kept bytes from blocks place at is (inside all-new some few blocks_are p) = subst (λ (xs : List Block). NoneImitates formats at xs) (sym blocks_are) tt
-    none_file medium kept bytes from blocks place at is (outside all-new many first placed p) = none_placed bytes from first blocks at is placed
-    none_file medium kept bytes from blocks place at is (appended front new firsts whole kept-is some-front count within holds some few first placed spelled names p) = none_placed new from first blocks at is placed
+    none_file medium kept bytes from blocks place at is (nowhere new size blocks_are p) = subst (λ (xs : List Block). NoneImitates formats at xs) (sym blocks_are) tt
+    none_file medium kept bytes from blocks place at is (inside new some few blocks_are p) = subst (λ (xs : List Block). NoneImitates formats at xs) (sym blocks_are) tt
+    none_file medium kept bytes from blocks place at is (outside new many first placed p) = none_placed bytes from first blocks at is placed
+    none_file medium kept bytes from blocks place at is (appended front more firsts whole size some-front count within holds some few first placed descriptors names p) = none_placed more from first blocks at is placed
 
     none_body : (medium : Medium) (kept : ℕ) (body : Body) (from : ℕ) (blocks : List Block) (place : NodePlace) (size at : ℕ) → at ≡ from + partition_start → PlacesBody formats medium kept body from blocks place size → NoneImitates formats at blocks
     none_body medium kept (Bytes bytes) from blocks place size at is (count, places) = none_file medium kept bytes from blocks place at is places

@@ -1,12 +1,12 @@
 -- The block of an entry that is made when it is written.
-use Rattle.std.proofs.Common.{◌≡◌, ℕ, ◌+◌, ◌<◌, ◌≤◌, ◌^◌, List, [], ◌∷◌, length, replicate, sym, ap, ◌∙◌, arith}
+use Rattle.std.proofs.Common.{◌≡◌, ℕ, ◌+◌, ◌<◌, ◌≤◌, ◌^◌, List, [], ◌∷◌, ◌++◌, length, replicate, append_assoc, Option, Some, None, refl, sym, ap, ◌∙◌, arith}
 use Rattle.std.specs.Prelude.{codes}
 use Rattle.std.specs.Int.{w16, w32, to_le_bytes}
 use Rattle.std.specs.List.{concat}
 use Rattle.std.proofs.lemmas.List.{length-append}
 use Rattle.ecma.specs.Descriptor.{descriptor_block}
 use Rattle.ecma.specs.Timestamp.{IsMoment}
-use Rattle.ecma.proofs.Bytes.{bytes_of, bytes_concat, bytes_u16, bytes_u32, bytes_u64, bytes_zeros}
+use Rattle.ecma.proofs.Bytes.{bytes_append, bytes_of, bytes_concat, bytes_u16, bytes_u32, bytes_u64, bytes_zeros}
 use Rattle.ecma.proofs.Pieces.{IsBytes}
 use Rattle.ecma.proofs.Seals.{is_block}
 use Rattle.ecma.proofs.Timestamps.{moment_long, moment_bytes}
@@ -16,10 +16,10 @@ use Rattle.icb.specs.declared.entry.Place as source
 use Rattle.icb.specs.declared.entry.Place.TheVariants as places
 use Rattle.icb.specs.declared.planned.PlannedEntry.TheInside as planned
 use Rattle.ecma.specs.Blocks.{block_count}
-use Rattle.icb.specs.Entry.{Fields, FitsEntry, FitsPlace, IsEntry, Place, allocation, blocks_recorded, entry_parts, long_descriptor, file_type, flags_of, inside, permissions, place_of}
+use Rattle.icb.specs.Entry.{Fields, FitsEntry, FitsPlace, IsEntry, Place, allocation, blocks_recorded, entry_parts, long_descriptor, file_type, flags_of, inside, last_size, permissions, place_of}
 use Rattle.limits.specs.declared.TheConstants.{GREATEST_FILE}
 use Rattle.icb.specs.Entry.Place.{Nowhere, Extent, Extents, Inside}
-use Rattle.icb.specs.Planned.{entry_body, planned_block}
+use Rattle.icb.specs.Planned.{entry_body, extended, extended_place, planned_block}
 
 short_allocation : (kind : Kind) (size : ℕ) (place : Place) → size ≤ GREATEST_FILE → FitsPlace kind size place → length (allocation size place) ≤ 1_872
 short_allocation kind size Nowhere limit fits = omega arith
@@ -72,25 +72,59 @@ is_planned e loc stamp fits moment loc-fits inside-fits =
       };
     }
 
--- the block of an entry with its bytes in this place
-pub block_there : (p : planned.Inside) (place : source.Place) → p.entry.place ≡ place
-    → planned_block p ≡ descriptor_block 261 p.location (entry_body (record { kind = p.entry.kind; moment = p.entry.moment; links = p.entry.links; unique = p.entry.unique; size = p.entry.size; place = place_of place }) p.stamp)
-block_there p place is =
-    ap (λ (q : source.Place). descriptor_block 261 p.location (entry_body (record { kind = p.entry.kind; moment = p.entry.moment; links = p.entry.links; unique = p.entry.unique; size = p.entry.size; place = place_of q }) p.stamp)) is
+-- the last two parts as one
+pub joined : (parts : List (List ℕ)) (front rest : List ℕ) → concat (parts ++ front ∷ rest ∷ []) ≡ concat (parts ++ (front ++ rest) ∷ [])
+joined [] front rest = sym (append_assoc front rest [])
+joined (part ∷ parts) front rest = ap (λ (x : List ℕ). part ++ x) (joined parts front rest)
 
--- the block of an entry with its bytes in an extent, as it is written
+-- the bytes that an entry borrows, with one extent more
+pub extended_bytes : (e : Fields) (last : Option ℕ) → IsBytes (inside e.place) → IsBytes (inside (extended e last).place)
+extended_bytes e last fits = go e.size e.place last fits
+  where
+    go : (size : ℕ) (place : Place) (last : Option ℕ) → IsBytes (inside place) → IsBytes (inside (extended_place size place last))
+    go size Nowhere last fits = fits
+    go size (Extent first) last fits = fits
+    go size (Inside bytes) last fits = fits
+    go size (Extents descriptors) None fits = fits
+    go size (Extents descriptors) (Some first) fits = bytes_append descriptors (long_descriptor (last_size size) first) fits (allocation_bytes (last_size size) (Extent first) (bytes_of [] tt))
+
+-- without one it says what it said
+pub as_it_was : (e : Fields) → extended e None ≡ e
+as_it_was e = ap (λ (place : Place). record { kind = e.kind; moment = e.moment; links = e.links; unique = e.unique; size = e.size; place = place }) (go e.size e.place)
+  where
+    go : (size : ℕ) (place : Place) → extended_place size place None ≡ place
+    go size Nowhere = refl
+    go size (Extent first) = refl
+    go size (Inside bytes) = refl
+    go size (Extents descriptors) = refl
+
+-- what an entry of the program says with its bytes in this place
+abbrev said_there : planned.Inside → source.Place → Option ℕ → Fields
+said_there p place last =
+    record { kind = p.entry.kind; moment = p.entry.moment; links = p.entry.links; unique = p.entry.unique; size = p.entry.size; place = extended_place p.entry.size (place_of place) last }
+
+-- the block of an entry with its bytes in this place
+pub block_there : (p : planned.Inside) (place : source.Place) → p.entry.place ≡ place → planned_block p ≡ descriptor_block 261 p.location (entry_body (said_there p place p.last) p.stamp)
+block_there p place is = ap (λ (q : source.Place). descriptor_block 261 p.location (entry_body (said_there p q p.last) p.stamp)) is
+
+-- the block of an entry with its bytes in extents, as it is written
+abbrev pub written_block : planned.Inside → ℕ → List ℕ → List ℕ
+written_block p blocks after =
+    descriptor_block 261 p.location (concat (entry_parts (file_type p.entry.kind) 1 (permissions p.entry.kind) p.entry.links p.entry.size blocks p.stamp p.entry.unique (length after) after))
+
+-- in one extent
 pub block_extended : (p : planned.Inside) (first blocks : ℕ) (after : List ℕ) → p.entry.place ≡ places.Extent first → blocks ≡ block_count p.entry.size → after ≡ long_descriptor p.entry.size first
-    → descriptor_block 261 p.location (concat (entry_parts (file_type p.entry.kind) 1 (permissions p.entry.kind) p.entry.links p.entry.size blocks p.stamp p.entry.unique (length after) after)) ≡ planned_block p
+    → written_block p blocks after ≡ planned_block p
 block_extended p first blocks after is blocks-are after-is =
-    let parts : ℕ → List ℕ → List ℕ = λ (n : ℕ) (x : List ℕ). concat (entry_parts (file_type p.entry.kind) 1 (permissions p.entry.kind) p.entry.links p.entry.size n p.stamp p.entry.unique (length x) x) in
-    ap (λ (n : ℕ). descriptor_block 261 p.location (parts n after)) blocks-are
-    ∙ ap (λ (x : List ℕ). descriptor_block 261 p.location (parts (block_count p.entry.size) x)) after-is
+    ap (λ (n : ℕ). written_block p n after) blocks-are
+    ∙ ap (λ (x : List ℕ). written_block p (block_count p.entry.size) x) after-is
     ∙ sym (block_there p (places.Extent first) is)
 
--- the block of an entry with its bytes in several extents, as it is written
-pub block_in_extents : (p : planned.Inside) (descriptors : source.Place) (blocks : ℕ) (after : List ℕ) → p.entry.place ≡ descriptors → place_of descriptors ≡ Extents after → blocks ≡ block_count p.entry.size
-    → descriptor_block 261 p.location (concat (entry_parts (file_type p.entry.kind) 1 (permissions p.entry.kind) p.entry.links p.entry.size blocks p.stamp p.entry.unique (length after) after)) ≡ planned_block p
-block_in_extents p place blocks after is extents blocks-are =
-    ap (λ (n : ℕ). descriptor_block 261 p.location (concat (entry_parts (file_type p.entry.kind) 1 (permissions p.entry.kind) p.entry.links p.entry.size n p.stamp p.entry.unique (length after) after))) blocks-are
+-- in several, whose descriptors the place has with one more or without
+pub block_in_extents : (p : planned.Inside) (place : source.Place) (last : Option ℕ) (blocks : ℕ) (after : List ℕ) → p.entry.place ≡ place → p.last ≡ last → extended_place p.entry.size (place_of place) last ≡ Extents after
+    → blocks ≡ block_count p.entry.size → written_block p blocks after ≡ planned_block p
+block_in_extents p place last blocks after is last-is extents blocks-are =
+    ap (λ (n : ℕ). written_block p n after) blocks-are
     ∙ ap (λ (q : Place). descriptor_block 261 p.location (entry_body (record { kind = p.entry.kind; moment = p.entry.moment; links = p.entry.links; unique = p.entry.unique; size = p.entry.size; place = q }) p.stamp)) (sym extents)
+    ∙ ap (λ (o : Option ℕ). descriptor_block 261 p.location (entry_body (said_there p place o) p.stamp)) (sym last-is)
     ∙ sym (block_there p place is)

@@ -1,6 +1,6 @@
 -- Edits of the plain program's list of entries, and what they make of the tree.
 use Rattle.std.proofs.Common.{◌≡◌, ℕ, zero, suc, ◌+◌, ◌<◌, Bool, true, false, cond, inl, inr, List, [], ◌∷◌, ◌++◌, map, take, drop, length, get_or, Option, Some, None, is_some, refl, sym, ap, ◌∙◌, subst, arith}
-use Rattle.std.specs.Prelude.{slice_set}
+use Rattle.std.specs.Prelude.{slice_set, unwrap_or}
 use Rattle.std.specs.List.{position, IsDistinct, AllByRecursion}
 use Rattle.std.specs.FinMap.{get, insert, remove, from_entries, get-from_entries, from_entries_push, same_map}
 use Rattle.std.specs.FinMap as finmap
@@ -8,8 +8,8 @@ use Rattle.std.specs.Ordering.{eq_by_cmp}
 use Rattle.std.proofs.lemmas.Bool.{true≢false}
 use Rattle.std.proofs.lemmas.List.{map_push, length-map, get_or-map, get_or_default, map-set}
 use Rattle.std.proofs.lemmas.List.Edits.{map_over_more}
-use Rattle.model.specs.Tree.{Path, Node, Tree, IsTree, Has, path_cmp, paths_eq, parent_of, last_of}
-use Rattle.model.specs.Operation.{changed_at, changed_in, name_added, all_moved, moved, code_of_move}
+use Rattle.model.specs.Tree.{Path, Node, Tree, IsTree, Has, bytes_in, found_bytes, path_cmp, paths_eq, parent_of, last_of}
+use Rattle.model.specs.Operation.{changed_at, changed_in, file_bytes, name_added, all_moved, moved, code_of_move}
 use Rattle.model.specs.Plain.{path_in, node_in, entry_in, tree_in, AreApart, ListsTree, paths_moved}
 use Rattle.model.specs.declared.plain.nodes.Entry.{Entry}
 use Rattle.model.proofs.Paths.{path_cases, path_cmp_total, path_cmp-IsAntisymmetric}
@@ -247,6 +247,12 @@ module _ (p q : Path) (es xs : List Entry) (same : xs ≡ es) (path : q ≡ p) w
       let here = place.1 e in
       let one : get_or es i e ≡ old = get_or_default es i e old place.0 ∙ sym is in
       changed_list p es i e change d place.0 here (names ∙ ap path_in (sym one) ∙ here.1) (node ∙ ap (λ (x : Entry). change (node_in x.node)) (sym one))
+
+  -- the bytes of the file there
+  pub bytes_of_place : (i : ℕ) (old : Entry) → position (test q) xs ≡ Some i → old ≡ get_or es i old → unwrap_or (bytes_in (node_in old.node).content) [] ≡ file_bytes (tree_in es) p
+  bytes_of_place i old at is =
+      let place = at_place p es i (subst (λ x. position (test x) es ≡ Some i) path (subst (λ ys. position (test q) ys ≡ Some i) same at)) in
+      sym (ap (λ (o : Option Node). unwrap_or (found_bytes o) []) ((place.1 old).0 ∙ ap (λ (x : Entry). Some (node_in x.node)) (sym is)))
 
   pub changed_none : (change : Node → Node) → AreApart es → position (test q) xs ≡ None → ListsTree es (changed_at p change (tree_in es))
   changed_none change d at = unchanged_list p es change d (at_none p es (subst (λ x. position (test x) es ≡ None) path (subst (λ ys. position (test q) ys ≡ None) same at)))

@@ -1,10 +1,10 @@
-use Rattle.std.proofs.Common.{subst}
-use Rattle.ecma.proofs.Pieces.{IsBytes}
-use Rattle.icb.specs.Entry.{fields_of}
-use Rattle.icb.proofs.EntryBlocks.{is_planned}
+use Rattle.std.proofs.Common.{sym, subst}
+use Rattle.icb.specs.Entry.{Fields, FitsEntry, IsEntry, fields_of}
+use Rattle.icb.proofs.EntryBlocks.{as_it_was}
 use Rattle.icb.proofs.planned.PlannedEntry.new.Goals as goal
 
+pub with_last-requires : goal.with_last-requires
+with_last-requires c = subst FitsEntry (sym (as_it_was (fields_of c.args.entry.now))) c.requires
+
 pub returns : goal.returns
-returns c =
-    is_planned (fields_of c.args.entry.now) c.args.location c.to_bytes-stamp.result c.requires c.to_bytes-stamp.ensures c.ranges.location.fits
-    (subst IsBytes c.bytes_inside-inside.ensures.value c.bytes_inside-inside.ensures.bytes)
+returns c = subst (λ (e : Fields). IsEntry e c.args.location c.with_last.result) (as_it_was (fields_of c.args.entry.now)) c.with_last.ensures
