@@ -30,6 +30,10 @@ placed_short formats bytes from first blocks placed =
     let gap : List Block = replicate (first - from) zeros in
     omega (arith, ap (λ (bs : List Block). length bs) placed.whole, length-append gap (packed bytes), length-replicate (first - from) zeros, placed.start.high, length-packed bytes)
 
+-- bytes after those that stay
+pub append_most : (offset : ℕ) (front bytes : List ℕ) → length front ≡ offset → most_for_append offset (length (front ++ bytes) - offset) ≡ most_for_append offset (length bytes)
+append_most offset front bytes size = ap (most_for_append offset) (let rest : length (front ++ bytes) - offset ≡ length bytes = omega (arith, size, length-append front bytes) in rest)
+
 same_bound : (a b : ℕ) → a ≡ b → a ≤ b
 same_bound a b e = omega arith
 
@@ -113,9 +117,6 @@ module _ (formats : Formats) (spelled : Name → ℕ) (short : AreShort formats 
         body_short medium node.kept node.stored.body from one.before one.place one.size one.body,
         nodes_short (medium ++ first) nodes (from + length first) others rest all,
       )
-
-  append_most : (offset : ℕ) (front bytes : List ℕ) → length front ≡ offset → most_for_append offset (length (front ++ bytes) - offset) ≡ most_for_append offset (length bytes)
-  append_most offset front bytes size = ap (most_for_append offset) (let rest : length (front ++ bytes) - offset ≡ length bytes = omega (arith, size, length-append front bytes) in rest)
 
   -- a body with names is a directory's
   listing_short : (body : Body) (change : List Entry → List Entry) (x : Name) → Contains (names_of_body body) x → most_for_body (with_entries change body) ≡ most_for_directory spelled (map (λ e. e.name) (change (entries_in body)))

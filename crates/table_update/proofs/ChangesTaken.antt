@@ -9,7 +9,7 @@ use Rattle.dir.specs.declared.entry.Kind.{Kind}
 use Rattle.dir.specs.declared.entry.Kind.TheVariants.{File, Directory}
 use Rattle.model.specs.Tree.{Path, Tree, Content, parent_of, found_directory, is_directory_at, directories_of, files_of}
 use Rattle.model.specs.Operation.{Operation, code_of, done}
-use Rattle.model.specs.Operation.Operation.{Create, Replace, MakeDir, Rename, Remove}
+use Rattle.model.specs.Operation.Operation.{Create, Replace, Append, MakeDir, Rename, Remove}
 use Rattle.model.specs.Session.{State, Request}
 use Rattle.model.specs.Graph.{Graph, Reach, is_directory}
 use Rattle.model.specs.Tree as trees
@@ -180,6 +180,9 @@ module _ (capacity volume : ℕ) (medium : Medium) (S : State) (stands : Recover
   each_taken (MakeDir path) nodes unused written made taken e addresses (plan, none) m g =
       taken_by made _ taken None written m g (addition_taken path _ Directory nodes written (may_add path S.tree e).few addresses plan)
   each_taken (Replace path bytes) nodes unused written made taken e addresses (plan, none) m g =
+      taken_by made None taken None written m g
+      (plain_taken nodes written addresses (subst (λ (ns : List Writing). AllUsed t.entries (map (λ n. n.address) ns)) (sym plan.nodes_are) (used_found path plan.file, tt)))
+  each_taken (Append path offset bytes) nodes unused written made taken e addresses (plan, none) m g =
       taken_by made None taken None written m g
       (plain_taken nodes written addresses (subst (λ (ns : List Writing). AllUsed t.entries (map (λ n. n.address) ns)) (sym plan.nodes_are) (used_found path plan.file, tt)))
   each_taken (Rename from to) nodes unused written made taken e addresses (plan, none) m g = taken_by made None taken None written m g (plain_taken nodes written addresses (rename_used from to nodes plan))

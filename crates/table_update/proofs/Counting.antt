@@ -1,5 +1,5 @@
 -- The sizes of names and files, as they are counted in turn.
-use Rattle.std.proofs.Common.{◌≡◌, ℕ, ◌+◌, ◌*◌, ◌≤◌, nat_lt, cond, Bool, true, false, List, [], ◌∷◌, ◌++◌, length, take, map, refl, sym, ap, ◌∙◌, arith}
+use Rattle.std.proofs.Common.{◌≡◌, ℕ, ◌+◌, ◌*◌, ◌≤◌, ◌==◌, nat_lt, cond, Bool, true, false, List, [], ◌∷◌, ◌++◌, length, take, map, refl, sym, ap, ◌∙◌, arith}
 use Rattle.std.specs.Prelude.{sum}
 use Rattle.std.specs.Int.{div_ceil}
 use Rattle.std.proofs.lemmas.List.{take_more}
@@ -9,7 +9,9 @@ use Rattle.limits.specs.declared.TheConstants.{BLOCK_BYTES}
 use Rattle.model.specs.Tree.{Name}
 use Rattle.durability.specs.Formats.{identifier_size, identifiers_size}
 use Rattle.durability.specs.Volume.{blocks_for}
+use Rattle.durability.specs.Commit.{file_blocks}
 use Rattle.udf.specs.Udf.{spelled_length}
+use Rattle.table_update.specs.Outside.{outside}
 use Rattle.table_update.specs.Need.{NamesAreCounted, NamesAreShort, FilesAreCounted}
 
 abbrev size_of : Name → ℕ
@@ -42,8 +44,12 @@ names_are_short (name ∷ names) all =
     omega (arith, rest, head, sum_by-cons (λ (n : ℕ). n) (size_of name) (map size_of names))
 
 pub files_are_counted : FilesAreCounted
-files_are_counted bytes = go (nat_lt 1872 (length bytes))
+files_are_counted kept bytes = alone (kept == 0)
   where
-    go : (b : Bool) → 2 * div_ceil (length (cond b bytes [])) BLOCK_BYTES + 1 ≡ 2 * cond b (blocks_for (length bytes)) 0 + 1
-    go true = refl
-    go false = refl
+    new : (b : Bool) → 2 * div_ceil (length (cond b bytes [])) BLOCK_BYTES + 1 ≡ 2 * cond b (blocks_for (length bytes)) 0 + 1
+    new true = refl
+    new false = refl
+
+    alone : (b : Bool) → 2 * div_ceil (length (cond b (outside bytes) bytes)) BLOCK_BYTES + 1 ≡ 2 * cond b (file_blocks (length bytes)) (blocks_for (length bytes)) + 1
+    alone true = new (nat_lt 1872 (length bytes))
+    alone false = refl

@@ -7,7 +7,7 @@ use Rattle.dir.specs.declared.entry.Kind.{Kind}
 use Rattle.dir.specs.declared.entry.Kind.TheVariants.{File, Directory}
 use Rattle.model.specs.Tree.{Tree}
 use Rattle.model.specs.Operation.{Operation, code_of, done}
-use Rattle.model.specs.Operation.Operation.{Create, Replace, MakeDir, Rename, Remove}
+use Rattle.model.specs.Operation.Operation.{Create, Replace, Append, MakeDir, Rename, Remove}
 use Rattle.model.specs.Session.{State, Request, ClientRecord, after_one}
 use Rattle.model.proofs.Counts.{len_both}
 use Rattle.model.proofs.Operations.{counted}
@@ -128,6 +128,9 @@ module _ (capacity volume : ℕ) (medium : Medium) (S : State) (stands : Recover
   entries_long (Replace path bytes) made e m =
       let c = counted (Replace path bytes) r.moment S.next_identity S.tree stands.tells.tree e in
       ap (λ (x : Option NewNode). length (start x).entries) m ∙ as_long (afterwards (Replace path bytes)) (omega (arith, c.files, c.directories, len_both S.tree, len_both (afterwards (Replace path bytes))))
+  entries_long (Append path offset bytes) made e m =
+      let c = counted (Append path offset bytes) r.moment S.next_identity S.tree stands.tells.tree e in
+      ap (λ (x : Option NewNode). length (start x).entries) m ∙ as_long (afterwards (Append path offset bytes)) (omega (arith, c.files, c.directories, len_both S.tree, len_both (afterwards (Append path offset bytes))))
   entries_long (Rename from to) made e m =
       let c = counted (Rename from to) r.moment S.next_identity S.tree stands.tells.tree e in
       ap (λ (x : Option NewNode). length (start x).entries) m ∙ as_long (afterwards (Rename from to)) (omega (arith, c.files, c.directories, len_both S.tree, len_both (afterwards (Rename from to))))

@@ -9,7 +9,7 @@ use Rattle.dir.specs.declared.entry.Kind.{Kind}
 use Rattle.dir.specs.declared.entry.Kind.TheVariants.{File, Directory}
 use Rattle.model.specs.Tree.{Path, Tree, parent_of, files_of, directories_of, is_directory_at}
 use Rattle.model.specs.Operation.{Operation, code_of, done}
-use Rattle.model.specs.Operation.Operation.{Create, Replace, MakeDir, Rename, Remove}
+use Rattle.model.specs.Operation.Operation.{Create, Replace, Append, MakeDir, Rename, Remove}
 use Rattle.model.specs.Session.{State, Request, after_one, with_reply, draws_identity}
 use Rattle.model.specs.Addresses.{free_address}
 use Rattle.model.specs.Graph.{Graph, Reach, is_directory}
@@ -233,6 +233,11 @@ module _ (capacity volume : ℕ) (medium : Medium) (S : State) (stands : Recover
       let c = counted (Replace path bytes) r.moment S.next_identity S.tree stands.tells.tree e in
       by_these made None taken None written _ m g
       (plain (Replace path bytes) nodes unused written e (omega (arith, c.files)) (omega (arith, c.directories)) addresses none
+      (subst (λ (ns : List Writing). AreWithin (length t.entries) (map (λ n. n.address) ns)) (sym plan.nodes_are) (within path plan.file, tt)))
+  follows (Append path offset bytes) nodes unused written made taken e addresses (plan, none) m g =
+      let c = counted (Append path offset bytes) r.moment S.next_identity S.tree stands.tells.tree e in
+      by_these made None taken None written _ m g
+      (plain (Append path offset bytes) nodes unused written e (omega (arith, c.files)) (omega (arith, c.directories)) addresses none
       (subst (λ (ns : List Writing). AreWithin (length t.entries) (map (λ n. n.address) ns)) (sym plan.nodes_are) (within path plan.file, tt)))
   follows (Rename from to) nodes unused written made taken e addresses (plan, none) m g =
       let c = counted (Rename from to) r.moment S.next_identity S.tree stands.tells.tree e in

@@ -18,9 +18,9 @@ use Rattle.table_update.proofs.NextTables.{next_tables_follow}
 use Rattle.table_update.proofs.NextSizes.{next_tables_are_sized}
 
 pub nodes_are_written : NodesAreWritten
-nodes_are_written [] from blocks written (b, w) = ap (λ (ws : List Written). map (λ v. v.address) ws) w
-nodes_are_written (node ∷ nodes) from blocks written (first, others, number, rest, b, w, one, all) =
-    ap (λ (ws : List Written). map (λ v. v.address) ws) w ∙ ap (λ (ns : List ℕ). node.address ∷ ns) (nodes_are_written nodes (from + length first) others rest all)
+nodes_are_written medium [] from blocks written (b, w) = ap (λ (ws : List Written). map (λ v. v.address) ws) w
+nodes_are_written medium (node ∷ nodes) from blocks written (first, others, number, rest, b, w, one, all) =
+    ap (λ (ws : List Written). map (λ v. v.address) ws) w ∙ ap (λ (ns : List ℕ). node.address ∷ ns) (nodes_are_written (medium ++ first) nodes (from + length first) others rest all)
 
 pub pieces_are_planned : PiecesArePlanned
 pieces_are_planned capacity volume medium S stands r nodes unused written made taken t is h node_blocks writes bytes first table_blocks mark afterwards = record {
@@ -45,7 +45,7 @@ pieces_are_planned capacity volume medium S stands r nodes unused written made t
 
 -- whose table is the one that the changes make
 pub pieces_table : (capacity volume : ℕ) (medium : Medium) (S : State) (stands : RecoversTo udf capacity volume medium S) (r : Request) (nodes : List Writing) (unused : List ℕ) (written : List Written) (made : Option NewNode) (taken : Option Node) (t : Table)
-    → (is : model_table t ≡ stands.tells.table) (h : ChangesVolume capacity volume medium S stands r nodes unused written made taken) (node_blocks : List Block) (writes : WritesNodes udf nodes (length medium - partition_start) node_blocks written)
+    → (is : model_table t ≡ stands.tells.table) (h : ChangesVolume capacity volume medium S stands r nodes unused written made taken) (node_blocks : List Block) (writes : WritesNodes udf medium nodes (length medium - partition_start) node_blocks written)
     → (bytes : List ℕ) (first : ℕ) (table_blocks : List Block) (mark : Block) (afterwards : IsTableBehind medium r (next_table stands.at r.client r.number (code_of r.operation S.tree) made written taken t) node_blocks bytes first table_blocks mark)
     → (pieces_are_planned capacity volume medium S stands r nodes unused written made taken t is h node_blocks writes bytes first table_blocks mark afterwards).table ≡ model_table (next_table stands.at r.client r.number (code_of r.operation S.tree) made written taken t)
 unfolding pieces_are_planned

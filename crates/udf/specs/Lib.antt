@@ -1,7 +1,6 @@
 pub mod Words
 pub mod Udf
 pub mod Said
-pub mod Append
 pub mod NewVolume
 pub mod Laws
 pub mod Torn

@@ -4,7 +4,6 @@ ghost use Rattle.std.specs.Prelude.{◌<◌, ℕ, slice_index};
 ghost use Rattle.durability.specs.Formats.{AreExact, AreBounded, AreDistinct, AreShort};
 ghost use Rattle.udf.specs.Udf.{udf, spelled_length, IsBlock};
 ghost use Rattle.udf.specs.Said.{EntriesAgree, DirectoriesAgree, TablesAgree, SizesAgree, ImitationAgrees, DataAgrees, ClearStartsAgree};
-ghost use Rattle.udf.specs.Append.{FirstsGrow, FullGrow, AppendsArePlaced};
 ghost use Rattle.udf.specs.NewVolume.{NewVolumesAreFormats};
 ghost use Rattle.udf.specs.Laws.{OneStateIsRecovered, RecoveredIsSound, OnePast, PastIsWithin, RecoveredIsLast, RecoversAppended, PastAppended, PlannedCarries, PlannedShort, CommitAdvances, NothingBefore, FormatRecovers, RunsHold, RunsHoldOnJournal};
 ghost use Rattle.udf.specs.Torn.{PrefixesAreLeft, FewerAreLeft, ChoicesAreLeft, TornPartIsAlike, LastBlockDecides, TornCommitMoves, TornCommitShort, TornCommitAdvances, AnsweredEndure, CommitsEndure, TornCommitRuns, TornFormatIsNothing, TornFormatRecovers};
@@ -50,14 +49,6 @@ pub fn codecs_agree()
     ensures directories { DirectoriesAgree }
     ensures tables { TablesAgree }
     ensures sizes { SizesAgree }
-{}
-
-/// A file whose bytes fill its extents may get one more. Its entry then has the descriptors that it had and one more,
-/// and says where the old bytes and the new ones are.
-pub fn appends_are_placed()
-    ensures firsts { FirstsGrow }
-    ensures fits { FullGrow }
-    ensures placed { AppendsArePlaced }
 {}
 
 /// A block imitates a VAT ICB exactly if `vat` says so. Data in blocks, and their clear starts, are those of the plans.

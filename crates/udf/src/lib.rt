@@ -11,7 +11,7 @@
 mod laws;
 
 pub use laws::{
-    appends_are_placed, blocks_are_appended, blocks_are_bytes, codecs_agree, commits_advance, commits_endure,
+    blocks_are_appended, blocks_are_bytes, codecs_agree, commits_advance, commits_endure,
     formats_are_bounded, formats_are_distinct, formats_are_exact, formats_are_short, formats_stand,
     imitation_agrees, new_volumes_are_formats, one_state_stands, one_state_stood,
     planned_blocks_carry, runs_hold, torn_commits_move, torn_formats_stand, torn_images_are_left,
