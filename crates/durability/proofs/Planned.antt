@@ -29,7 +29,7 @@ use Rattle.durability.specs.Step.{FollowsRequest, CarriesOut}
 use Rattle.std.proofs.lemmas.Grind.{div_ceil_times}
 use Rattle.durability.specs.Volume.{Medium, partition_start, IsWithin, extent, bytes_in_blocks, HasTable, NoneImitates, graph_of, RecoversTo}
 use Rattle.durability.proofs.Packed.{length-packed, bytes-packed}
-use Rattle.durability.specs.Plan.{zeros, packed, Writing, Written, WritesNodes, with_entry, with_written, without_all, entries_after, IsPlanned, Plans, turned, PlansAddition, PlansReplacement, PlansAppend, PlansRemoval, PlansRenaming, PlansMove}
+use Rattle.durability.specs.Plan.{zeros, packed, Writing, Written, WritesNodes, with_entry, with_written, without_all, entries_after, IsPlanned, Plans, PlansAddition, PlansReplacement, PlansAppend, PlansRemoval, PlansRenaming, PlansMove}
 use Rattle.durability.proofs.Commits.{keeps, reached_used}
 use Rattle.durability.proofs.Mediums.{within, none-append}
 use Rattle.durability.proofs.Stored.{stored_one}

@@ -1,5 +1,5 @@
 -- What a drive's journal recovers to, at each of its prefixes.
-use Rattle.std.specs.Prelude.{◌≡◌, ℕ, ◌≤◌, List, ◌++◌, length, take}
+use Rattle.std.specs.Prelude.{◌≡◌, ℕ, ◌≤◌, List, length, take}
 use Rattle.drive.specs.Journal.{Event, held, Once}
 use Rattle.model.specs.Session.{State, Request, after}
 use Rattle.durability.specs.Formats.{Formats}

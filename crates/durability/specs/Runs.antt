@@ -1,5 +1,5 @@
 -- Runs of an engine over deliveries: which answer each may get, what it commits, how far it writes, and what is recovered at each prefix.
-use Rattle.std.specs.Prelude.{cond, if◌then◌else◌, nat_lt, ◌==◌, ◌≡◌, ◌⊎◌, ℕ, ◌+◌, ◌<◌, ◌≤◌, Bool, true, false, List, [], ◌∷◌, ◌++◌, length, take, drop, map, Option, Some, None}
+use Rattle.std.specs.Prelude.{if◌then◌else◌, nat_lt, ◌≡◌, ◌⊎◌, ℕ, ◌+◌, ◌<◌, ◌≤◌, Bool, true, false, List, [], ◌∷◌, ◌++◌, length, take, drop, map, Option, Some, None}
 use Rattle.std.specs.Option.{option_to_list}
 use Rattle.std.specs.FinMap.{get}
 use Rattle.limits.specs.declared.TheConstants.{FILE_BYTES}
