@@ -96,7 +96,16 @@ impl PlannedEntry<'_> {
             Place::Extent(first) => {
                 let blocks = u64::from(entry.size).div_ceil(BLOCK_BYTES as u64);
                 let extent = extent(entry.size, first).to_bytes();
-                write_entry(entry, loc, LONG_DESCRIPTORS, blocks, stamp, &[], &extent, block)
+                write_entry(
+                    entry,
+                    loc,
+                    LONG_DESCRIPTORS,
+                    blocks,
+                    stamp,
+                    &[],
+                    &extent,
+                    block,
+                )
             }
             Place::Extents(descriptors) => {
                 let blocks = u64::from(entry.size).div_ceil(BLOCK_BYTES as u64);

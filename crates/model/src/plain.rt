@@ -21,17 +21,30 @@ pub use state::{Refusal, Request, State};
 /// What a client may ask for. A path is the list of its names from the root on; the root's own is empty.
 #[derive(Debug, Drop)]
 pub enum Operation {
-    Create { path: Vec<String>, bytes: Vec<u8> },
-    Replace { path: Vec<String>, bytes: Vec<u8> },
+    Create {
+        path: Vec<String>,
+        bytes: Vec<u8>,
+    },
+    Replace {
+        path: Vec<String>,
+        bytes: Vec<u8>,
+    },
     /// The bytes go after those that the file has, which are `offset`.
     Append {
         path: Vec<String>,
         offset: u64,
         bytes: Vec<u8>,
     },
-    MakeDir { path: Vec<String> },
-    Rename { from: Vec<String>, to: Vec<String> },
-    Remove { path: Vec<String> },
+    MakeDir {
+        path: Vec<String>,
+    },
+    Rename {
+        from: Vec<String>,
+        to: Vec<String>,
+    },
+    Remove {
+        path: Vec<String>,
+    },
 }
 
 impl Operation {
