@@ -1,5 +1,5 @@
 -- The block of a file entry that is made when it is written.
-use Rattle.std.specs.Prelude.{ℕ, List, [], ◌∷◌, ◌++◌, length, Option, Some, None}
+use Rattle.std.specs.Prelude.{ℕ, List, ◌++◌, length, Option, Some, None}
 use Rattle.std.specs.List.{concat}
 use Rattle.ecma.specs.Descriptor.{descriptor_block}
 use Rattle.ecma.specs.Timestamp.{IsMoment}

@@ -2,12 +2,11 @@
 use Rattle.std.proofs.Common.{◌≡◌, ℕ, false, List, [], ◌++◌, Some, refl, sym, ap, ◌∙◌, subst}
 use Rattle.std.proofs.lemmas.Bool.{true≢false}
 use Rattle.std.specs.Prelude.{unwrap_or, Option}
-use Rattle.std.specs.FinMap.{get}
-use Rattle.model.specs.Tree.{bytes_at, found_bytes, bytes_in, Path, Node, Content, Tree, IsTree, has_names, found_directory}
+use Rattle.model.specs.Tree.{bytes_at, found_bytes, bytes_in, Path, Content, Tree, IsTree, has_names, found_directory}
 use Rattle.model.specs.Tree.Content.{File, Directory}
 use Rattle.model.specs.Operation.{file_bytes}
-use Rattle.model.specs.Graph.{Graph, IsFunctional, Body, as_stored}
-use Rattle.model.specs.Graph.Body.{Bytes, Entries}
+use Rattle.model.specs.Graph.{Graph, IsFunctional, as_stored}
+use Rattle.model.specs.Graph.Body.{Bytes}
 use Rattle.model.specs.Change.{Appended, Replaced}
 use Rattle.model.proofs.Maps.{some_at}
 use Rattle.model.proofs.Place.{Placed, stored_at, reach_place}
