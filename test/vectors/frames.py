@@ -7,7 +7,7 @@ from writing import Vectors, digits, shown, told
 OLD = "base_tests::messages::"
 FIRST = "codec_tests::first_faults::"
 
-KINDS = {"create": 1, "replace": 2, "make": 3, "rename": 4, "remove": 5, "get": 16, "list": 17, "stat": 18, "read": 19}
+KINDS = {"create": 1, "replace": 2, "make": 3, "rename": 4, "remove": 5, "append": 6, "get": 16, "list": 17, "stat": 18, "read": 19}
 LIMIT = 4_102_444_800_000_000
 COUNT = 1_048_576
 
@@ -26,6 +26,10 @@ def data(content: bytes) -> bytes:
 
 def read(offset: int, count: int, *names: str) -> bytes:
     return bytes([KINDS["read"]]) + path(*names) + struct.pack("<QI", offset, count)
+
+
+def append(offset: int, piece: bytes, *names: str, client: int = 7, number: int = 2, moment: int = 9) -> bytes:
+    return request("append", client, number, moment, path(*names), struct.pack("<Q", offset), data(piece))
 
 
 def frame(payload: bytes) -> bytes:
@@ -62,6 +66,11 @@ def _kinds(v: Vectors) -> None:
     _payload(v, "rename", of, request("rename", 7, 2, 9, path("d"), path("e", "d")), 'rename client 7 number 2 moment 9 from "d" to "e" "d"')
     _payload(v, "remove-the-root", of, request("remove", 7, 2, 9, path()), "remove client 7 number 2 moment 9 path")
     _payload(v, "create-an-empty-file", of, request("create", 7, 1, 0, path("a"), data(b"")), 'create client 7 number 1 moment 0 path "a" data')
+    of = "docs::PROTOCOL"
+    said = "append client 7 number 2 moment 9"
+    _payload(v, "append", of, append(COUNT, b"hello", "a"), f'{said} offset {COUNT} path "a" data "hello"')
+    _payload(v, "append-one-byte-to-the-root", of, append(0, b"h"), f'{said} offset 0 path data "h"')
+    _payload(v, "append-at-the-last-offset", of, append((1 << 64) - 1, b"h", "d", "b"), f'{said} offset {(1 << 64) - 1} path "d" "b" data "h"')
     of = OLD + "queries"
     _payload(v, "get", of, bytes([16]) + path("a"), 'get path "a"')
     _payload(v, "list", of, bytes([17]) + path(), "list path")
@@ -106,6 +115,20 @@ def _faults(v: Vectors) -> None:
         _payload(v, name, "docs::PROTOCOL", payload, f"malformed {cause}")
     for length in range(1, len(one)):
         _payload(v, f"read-front-of-{length}", "docs::PROTOCOL", one[:length], "malformed 53")
+    one = append(COUNT, b"hello", "a")
+    length = len(one) - 9
+    for name, payload, cause in [
+        ("append-a-byte-behind", one + b"\0", 54), ("append-nothing", append(COUNT, b"", "a"), 54),
+        ("append-nothing-and-a-byte-behind", append(COUNT, b"", "a") + b"h", 54),
+        ("append-above-the-limit", one[:length] + struct.pack("<I", COUNT + 1), 54),
+        ("append-at-the-limit-that-is-missing", one[:length] + struct.pack("<I", COUNT), 53),
+        ("append-the-highest-length", one[:length] + b"\xff" * 4, 54), ("append-a-slash-and-nothing", append(0, b"", "/"), 55),
+        ("append-by-client-0", append(0, b"", "/", client=0), 57), ("append-number-0", append(0, b"", "/", number=0), 58),
+        ("append-at-the-moment-at-its-limit", append(0, b"", "/", moment=LIMIT), 56), ("kind-7", b"\x07" + one[1:], 52),
+    ]:
+        _payload(v, name, "docs::PROTOCOL", payload, f"malformed {cause}")
+    for length in range(1, len(one)):
+        _payload(v, f"append-front-of-{length}", "docs::PROTOCOL", one[:length], "malformed 53")
     v.about("Each prefix of the create ends inside a field or before one (53).")
     for length in range(len(CREATE)):
         _payload(v, f"front-of-{length}", OLD + "shorter_payloads", CREATE[:length], "malformed 53")
@@ -152,6 +175,9 @@ def _streams(v: Vectors) -> None:
     _frames(v, "nothing-behind-no-length", of, one + OVERLONG + one, SAID, "malformed 51", "over")
     _frames(v, "several-frames", OLD + "several_frames_in_one_piece", (one + frame(b"\x09")) * 5, *([SAID, "malformed 52"] * 5))
     queries = frame(bytes([16]) + path("a")) + frame(bytes([17]) + path()) + frame(bytes([18]) + path("a"))
+    appends = frame(append(0, b"hello", "a")) + frame(append(0, b"", "a")) + frame(append(COUNT, b"h", "a", number=3))
+    _frames(v, "appends", "docs::PROTOCOL", appends, 'append client 7 number 2 moment 9 offset 0 path "a" data "hello"', "malformed 54",
+            f'append client 7 number 3 moment 9 offset {COUNT} path "a" data "h"')
     _frames(v, "queries", OLD + "queries", queries, 'get path "a"', "list path", 'stat path "a"')
     _frames(v, "an-empty-payload", OLD + "shorter_payloads", frame(b""), "malformed 53")
     of = OLD + "the_longest_payload"

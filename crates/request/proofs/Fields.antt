@@ -1,7 +1,7 @@
 -- A number that is read is the one that was written, and a number that was written is read again.
-use Rattle.std.proofs.Common.{◌≡◌, ℕ, suc, ◌+◌, ◌^◌, ◌<◌, ◌≤◌, Bool, true, false, cond, ltb, List, ◌∷◌, ◌++◌, length, get_or, take, drop, Result, Ok, Err, refl, sym, ap, ◌∙◌, append_assoc, arith, inl, inr}
+use Rattle.std.proofs.Common.{◌≡◌, ℕ, zero, suc, ◌+◌, ◌^◌, ◌<◌, ◌≤◌, Bool, true, false, cond, eqb, ltb, List, ◌∷◌, ◌++◌, length, get_or, take, drop, Result, Ok, Err, refl, sym, ap, ◌∙◌, append_assoc, arith, inl, inr}
 use Rattle.std.specs.Int.{Width, w16, w32, w64, byte_len, from_le_bytes, to_le_bytes}
-use Rattle.std.proofs.lemmas.Bool.{cases_lt, ltb-false, le-ltb}
+use Rattle.std.proofs.lemmas.Bool.{cases_lt, ltb-false, le-ltb, ne_eqb}
 use Rattle.std.proofs.lemmas.List.{take_at, drop_at, take-append-drop, length-append, length-take, get_or-drop, get_or-take, get_or_past}
 use Rattle.std.proofs.lemmas.Nat.{le_bytes_2, le_bytes_4, le_bytes_8, from_le_bytes-to_le_bytes_2, from_le_bytes-to_le_bytes_4, from_le_bytes-to_le_bytes_8}
 use Rattle.request.specs.declared.message.Cause.{Cause}
@@ -37,6 +37,13 @@ guard_passed false d r y e = (refl, e)
 pub guard_met : {A : Type 0} (b : Bool) (d : Cause) (r : Result A Cause) (y : A) → cond b r (Err d) ≡ Ok y → (b ≡ true) × (r ≡ Ok y)
 guard_met true d r y e = (refl, e)
 guard_met false d r y e = absurd cc
+
+pub above_zero : (n : ℕ) → eqb n 0 ≡ false → 0 < n
+above_zero zero e = absurd cc
+above_zero (suc n) e = omega arith
+
+pub not_zero : (n : ℕ) → 0 < n → eqb n 0 ≡ false
+not_zero n above = ne_eqb n 0 (λ e. absurd (omega (arith, e)))
 
 abbrev done : {A : Type 0} → A → Result A Cause
 done x = Ok x

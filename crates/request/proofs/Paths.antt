@@ -1,5 +1,5 @@
 -- Names, paths and a file's bytes: what is read is what was written, and what was written is read again.
-use Rattle.std.proofs.Common.{◌≡◌, ℕ, zero, suc, ◌^◌, ◌<◌, ◌≤◌, false, cond, ltb, List, [], ◌∷◌, ◌++◌, length, take, drop, Ok, Err, refl, sym, ap, subst, ◌∙◌, append_assoc, arith}
+use Rattle.std.proofs.Common.{◌≡◌, ℕ, zero, suc, ◌^◌, ◌<◌, ◌≤◌, false, cond, eqb, ltb, List, [], ◌∷◌, ◌++◌, length, take, drop, Ok, Err, refl, sym, ap, subst, ◌∙◌, append_assoc, arith}
 use Rattle.std.specs.List.{flat_map}
 use Rattle.std.specs.Int.{w16, w32, to_le_bytes}
 use Rattle.std.proofs.lemmas.Bool.{ltb-false, le-ltb}
@@ -12,9 +12,9 @@ use Rattle.osta.specs.Name.{IsName}
 use Rattle.request.specs.declared.message.Cause.TheVariants as cause
 use Rattle.request.specs.Spelling.{name_field, path_field, data_field}
 use Rattle.request.specs.Path.{IsPath}
-use Rattle.request.specs.Reading.{◌>>=◌, number_at, is_name, tested_name, name_at, names_at, path_at, data_at, count_at}
+use Rattle.request.specs.Reading.{◌>>=◌, number_at, is_name, tested_name, name_at, names_at, path_at, data_at, appended_at, count_at}
 use Rattle.request.proofs.Names.{IsName-from_is_name, passes, short_name}
-use Rattle.request.proofs.Fields.{IsBytes, IsBytes-drop, IsBytes-rest, bind_ok, guard_passed, guard_met, ok_is, Takes, Takes-then, wide16, wide32, number_takes, number_again}
+use Rattle.request.proofs.Fields.{IsBytes, IsBytes-drop, IsBytes-rest, bind_ok, guard_passed, guard_met, above_zero, not_zero, ok_is, Takes, Takes-then, wide16, wide32, number_takes, number_again}
 
 tested_is : (bytes text : List ℕ) → tested_name bytes ≡ Ok text → (bytes ≡ text) × IsName bytes
 unfolding tested_name
@@ -100,6 +100,18 @@ data_again bytes rest few =
     let within : ltb FILE_BYTES (length bytes) ≡ false = le-ltb _ _ few in
     let long : ltb (length (bytes ++ rest)) (length bytes) ≡ false = le-ltb _ _ (omega (arith, length-append bytes rest)) in
     rw (number_again w32 (2 ^ 32) wide32 (length bytes) (bytes ++ rest) (omega arith), within, long, take_at bytes rest (length bytes) refl, drop_at bytes rest (length bytes) refl) refl
+
+pub appended_takes : (bytes : List ℕ) (x : List ℕ × List ℕ) → IsBytes bytes → appended_at bytes ≡ Ok x → Takes bytes (data_field x.0) x.1 × (0 < length x.0) × (length x.0 ≤ FILE_BYTES)
+unfolding appended_at
+appended_takes bytes x fits e =
+    let b = bind_ok (data_at bytes) (λ contents. cond (eqb (length contents.0) 0) (Err cause.Extra) (Ok contents)) x e in
+    let g = guard_passed (eqb (length b.0.0) 0) cause.Extra (Ok b.0) x b.2 in
+    let t = data_takes bytes b.0 fits b.1 in
+    subst (λ (y : List ℕ × List ℕ). Takes bytes (data_field y.0) y.1 × (0 < length y.0) × (length y.0 ≤ FILE_BYTES)) (ok_is b.0 x g.1) (t.0, above_zero (length b.0.0) g.0, t.1)
+
+pub appended_again : (bytes rest : List ℕ) → 0 < length bytes → length bytes ≤ FILE_BYTES → appended_at (data_field bytes ++ rest) ≡ Ok (bytes, rest)
+unfolding appended_at
+appended_again bytes rest some few = rw (data_again bytes rest few, not_zero (length bytes) some) refl
 
 pub count_takes : (bytes : List ℕ) (x : ℕ × List ℕ) → IsBytes bytes → count_at bytes ≡ Ok x → Takes bytes (to_le_bytes w32 x.0) x.1 × (x.0 ≤ FILE_BYTES)
 unfolding count_at

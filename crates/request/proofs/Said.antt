@@ -19,10 +19,10 @@ use Rattle.request.specs.declared.payload.Kind.{Kind}
 use Rattle.request.specs.declared.payload.Kind.TheVariants as kind
 use Rattle.request.specs.Spelling.{Said, path_field, data_field, op_kind, op_fields, query_kind, query_fields, payload_of, IsOp, IsQuery, IsChange, IsMessageInRange}
 use Rattle.request.specs.Spelling.Said.{Changes, Asks}
-use Rattle.request.specs.Reading.{◌>>=◌, number_at, client_at, number_above_zero_at, moment_at, path_at, data_at, count_at, op_at, ended, change_at, query_at, question_at, message_kind, kind_at, fields_at, said_at}
+use Rattle.request.specs.Reading.{◌>>=◌, number_at, client_at, number_above_zero_at, moment_at, path_at, data_at, appended_at, count_at, op_at, ended, change_at, query_at, question_at, message_kind, kind_at, fields_at, said_at}
 use Rattle.request.specs.Payload.{IsSpelled}
-use Rattle.request.proofs.Fields.{IsBytes, IsBytes-rest, bind_ok, guard_passed, guard_met, ok_is, Takes, Takes-then, wide64, number_takes, number_again}
-use Rattle.request.proofs.Paths.{path_takes, path_again, data_takes, data_again, count_takes, count_again}
+use Rattle.request.proofs.Fields.{IsBytes, IsBytes-rest, bind_ok, guard_passed, guard_met, above_zero, not_zero, ok_is, Takes, Takes-then, wide64, number_takes, number_again}
+use Rattle.request.proofs.Paths.{path_takes, path_again, data_takes, data_again, appended_takes, appended_again, count_takes, count_again}
 
 -- ---- numbers in a range
 
@@ -34,19 +34,12 @@ record TakesNumber (bytes : List ℕ) (x : ℕ × List ℕ) : Type 0 where
 taken_number : (bytes : List ℕ) (x : ℕ × List ℕ) → IsBytes bytes → number_at w64 bytes ≡ Ok x → TakesNumber bytes x
 taken_number bytes x fits e = let t = number_takes w64 (2 ^ 64) wide64 bytes x.0 x.1 fits e in record { taken = t.0; fits = t.1 }
 
-above_zero : (n : ℕ) → eqb n 0 ≡ false → 0 < n
-above_zero zero e = absurd cc
-above_zero (suc n) e = omega arith
-
 client_takes : (bytes : List ℕ) (x : ℕ × List ℕ) → IsBytes bytes → client_at bytes ≡ Ok x → TakesNumber bytes x × (0 < x.0)
 unfolding client_at
 client_takes bytes x fits e =
     let b = bind_ok (number_at w64 bytes) (λ n. cond (eqb n.0 0) (Err cause.ClientZero) (Ok n)) x e in
     let g = guard_passed (eqb b.0.0 0) cause.ClientZero (Ok b.0) x b.2 in
     subst (λ (y : ℕ × List ℕ). TakesNumber bytes y × (0 < y.0)) (ok_is b.0 x g.1) (taken_number bytes b.0 fits b.1, above_zero b.0.0 g.0)
-
-not_zero : (n : ℕ) → 0 < n → eqb n 0 ≡ false
-not_zero n above = ne_eqb n 0 (λ e. absurd (omega (arith, e)))
 
 client_again : (n : ℕ) (rest : List ℕ) → n < 2 ^ 64 → 0 < n → client_at (to_le_bytes w64 n ++ rest) ≡ Ok (n, rest)
 unfolding client_at
@@ -79,6 +72,7 @@ moment_again n rest lt = rw (number_again w64 (2 ^ 64) wide64 n rest (omega arit
 change_of : Op → Change
 change_of (op.Create path bytes) = change.Create
 change_of (op.Replace path bytes) = change.Replace
+change_of (op.Append path offset bytes) = change.Append
 change_of (op.MakeDir path) = change.MakeDir
 change_of (op.Rename from to) = change.Rename
 change_of (op.Remove path) = change.Remove
@@ -89,11 +83,13 @@ change_number change.Replace = 2
 change_number change.MakeDir = 3
 change_number change.Rename = 4
 change_number change.Remove = 5
+change_number change.Append = 6
 
 number_of_change : (o : Op) → change_number (change_of o) ≡ op_kind o
 unfolding change_of
 number_of_change (op.Create path bytes) = refl
 number_of_change (op.Replace path bytes) = refl
+number_of_change (op.Append path offset bytes) = refl
 number_of_change (op.MakeDir path) = refl
 number_of_change (op.Rename from to) = refl
 number_of_change (op.Remove path) = refl
@@ -117,6 +113,16 @@ op_takes change.Replace bytes x fits e =
     let path = path_takes bytes a.0 fits a.1 in
     let contents = data_takes a.0.1 b.0 path.0.rest_fits b.1 in
     subst (TakesOp change.Replace bytes) (ok_is (op.Replace a.0.0 b.0.0, b.0.1) x b.2) (record { taken = Takes-then bytes (path_field a.0.0) a.0.1 (data_field b.0.0) b.0.1 path.0 contents.0; in_range = (path.1, contents.1); kind_is = refl })
+op_takes change.Append bytes x fits e =
+    let a = bind_ok (path_at bytes) (λ path. number_at w64 path.1 >>= λ offset. appended_at offset.1 >>= λ contents. Ok (op.Append path.0 offset.0 contents.0, contents.1)) x e in
+    let b = bind_ok (number_at w64 a.0.1) (λ offset. appended_at offset.1 >>= λ contents. Ok (op.Append a.0.0 offset.0 contents.0, contents.1)) x a.2 in
+    let c = bind_ok (appended_at b.0.1) (λ contents. Ok (op.Append a.0.0 b.0.0 contents.0, contents.1)) x b.2 in
+    let path = path_takes bytes a.0 fits a.1 in
+    let offset = number_takes w64 (2 ^ 64) wide64 a.0.1 b.0.0 b.0.1 path.0.rest_fits b.1 in
+    let contents = appended_takes b.0.1 c.0 offset.0.rest_fits c.1 in
+    let later = Takes-then a.0.1 (to_le_bytes w64 b.0.0) b.0.1 (data_field c.0.0) c.0.1 offset.0 contents.0 in
+    let taken = Takes-then bytes (path_field a.0.0) a.0.1 (to_le_bytes w64 b.0.0 ++ data_field c.0.0) c.0.1 path.0 later in
+    subst (TakesOp change.Append bytes) (ok_is (op.Append a.0.0 b.0.0 c.0.0, c.0.1) x c.2) (record { taken = taken; in_range = (path.1, offset.1, contents.1); kind_is = refl })
 op_takes change.MakeDir bytes x fits e =
     let a = bind_ok (path_at bytes) (λ path. Ok (op.MakeDir path.0, path.1)) x e in
     let path = path_takes bytes a.0 fits a.1 in
@@ -138,6 +144,11 @@ op_again (op.Create path bytes) rest good =
     ap (op_at change.Create) (append_assoc (path_field path) (data_field bytes) rest) ∙ rw (path_again path (data_field bytes ++ rest) good.0, data_again bytes rest good.1) refl
 op_again (op.Replace path bytes) rest good =
     ap (op_at change.Replace) (append_assoc (path_field path) (data_field bytes) rest) ∙ rw (path_again path (data_field bytes ++ rest) good.0, data_again bytes rest good.1) refl
+op_again (op.Append path offset bytes) rest good =
+    let parts : op_fields (op.Append path offset bytes) ++ rest ≡ path_field path ++ (to_le_bytes w64 offset ++ (data_field bytes ++ rest)) =
+    append_assoc (path_field path) (to_le_bytes w64 offset ++ data_field bytes) rest ∙ ap (λ (r : List ℕ). path_field path ++ r) (append_assoc (to_le_bytes w64 offset) (data_field bytes) rest) in
+    ap (op_at change.Append) parts
+    ∙ rw (path_again path (to_le_bytes w64 offset ++ (data_field bytes ++ rest)) good.0, number_again w64 (2 ^ 64) wide64 offset (data_field bytes ++ rest) good.1, appended_again bytes rest good.2.0 good.2.1) refl
 op_again (op.MakeDir path) rest good = rw (path_again path rest good) refl
 op_again (op.Rename from to) rest good =
     ap (op_at change.Rename) (append_assoc (path_field from) (path_field to) rest) ∙ rw (path_again from (path_field to ++ rest) good.0, path_again to rest good.1) refl
@@ -290,11 +301,12 @@ kind_is byte found =
     (kind_row byte 3 (kind.Change change.MakeDir) found _ refl
     (kind_row byte 4 (kind.Change change.Rename) found _ refl
     (kind_row byte 5 (kind.Change change.Remove) found _ refl
+    (kind_row byte 6 (kind.Change change.Append) found _ refl
     (kind_row byte 16 (kind.Question question.Get) found _ refl
     (kind_row byte 17 (kind.Question question.List) found _ refl
     (kind_row byte 18 (kind.Question question.Stat) found _ refl
     (kind_row byte 19 (kind.Question question.Read) found _ refl
-    (λ e. absurd cc)))))))))
+    (λ e. absurd cc))))))))))
 
 kind_takes : (payload : List ℕ) (x : Kind × List ℕ) → kind_at payload ≡ Ok x → payload ≡ kind_number x.0 ∷ x.1
 unfolding kind_at
@@ -310,6 +322,7 @@ kind_again (kind.Change change.Replace) bytes = refl
 kind_again (kind.Change change.MakeDir) bytes = refl
 kind_again (kind.Change change.Rename) bytes = refl
 kind_again (kind.Change change.Remove) bytes = refl
+kind_again (kind.Change change.Append) bytes = refl
 kind_again (kind.Question question.Get) bytes = refl
 kind_again (kind.Question question.List) bytes = refl
 kind_again (kind.Question question.Stat) bytes = refl

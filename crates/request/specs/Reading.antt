@@ -84,6 +84,12 @@ data_at bytes = do
   n ← number_at w32 bytes
   if nat_lt FILE_BYTES n.0 then Err cause.Extra else (if nat_lt (length n.1) n.0 then Err cause.Short else Ok (take n.0 n.1, drop n.0 n.1))
 
+-- at least one byte
+unfoldable pub appended_at : List ℕ → Result (List ℕ × List ℕ) Cause
+appended_at bytes = do
+  contents ← data_at bytes
+  if length contents.0 == 0 then Err cause.Extra else Ok contents
+
 unfoldable pub count_at : List ℕ → Result (ℕ × List ℕ) Cause
 count_at bytes = do
   n ← number_at w32 bytes
@@ -98,6 +104,11 @@ op_at change.Replace bytes = do
   path ← path_at bytes
   contents ← data_at path.1
   Ok (op.Replace path.0 contents.0, contents.1)
+op_at change.Append bytes = do
+  path ← path_at bytes
+  offset ← number_at w64 path.1
+  contents ← appended_at offset.1
+  Ok (op.Append path.0 offset.0 contents.0, contents.1)
 op_at change.MakeDir bytes = do
   path ← path_at bytes
   Ok (op.MakeDir path.0, path.1)
@@ -149,11 +160,12 @@ message_kind byte =
     else (if byte == 3 then Ok (kind.Change change.MakeDir)
     else (if byte == 4 then Ok (kind.Change change.Rename)
     else (if byte == 5 then Ok (kind.Change change.Remove)
+    else (if byte == 6 then Ok (kind.Change change.Append)
     else (if byte == 16 then Ok (kind.Question question.Get)
     else (if byte == 17 then Ok (kind.Question question.List)
     else (if byte == 18 then Ok (kind.Question question.Stat)
     else (if byte == 19 then Ok (kind.Question question.Read)
-    else Err cause.Kind))))))))
+    else Err cause.Kind)))))))))
 
 unfoldable pub kind_at : List ℕ → Result (Kind × List ℕ) Cause
 kind_at [] = Err cause.Short

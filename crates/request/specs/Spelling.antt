@@ -5,7 +5,7 @@ use Rattle.std.specs.Int.{w16, w32, w64, to_le_bytes}
 use Rattle.limits.specs.declared.TheConstants.{FILE_BYTES, MOMENT_LIMIT}
 use Rattle.request.specs.Path.{IsPath}
 use Rattle.request.specs.declared.message.Op.{Op}
-use Rattle.request.specs.declared.message.Op.TheVariants.{Create, Replace, MakeDir, Rename, Remove}
+use Rattle.request.specs.declared.message.Op.TheVariants.{Create, Replace, Append, MakeDir, Rename, Remove}
 use Rattle.request.specs.declared.message.Query.{Query}
 use Rattle.request.specs.declared.message.Query.TheVariants as query
 
@@ -32,10 +32,12 @@ op_kind (Replace path bytes) = 2
 op_kind (MakeDir path) = 3
 op_kind (Rename from to) = 4
 op_kind (Remove path) = 5
+op_kind (Append path offset bytes) = 6
 
 abbrev pub op_fields : Op → List ℕ
 op_fields (Create path bytes) = path_field path ++ data_field bytes
 op_fields (Replace path bytes) = path_field path ++ data_field bytes
+op_fields (Append path offset bytes) = path_field path ++ (to_le_bytes w64 offset ++ data_field bytes)
 op_fields (MakeDir path) = path_field path
 op_fields (Rename from to) = path_field from ++ path_field to
 op_fields (Remove path) = path_field path
@@ -61,6 +63,7 @@ payload_of (Asks query) = query_kind query ∷ query_fields query
 abbrev pub IsOp : Op → Type 0
 IsOp (Create path bytes) = IsPath path × (length bytes ≤ FILE_BYTES)
 IsOp (Replace path bytes) = IsPath path × (length bytes ≤ FILE_BYTES)
+IsOp (Append path offset bytes) = IsPath path × (offset < 2 ^ 64) × (0 < length bytes) × (length bytes ≤ FILE_BYTES)
 IsOp (MakeDir path) = IsPath path
 IsOp (Rename from to) = IsPath from × IsPath to
 IsOp (Remove path) = IsPath path

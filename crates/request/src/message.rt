@@ -71,19 +71,70 @@ impl<'a> FileSlice<'a> {
     }
 }
 
+/// The bytes that a request appends to a file, 1 to `limits::FILE_BYTES`, borrowed from its payload.
+#[derive(Debug, Drop)]
+pub struct AppendSlice<'a> {
+    bytes: FileSlice<'a>,
+}
+
+impl<'a> Model for AppendSlice<'a> {
+    ghost Value = { List ℕ };
+
+    ghost view = { λ s. s.bytes };
+
+    ghost invariant = { λ s. 0 < length s.bytes };
+}
+
+impl<'a> AppendSlice<'a> {
+    /// Takes the bytes to append, of which there is at least one.
+    pub fn new(bytes: FileSlice<'a>) -> AppendSlice<'a>
+        requires { 0 < length bytes }
+        ensures { result ≡ bytes }
+    {
+        AppendSlice { bytes }
+    }
+
+    /// The bytes.
+    pub fn as_file_slice(&self) -> &FileSlice<'a>
+        ensures bytes { result.now ≡ self.now }
+        ensures some { 0 < length result.now }
+    {
+        &self.bytes
+    }
+}
+
 /// What a request changes.
 #[derive(Debug, Drop)]
 pub enum Op<'a> {
     /// Makes a file that is not there yet.
-    Create { path: Path, bytes: FileSlice<'a> },
+    Create {
+        path: Path,
+        bytes: FileSlice<'a>,
+    },
     /// Gives a file other bytes.
-    Replace { path: Path, bytes: FileSlice<'a> },
+    Replace {
+        path: Path,
+        bytes: FileSlice<'a>,
+    },
+    /// Adds bytes at the end of a file, which has `offset` bytes before.
+    Append {
+        path: Path,
+        offset: u64,
+        bytes: AppendSlice<'a>,
+    },
     /// Makes an empty directory.
-    MakeDir { path: Path },
+    MakeDir {
+        path: Path,
+    },
     /// Moves a file or a directory, with all that is below it.
-    Rename { from: Path, to: Path },
+    Rename {
+        from: Path,
+        to: Path,
+    },
     /// Removes a file or an empty directory.
-    Remove { path: Path },
+    Remove {
+        path: Path,
+    },
 }
 
 /// A change that a client asks for. A client numbers its requests from 1 on. A request borrows from its payload.
@@ -157,7 +208,8 @@ pub enum Cause {
     Kind,
     /// The payload ends before its last field does.
     Short,
-    /// There are bytes after the last field, or the length of data or the count of bytes is above the limit.
+    /// There are bytes after the last field, the length of data or the count of bytes is above the limit, or nothing is
+    /// appended.
     Extra,
     /// A name is one that no file can have.
     Path,

@@ -4,11 +4,11 @@ ghost use Rattle.std.specs.Prelude.{◌≡◌, ◌≤◌, ◌<◌, List, ℕ, le
 ghost use Rattle.std.specs.Int.{w16, w32, w64};
 ghost use Rattle.request.specs.Spelling.{Said, IsMessageInRange, payload_of};
 ghost use Rattle.request.specs.Spelling.Said.{Asks};
-ghost use Rattle.request.specs.Reading.{Gives, Fails, number_at, client_at, number_above_zero_at, moment_at, tested_name, name_at, names_at, path_at, data_at, count_at, op_at, ended, change_at, query_at, question_at, kind_at, fields_at, said_at};
+ghost use Rattle.request.specs.Reading.{Gives, Fails, number_at, client_at, number_above_zero_at, moment_at, tested_name, name_at, names_at, path_at, data_at, appended_at, count_at, op_at, ended, change_at, query_at, question_at, kind_at, fields_at, said_at};
 ghost use Rattle.request.specs.Payload.{DecodesPayload, IsSpelled, told_by, request_said};
 ghost use Rattle.request.specs.declared.payload.ReadError.TheVariants.{Memory};
 
-use crate::message::{ByteCount, Cause, FileSlice, Message, Op, Query, Request};
+use crate::message::{AppendSlice, ByteCount, Cause, FileSlice, Message, Op, Query, Request};
 use crate::path::Path;
 use limits::{FILE_BYTES, MOMENT_LIMIT};
 use osta::{Name, NameFault};
@@ -42,6 +42,7 @@ impl<T: Drop> From<AllocFailed<T>> for ReadError {
 enum Change {
     Create,
     Replace,
+    Append,
     MakeDir,
     Rename,
     Remove,
@@ -109,6 +110,7 @@ fn kind_of(bytes: &[u8]) -> Result<(Kind, &[u8]), ReadError>
         3 => Kind::Change(Change::MakeDir),
         4 => Kind::Change(Change::Rename),
         5 => Kind::Change(Change::Remove),
+        6 => Kind::Change(Change::Append),
         16 => Kind::Question(Question::Get),
         17 => Kind::Question(Question::List),
         18 => Kind::Question(Question::Stat),
@@ -181,6 +183,18 @@ fn op_of(alloc: Global, change: Change, bytes: &[u8]) -> Result<(Op<'_>, &[u8]),
         Change::Replace => {
             let (bytes, rest) = data_of(rest)?;
             Ok((Op::Replace { path, bytes }, rest))
+        }
+        Change::Append => {
+            let (offset, rest) = u64_of(rest)?;
+            let (bytes, rest) = appended_of(rest)?;
+            Ok((
+                Op::Append {
+                    path,
+                    offset,
+                    bytes,
+                },
+                rest,
+            ))
         }
         Change::MakeDir => Ok((Op::MakeDir { path }, rest)),
         Change::Rename => {
@@ -292,6 +306,17 @@ fn data_of(bytes: &[u8]) -> Result<(FileSlice<'_>, &[u8]), ReadError>
     }
     let (data, rest) = rest.split_at(len);
     Ok((FileSlice::new(data), rest))
+}
+
+#[tactic(auto, unfolding(crate::specs::Reading::appended_at))]
+fn appended_of(bytes: &[u8]) -> Result<(AppendSlice<'_>, &[u8]), ReadError>
+    ensures { Gives (λ x. (x.0, x.1.now)) result (appended_at bytes.now) }
+{
+    let (data, rest) = data_of(bytes)?;
+    if data.as_slice().is_empty() {
+        return Err(ReadError::Malformed(Cause::Extra));
+    }
+    Ok((AppendSlice::new(data), rest))
 }
 
 #[tactic(auto, unfolding(crate::specs::Reading::count_at))]

@@ -53,6 +53,7 @@ fn kind_of(op: &Op<'_>) -> &'static str {
     match op {
         Op::Create { .. } => "create",
         Op::Replace { .. } => "replace",
+        Op::Append { .. } => "append",
         Op::MakeDir { .. } => "make",
         Op::Rename { .. } => "rename",
         Op::Remove { .. } => "remove",
@@ -65,6 +66,17 @@ fn tell_op(op: &Op<'_>, out: &mut String) -> Result<(), Trouble> {
             tell_path("path", path, out)?;
             out.push_str(" data ")?;
             show_bytes(bytes.as_slice(), out)?;
+            Ok(())
+        }
+        Op::Append {
+            path,
+            offset,
+            bytes,
+        } => {
+            write!(out, "offset {offset} ")?;
+            tell_path("path", path, out)?;
+            out.push_str(" data ")?;
+            show_bytes(bytes.as_file_slice().as_slice(), out)?;
             Ok(())
         }
         Op::MakeDir { path } | Op::Remove { path } => tell_path("path", path, out),
