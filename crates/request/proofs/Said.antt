@@ -1,8 +1,8 @@
 -- Whole payloads: what is read is spelled so, and what is spelled so is read.
-use Rattle.std.proofs.Common.{◌≡◌, ℕ, zero, suc, ◌^◌, ◌<◌, Bool, true, false, cond, eqb, ltb, List, [], ◌∷◌, ◌++◌, length, Option, Some, None, Result, Ok, Err, refl, sym, ap, subst, ◌∙◌, append_assoc, arith}
+use Rattle.std.proofs.Common.{◌≡◌, ℕ, ◌^◌, ◌<◌, Bool, true, false, cond, eqb, ltb, List, [], ◌∷◌, ◌++◌, length, Option, Some, None, Result, Ok, Err, refl, sym, ap, subst, ◌∙◌, append_assoc, arith}
 use Rattle.std.specs.Prelude.{IfSome}
 use Rattle.std.specs.Int.{w32, w64, to_le_bytes}
-use Rattle.std.proofs.lemmas.Bool.{eqb-true, ltb-true, lt-ltb, ne_eqb}
+use Rattle.std.proofs.lemmas.Bool.{eqb-true, ltb-true, lt-ltb}
 use Rattle.std.proofs.lemmas.List.{append-nil, nil_from_length}
 use Rattle.limits.specs.declared.TheConstants.{MOMENT_LIMIT}
 use Rattle.request.specs.declared.message.Cause.{Cause}
@@ -122,7 +122,7 @@ op_takes change.Append bytes x fits e =
     let contents = appended_takes b.0.1 c.0 offset.0.rest_fits c.1 in
     let later = Takes-then a.0.1 (to_le_bytes w64 b.0.0) b.0.1 (data_field c.0.0) c.0.1 offset.0 contents.0 in
     let taken = Takes-then bytes (path_field a.0.0) a.0.1 (to_le_bytes w64 b.0.0 ++ data_field c.0.0) c.0.1 path.0 later in
-    subst (TakesOp change.Append bytes) (ok_is (op.Append a.0.0 b.0.0 c.0.0, c.0.1) x c.2) (record { taken = taken; in_range = (path.1, offset.1, contents.1); kind_is = refl })
+    subst (TakesOp change.Append bytes) (ok_is (op.Append a.0.0 b.0.0 c.0.0, c.0.1) x c.2) (record { taken = taken; in_range = (path.1, offset.1, contents.1, contents.2); kind_is = refl })
 op_takes change.MakeDir bytes x fits e =
     let a = bind_ok (path_at bytes) (λ path. Ok (op.MakeDir path.0, path.1)) x e in
     let path = path_takes bytes a.0 fits a.1 in
@@ -148,7 +148,7 @@ op_again (op.Append path offset bytes) rest good =
     let parts : op_fields (op.Append path offset bytes) ++ rest ≡ path_field path ++ (to_le_bytes w64 offset ++ (data_field bytes ++ rest)) =
     append_assoc (path_field path) (to_le_bytes w64 offset ++ data_field bytes) rest ∙ ap (λ (r : List ℕ). path_field path ++ r) (append_assoc (to_le_bytes w64 offset) (data_field bytes) rest) in
     ap (op_at change.Append) parts
-    ∙ rw (path_again path (to_le_bytes w64 offset ++ (data_field bytes ++ rest)) good.0, number_again w64 (2 ^ 64) wide64 offset (data_field bytes ++ rest) good.1, appended_again bytes rest good.2.0 good.2.1) refl
+    ∙ rw (path_again path (to_le_bytes w64 offset ++ (data_field bytes ++ rest)) good.0, number_again w64 (2 ^ 64) wide64 offset (data_field bytes ++ rest) good.1, appended_again bytes rest good.2 good.3) refl
 op_again (op.MakeDir path) rest good = rw (path_again path rest good) refl
 op_again (op.Rename from to) rest good =
     ap (op_at change.Rename) (append_assoc (path_field from) (path_field to) rest) ∙ rw (path_again from (path_field to ++ rest) good.0, path_again to rest good.1) refl

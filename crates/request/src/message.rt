@@ -89,7 +89,7 @@ impl<'a> AppendSlice<'a> {
     /// Takes the bytes to append, of which there is at least one.
     pub fn new(bytes: FileSlice<'a>) -> AppendSlice<'a>
         requires { 0 < length bytes }
-        ensures { result ≡ bytes }
+        ensures { result ≡ bytes.entry }
     {
         AppendSlice { bytes }
     }
