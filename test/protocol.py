@@ -11,21 +11,24 @@ from typing import Dict, Iterable, Iterator, List, NamedTuple, Optional, Sequenc
 BLOCK = 2048
 FRONT = 257
 """Blocks before the partition."""
+PIECE = 1_048_576
+"""Bytes of each piece of a file but the last, and of an answer's data at most."""
+GREATEST_FILE = 117 * PIECE
 MOST_NAMES = 512
 MOST_NODES = 4096
 MOST_DEPTH = 16
 MOST_CLIENTS = 64
 KEPT_REPLIES = 4
 
-CREATE, REPLACE, MAKE_DIRECTORY, RENAME, REMOVE = "create", "replace", "mkdir", "rename", "remove"
-GET, LIST, STAT = "get", "list", "stat"
-KIND_NUMBERS = {CREATE: 1, REPLACE: 2, MAKE_DIRECTORY: 3, RENAME: 4, REMOVE: 5, GET: 16, LIST: 17, STAT: 18}
+CREATE, REPLACE, MAKE_DIRECTORY, RENAME, REMOVE, APPEND = "create", "replace", "mkdir", "rename", "remove", "append"
+GET, LIST, STAT, READ = "get", "list", "stat", "read"
+KIND_NUMBERS = {CREATE: 1, REPLACE: 2, MAKE_DIRECTORY: 3, RENAME: 4, REMOVE: 5, APPEND: 6, GET: 16, LIST: 17, STAT: 18, READ: 19}
 
 # Codes of answers.
 DONE, NO_PARENT, NOT_FOUND, EXISTS, IS_DIRECTORY, NOT_EMPTY, INTO_ITSELF, ROOT, TOO_DEEP, DIRECTORY_FULL, TOO_MANY = range(11)
 STALE, GAP, CLIENTS_FULL, FULL, FAULT, MEMORY, MALFORMED, DAMAGED = range(32, 40)
 DATA, NAMES, NODE = 64, 65, 66
-NO_NODE, A_DIRECTORY, NO_DIRECTORY = 96, 97, 98
+NO_NODE, A_DIRECTORY, NO_DIRECTORY, TOO_LONG = 96, 97, 98, 99
 
 Names = Tuple[str, ...]
 """The names of a path, from the root on. The root has none."""
@@ -45,7 +48,7 @@ def path_of(names: Sequence[str]) -> str:
 
 
 class Request(NamedTuple):
-    """A request to change the tree. `kind` is one of CREATE, REPLACE, MAKE_DIRECTORY, RENAME and REMOVE."""
+    """A request to change the tree. `kind` is one of CREATE, REPLACE, MAKE_DIRECTORY, RENAME, REMOVE and APPEND."""
 
     kind: str
     client: int
@@ -54,6 +57,7 @@ class Request(NamedTuple):
     data: bytes = b""
     to: str = ""
     moment: int = 0
+    offset: int = 0
 
 
 def frame(payload: bytes) -> bytes:
@@ -70,7 +74,9 @@ def encode(request: Request) -> bytes:
     payload = struct.pack("<BQQQ", KIND_NUMBERS[request.kind], request.client, request.number, request.moment) + encode_path(request.path)
     if request.kind == RENAME:
         payload += encode_path(request.to)
-    if request.kind in (CREATE, REPLACE):
+    if request.kind == APPEND:
+        payload += struct.pack("<Q", request.offset)
+    if request.kind in (CREATE, REPLACE, APPEND):
         payload += struct.pack("<I", len(request.data)) + request.data
     return frame(payload)
 
@@ -78,6 +84,11 @@ def encode(request: Request) -> bytes:
 def query(kind: str, path: str) -> bytes:
     """The frame of a query: GET, LIST or STAT."""
     return frame(bytes([KIND_NUMBERS[kind]]) + encode_path(path))
+
+
+def read_query(path: str, offset: int, count: int = PIECE) -> bytes:
+    """The frame of a query for a piece of a file."""
+    return frame(bytes([KIND_NUMBERS[READ]]) + encode_path(path) + struct.pack("<QI", offset, count))
 
 
 def questions(paths: Iterable[str]) -> bytes:
@@ -256,6 +267,8 @@ class Tree:
                 return IS_DIRECTORY
             old.data, old.moment = request.data, request.moment
             return DONE
+        if request.kind == APPEND:
+            return self._append(request, old)
         if isinstance(old, Directory) and old.names:
             return NOT_EMPTY
         del parent.names[path[-1]]
@@ -277,6 +290,16 @@ class Tree:
         parent.names[path[-1]] = File(request.data, request.moment) if request.kind == CREATE else Directory(request.moment)
         parent.moment = request.moment
         self.nodes += 1
+        return DONE
+
+    def _append(self, request: Request, old: Node) -> int:
+        if isinstance(old, Directory):
+            return IS_DIRECTORY
+        if len(old.data) != request.offset or request.offset % PIECE:
+            return EXISTS
+        if request.offset >= GREATEST_FILE:
+            return TOO_MANY
+        old.data, old.moment = old.data + request.data, request.moment
         return DONE
 
     def _rename(self, old: Names, new: Names, moment: int) -> int:
@@ -307,7 +330,15 @@ class Tree:
         node = self.at(names_of(path))
         if node is None:
             return Answer(NO_NODE)
-        return data_answer(node.data) if isinstance(node, File) else Answer(A_DIRECTORY)
+        if isinstance(node, Directory):
+            return Answer(A_DIRECTORY)
+        return data_answer(node.data) if len(node.data) <= PIECE else Answer(TOO_LONG)
+
+    def read(self, path: str, offset: int, count: int = PIECE) -> Answer:
+        node = self.at(names_of(path))
+        if node is None:
+            return Answer(NO_NODE)
+        return data_answer(node.data[offset:offset + count]) if isinstance(node, File) else Answer(A_DIRECTORY)
 
     def list(self, path: str) -> Answer:
         node = self.at(names_of(path))

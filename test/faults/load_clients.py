@@ -142,13 +142,13 @@ class Rude(Serving):
         def rude(daemon: Daemon) -> None:
             with daemon.client() as client:
                 for _ in range(500):
-                    kind = fall.choice([0, 6, 15, 20, 255, 1, 2, 3, 4, 5, 16, 17, 18, 19])
+                    kind = fall.choice([0, 7, 15, 20, 255, 1, 2, 3, 4, 5, 6, 16, 17, 18, 19])
                     # The length of the first name lies above what follows, so that no path is whole.
                     rest = fall.randbytes(24) + b"\x01\xff\xff" if kind < 16 else b"\x05\xff\xff"
                     answer = client.ask(frame(bytes([kind]) + rest + fall.randbytes(fall.randrange(200))))
                     assert answer is not None
                     self.assertEqual(answer.code, MALFORMED)
-                    if kind in (0, 6, 15, 20, 255):
+                    if kind in (0, 7, 15, 20, 255):
                         self.assertEqual(answer.rest, struct.pack("<H", 52))
                     else:
                         self.assertIn(int.from_bytes(answer.rest, "little"), (53, 56, 57, 58))

@@ -33,7 +33,7 @@ fn cause_in(alloc: Global, payload: &[u8]) -> Option<u16> {
 fn cause_wanted(payload: &[u8]) -> u16 {
     match payload {
         [16..=18, 0] => 0,
-        [1..=5 | 16..=19, ..] => 53,
+        [1..=6 | 16..=19, ..] => 53,
         _ => 52,
     }
 }
