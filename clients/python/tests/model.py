@@ -5,7 +5,7 @@ from __future__ import annotations
 from typing import Dict, List, Optional, Tuple
 
 from udfburn.protocol import (
-    CLIENTS_FULL, IS_DIRECTORY, NOT_DIRECTORY, NOT_FOUND, TOO_LONG, Answer, Code, Committed, Create, Data, Fault, Gap, Get, List as ListQuery,
+    CLIENTS_FULL, IS_DIRECTORY, NOT_DIRECTORY, NOT_FOUND, TOO_LONG, Answer, Append, Code, Committed, Create, Data, Fault, Gap, Get, List as ListQuery,
     MakeDir, Malformed, Message, Name, Names, Node, NodeKind, Path, Read, Remove, Rename, Replace, Request, Stale, decode_message, limits,
 )
 
@@ -60,6 +60,8 @@ class Volume:
             if code is Code.DONE:
                 self.enter(message.path, File(message.data, message.moment) if isinstance(message, Create) else Directory(message.moment), message.moment)
             return code
+        if isinstance(message, Append):
+            return self.append(message)
         if isinstance(message, Replace):
             code = self.found(message.path)
             if code is Code.DONE and isinstance(self.nodes[message.path], Directory):
@@ -71,6 +73,20 @@ class Volume:
             return self.remove(message)
         assert isinstance(message, Rename)
         return self.rename(message)
+
+    def append(self, message: Append) -> Code:
+        code = self.found(message.path)
+        if code is not Code.DONE:
+            return code
+        node = self.nodes[message.path]
+        if not isinstance(node, File):
+            return Code.IS_DIRECTORY
+        if message.offset != len(node.data) or message.offset % limits.FILE:
+            return Code.EXISTS
+        if message.offset >= limits.GREATEST_FILE:
+            return Code.TOO_MANY
+        self.nodes[message.path] = File(node.data + message.data, message.moment)
+        return Code.DONE
 
     def found(self, path: Path) -> Code:
         if not path:

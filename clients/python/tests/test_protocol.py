@@ -210,7 +210,7 @@ class Values(unittest.TestCase):
         self.assertEqual(create, p.Create(client=1, number=2, moment=3, path=("a",), data=b"x"))
         others = [
             p.Replace(1, 2, 3, ("a",), b"x"), p.Create(9, 2, 3, ("a",), b"x"), p.Create(1, 9, 3, ("a",), b"x"), p.Create(1, 2, 9, ("a",), b"x"),
-            p.Create(1, 2, 3, ("b",), b"x"), p.Create(1, 2, 3, ("a",), b"y"), p.Get(("a",)), None, (1, 2, 3, ("a",), b"x"),
+            p.Create(1, 2, 3, ("b",), b"x"), p.Create(1, 2, 3, ("a",), b"y"), p.Append(1, 2, 3, ("a",), 0, b"x"), p.Get(("a",)), None, (1, 2, 3, ("a",), b"x"),
         ]
         self.assertTrue(all(create != other for other in others))
         self.assertNotEqual(p.Stale(5), p.Gap(5))
@@ -243,7 +243,8 @@ def random_message(chance: random.Random) -> p.Message:
     path, data = random_path(chance), chance.randbytes(chance.choice((0, 1, 5, 5000)))
     messages: List[p.Message] = [
         p.Create(*numbers, path, data), p.Replace(*numbers, path, data), p.MakeDir(*numbers, path), p.Rename(*numbers, path, random_path(chance)),
-        p.Remove(*numbers, path), p.Get(path), p.List(path), p.Stat(path),
+        p.Append(*numbers, path, chance.choice((0, p.limits.FILE, p.limits.U64)), data or b"x"),
+        p.Remove(*numbers, path), p.Get(path), p.List(path), p.Stat(path), p.Read(path, chance.choice((0, p.limits.U64)), chance.randrange(p.limits.FILE + 1)),
     ]
     return chance.choice(messages)
 

@@ -17,7 +17,7 @@ BARE: Dict[str, p.Bare] = {
     "too-long": p.TOO_LONG,
 }
 QUERIES = {p.Get: "get", p.List: "list", p.Stat: "stat"}
-REQUESTS = {p.Create: "create", p.Replace: "replace", p.MakeDir: "make", p.Rename: "rename", p.Remove: "remove"}
+REQUESTS = {p.Create: "create", p.Replace: "replace", p.Append: "append", p.MakeDir: "make", p.Rename: "rename", p.Remove: "remove"}
 
 
 def names(path: p.Path) -> List[str]:
@@ -33,8 +33,10 @@ def said(message: p.Message) -> List[str]:
     words = [REQUESTS[type(message)], "client", str(message.client), "number", str(message.number), "moment", str(message.moment)]
     if isinstance(message, p.Rename):
         return words + ["from", *names(message.path), "to", *names(message.to)]
+    if isinstance(message, p.Append):
+        words += ["offset", str(message.offset)]
     words += ["path", *names(message.path)]
-    return words + ["data", *shown(message.data)] if isinstance(message, (p.Create, p.Replace)) else words
+    return words + ["data", *shown(message.data)] if isinstance(message, (p.Create, p.Replace, p.Append)) else words
 
 
 def told(payload: bytes) -> List[str]:

@@ -13,7 +13,7 @@ from .answers import (
 )
 from .frames import LENGTH, Frames, frame, prefix
 from .messages import (
-    AnyRequest, Cause, Create, Fault, Get, Kind, List, MakeDir, Message, Query, Read, Remove, Rename, Replace, Request, Stat,
+    AnyRequest, Append, Cause, Create, Fault, Get, Kind, List, MakeDir, Message, Query, Read, Remove, Rename, Replace, Request, Stat,
     decode_message, encode_message,
 )
 from .names import (
@@ -21,7 +21,7 @@ from .names import (
 )
 
 __all__ = [
-    "Answer", "AnswerCode", "AnyRequest", "BARE", "BadAnswer", "Bare", "CLIENTS_FULL", "Cause", "Code", "Committed",
+    "Answer", "AnswerCode", "AnyRequest", "Append", "BARE", "BadAnswer", "Bare", "CLIENTS_FULL", "Cause", "Code", "Committed",
     "Create", "DAMAGED", "Data", "FAULT", "FULL", "Fault", "Frames", "Gap", "Get", "IS_DIRECTORY", "InvalidName",
     "InvalidPath", "Kind", "LENGTH", "List", "MEMORY", "MakeDir", "Malformed", "Message", "NOT_DIRECTORY",
     "NOT_FOUND", "Name", "NameFault", "Names", "Node", "NodeKind", "Path", "PathLike", "Query", "Read", "Remove", "Rename",

@@ -21,6 +21,7 @@ class Kind(IntEnum):
     MAKE_DIR = 3
     RENAME = 4
     REMOVE = 5
+    APPEND = 6
     GET = 16
     LIST = 17
     STAT = 18
@@ -86,6 +87,17 @@ class Replace(Writing):
 
     kind = Kind.REPLACE
     __slots__ = ()
+
+
+class Append(Writing):
+    """A piece at the end of a file, which has `offset` bytes before: 1 byte to a mebibyte."""
+
+    kind = Kind.APPEND
+    __slots__ = ("offset",)
+
+    def __init__(self, client: int, number: int, moment: int, path: Path, offset: int, data: bytes):
+        super().__init__(client, number, moment, path, data)
+        self.offset = offset
 
 
 class MakeDir(Request):
@@ -157,11 +169,12 @@ class Read(Question):
 
 
 Query = Union[Get, List, Stat, Read]
-AnyRequest = Union[Create, Replace, MakeDir, Rename, Remove]
+AnyRequest = Union[Create, Replace, Append, MakeDir, Rename, Remove]
 Message = Union[AnyRequest, Query]
 
 REQUESTS: Dict[int, Type[AnyRequest]] = {
     Kind.CREATE: Create, Kind.REPLACE: Replace, Kind.MAKE_DIR: MakeDir, Kind.RENAME: Rename, Kind.REMOVE: Remove,
+    Kind.APPEND: Append,
 }
 QUERIES: Dict[int, Type[Query]] = {Kind.GET: Get, Kind.LIST: List, Kind.STAT: Stat, Kind.READ: Read}
 
@@ -202,6 +215,8 @@ def encode_message(message: Message) -> bytes:
     path = encode_path(message.path)
     if isinstance(message, (Create, Replace)):
         return b"".join((head, path, SIZE.pack(len(message.data)), message.data))
+    if isinstance(message, Append):
+        return b"".join((head, path, PIECE.pack(message.offset, len(message.data)), message.data))
     if isinstance(message, Rename):
         return head + path + encode_path(message.to)
     return head + path
@@ -215,7 +230,9 @@ def check_request(message: Request) -> None:
         raise Fault(Cause.NUMBER_ZERO)
     if not 0 <= message.moment < limits.MOMENT:
         raise Fault(Cause.MOMENT)
-    if isinstance(message, (Create, Replace)) and len(message.data) > limits.FILE:
+    if isinstance(message, Writing) and len(message.data) > limits.FILE:
+        raise Fault(Cause.EXTRA)
+    if isinstance(message, Append) and (not message.data or not 0 <= message.offset <= limits.U64):
         raise Fault(Cause.EXTRA)
 
 
@@ -271,6 +288,11 @@ def decode_request(kind: Type[AnyRequest], fields: Fields) -> AnyRequest:
         said["to"] = decode_path(fields)
     elif kind in (Create, Replace):
         said["data"] = decode_data(fields)
+    elif kind is Append:
+        said["offset"] = fields.number(8)
+        said["data"] = decode_data(fields)
+        if not said["data"]:
+            raise Fault(Cause.EXTRA)
     return kind(**said)
 
 
