@@ -4,7 +4,7 @@ ghost use Rattle.std.specs.Prelude.{ℕ};
 ghost use Rattle.model.specs.PlainState.{IsWholeState};
 
 use crate::answers::node_text;
-use crate::changes::{Asked, Change, plain_request, query};
+use crate::changes::{Asked, Change, piece_query, plain_request, query};
 use crate::die::Die;
 use crate::machine::Machine;
 use crate::tearing::LastCommit;
@@ -19,6 +19,9 @@ use words::show_bytes;
 
 /// The trouble with a step that needs a request.
 const NOTHING_SENT: Trouble = Trouble::Line("nothing was sent");
+
+/// The bytes of a file that an answer has at most.
+const PIECE: usize = 1_048_576;
 
 /// The plain program.
 #[derive(Drop)]
@@ -73,6 +76,7 @@ impl Plain {
         let mut all = Vec::new(alloc);
         for entry in &self.state.nodes {
             all.push(self.content(alloc, entry)?)?;
+            put_pieces(alloc, entry, &mut all)?;
             all.push(node(alloc, entry)?)?;
         }
         Ok(all)
@@ -82,6 +86,10 @@ impl Plain {
     fn content(&self, alloc: Global, entry: &Entry) -> Result<Expected, Trouble> {
         let mut text = String::new(alloc);
         let asked = match &entry.node.content {
+            Content::File(bytes) if bytes.len() > PIECE => {
+                text.push_str("too long")?;
+                Asked::Data
+            }
             Content::File(bytes) => {
                 show_bytes(bytes, &mut text)?;
                 Asked::Data
@@ -126,6 +134,25 @@ impl Plain {
 /// Appends the answer to a request that was committed.
 fn put_reply(reply: Reply, out: &mut String) -> Result<(), Trouble> {
     write!(out, "code {} commit {}", reply.code as u8, reply.commit)?;
+    Ok(())
+}
+
+/// Appends what is reported of each piece of a file that has more than one.
+fn put_pieces(alloc: Global, entry: &Entry, all: &mut Vec<Expected>) -> Result<(), Trouble> {
+    let Content::File(bytes) = &entry.node.content else {
+        return Ok(());
+    };
+    if bytes.len() <= PIECE {
+        return Ok(());
+    }
+    let mut offset = 0u64;
+    for piece in bytes.chunks(PIECE) {
+        let mut text = String::new(alloc);
+        show_bytes(piece, &mut text)?;
+        let payload = piece_query(alloc, &entry.path, offset, PIECE as u32)?;
+        all.push(Expected { payload, text })?;
+        offset = offset.saturating_add(PIECE as u64);
+    }
     Ok(())
 }
 

@@ -18,6 +18,7 @@ pub enum Action {
     Make = 3,
     Rename = 4,
     Remove = 5,
+    Append = 6,
 }
 
 /// A request.
@@ -30,7 +31,9 @@ pub struct Change {
     pub path: Vec<String>,
     /// The new path, for a rename only.
     pub to: Vec<String>,
-    /// The bytes, for a create or a replace only.
+    /// How many bytes the file has before, for an append only.
+    pub offset: u64,
+    /// The bytes, for a create, a replace or an append only.
     pub bytes: Vec<u8>,
 }
 
@@ -46,6 +49,10 @@ impl Change {
         put_path(&self.path, &mut payload)?;
         match self.action {
             Action::Create | Action::Replace => put_bytes(&self.bytes, &mut payload)?,
+            Action::Append => {
+                payload.extend_from_slice(&self.offset.to_le_bytes())?;
+                put_bytes(&self.bytes, &mut payload)?;
+            }
             Action::Rename => put_path(&self.to, &mut payload)?,
             Action::Make | Action::Remove => {}
         }
@@ -61,11 +68,17 @@ impl Change {
             moment,
             path,
             to,
+            offset,
             bytes,
         } = self;
         let operation = match action {
             Action::Create => Operation::Create { path, bytes },
             Action::Replace => Operation::Replace { path, bytes },
+            Action::Append => Operation::Append {
+                path,
+                offset,
+                bytes,
+            },
             Action::Make => Operation::MakeDir { path },
             Action::Rename => Operation::Rename { from: path, to },
             Action::Remove => Operation::Remove { path },
@@ -94,9 +107,9 @@ pub fn plain_request(alloc: Global, payload: &[u8]) -> Result<Request, Trouble> 
 
 fn plain_operation(alloc: Global, op: &Op<'_>) -> Result<Operation, Trouble> {
     let path = match op {
-        Op::Create { path, .. } | Op::Replace { path, .. } | Op::MakeDir { path } => path,
+        Op::Create { path, .. } | Op::Replace { path, .. } | Op::Append { path, .. } => path,
         Op::Rename { from, .. } => from,
-        Op::Remove { path } => path,
+        Op::MakeDir { path } | Op::Remove { path } => path,
     };
     let path = names_of(alloc, path)?;
     Ok(match op {
@@ -107,6 +120,11 @@ fn plain_operation(alloc: Global, op: &Op<'_>) -> Result<Operation, Trouble> {
         Op::Replace { bytes, .. } => Operation::Replace {
             path,
             bytes: bytes.as_slice().to_vec(alloc)?,
+        },
+        Op::Append { offset, bytes, .. } => Operation::Append {
+            path,
+            offset: *offset,
+            bytes: bytes.as_file_slice().as_slice().to_vec(alloc)?,
         },
         Op::MakeDir { .. } => Operation::MakeDir { path },
         Op::Rename { to, .. } => Operation::Rename {
@@ -162,20 +180,23 @@ fn put_name(name: &str, payload: &mut Vec<u8>) -> Result<(), Trouble> {
 enum Sort {
     Request(Action),
     Query(Asked),
+    Read,
     /// One that is written out.
     Payload,
 }
 
 /// The messages by their names.
-const MESSAGES: [(&str, Sort); 9] = [
+const MESSAGES: [(&str, Sort); 11] = [
     ("create", Sort::Request(Action::Create)),
     ("replace", Sort::Request(Action::Replace)),
     ("make", Sort::Request(Action::Make)),
     ("rename", Sort::Request(Action::Rename)),
     ("remove", Sort::Request(Action::Remove)),
+    ("append", Sort::Request(Action::Append)),
     ("get", Sort::Query(Asked::Data)),
     ("list", Sort::Query(Asked::Names)),
     ("stat", Sort::Query(Asked::Node)),
+    ("read", Sort::Read),
     ("payload", Sort::Payload),
 ];
 
@@ -193,6 +214,7 @@ pub fn read_message(name: &str, words: &[&str], payload: &mut Vec<u8>) -> Result
     let read = match sort_of(name) {
         Some(Sort::Request(action)) => read_request(action, words, payload),
         Some(Sort::Query(asked)) => read_query(asked, words, payload),
+        Some(Sort::Read) => read_read(words, payload),
         Some(Sort::Payload) => read_bytes(words, payload),
         None => return Ok(false),
     };
@@ -200,7 +222,7 @@ pub fn read_message(name: &str, words: &[&str], payload: &mut Vec<u8>) -> Result
     Ok(true)
 }
 
-/// `CLIENT[@MOMENT] NUMBER PATH`, and after them `PATH` or the bytes.
+/// `CLIENT[@MOMENT] NUMBER PATH`, and after them `PATH`, the bytes, or the offset and the bytes.
 fn read_request(action: Action, words: &[&str], payload: &mut Vec<u8>) -> Result<(), Trouble> {
     let [client, order, path, rest @ ..] = words else {
         return Err(NO_REQUEST);
@@ -214,14 +236,17 @@ fn read_request(action: Action, words: &[&str], payload: &mut Vec<u8>) -> Result
     read_rest(action, rest, payload)
 }
 
-/// The new path of a rename, or the bytes of a create and a replace.
+/// The new path of a rename, the bytes of a create and a replace, or the offset and the bytes of an append.
 fn read_rest(action: Action, words: &[&str], payload: &mut Vec<u8>) -> Result<(), Trouble> {
     match action {
-        Action::Create | Action::Replace => {
-            let mut bytes = Vec::new(*payload.allocator());
-            read_bytes(words, &mut bytes)?;
-            put_bytes(&bytes, payload)
-        }
+        Action::Create | Action::Replace => read_data(words, payload),
+        Action::Append => match words {
+            [offset, bytes @ ..] => {
+                payload.extend_from_slice(&number::<u64>(offset)?.to_le_bytes())?;
+                read_data(bytes, payload)
+            }
+            [] => Err(NO_REQUEST),
+        },
         Action::Rename => match words {
             [path] => read_path(path, payload),
             _ => Err(NO_REQUEST),
@@ -231,12 +256,36 @@ fn read_rest(action: Action, words: &[&str], payload: &mut Vec<u8>) -> Result<()
     }
 }
 
+/// A file's bytes.
+fn read_data(words: &[&str], payload: &mut Vec<u8>) -> Result<(), Trouble> {
+    let mut bytes = Vec::new(*payload.allocator());
+    read_bytes(words, &mut bytes)?;
+    put_bytes(&bytes, payload)
+}
+
 fn read_query(asked: Asked, words: &[&str], payload: &mut Vec<u8>) -> Result<(), Trouble> {
     let [path] = words else {
         return Err(Trouble::Line("no query"));
     };
     payload.push(asked as u8)?;
     read_path(path, payload)
+}
+
+/// `PATH OFFSET COUNT`.
+fn read_read(words: &[&str], payload: &mut Vec<u8>) -> Result<(), Trouble> {
+    let [path, offset, count] = words else {
+        return Err(Trouble::Line("no query"));
+    };
+    payload.push(READ)?;
+    read_path(path, payload)?;
+    put_span(number(offset)?, number(count)?, payload)
+}
+
+/// Appends the offset and the count of a read.
+fn put_span(offset: u64, count: u32, payload: &mut Vec<u8>) -> Result<(), Trouble> {
+    payload.extend_from_slice(&offset.to_le_bytes())?;
+    payload.extend_from_slice(&count.to_le_bytes())?;
+    Ok(())
 }
 
 /// The count of the names of a path after the root's `/`, and the names. `n*16` is sixteen names `n`.
@@ -273,6 +322,23 @@ pub enum Asked {
     Data = 16,
     Names = 17,
     Node = 18,
+}
+
+/// The kind of the query for a piece of a file.
+const READ: u8 = 19;
+
+/// The payload of a query for a piece of a file.
+pub fn piece_query(
+    alloc: Global,
+    path: &[String],
+    offset: u64,
+    count: u32,
+) -> Result<Vec<u8>, Trouble> {
+    let mut payload = Vec::new(alloc);
+    payload.push(READ)?;
+    put_path(path, &mut payload)?;
+    put_span(offset, count, &mut payload)?;
+    Ok(payload)
 }
 
 /// The payload of a query.

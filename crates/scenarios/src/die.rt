@@ -53,13 +53,18 @@ impl Die {
         let path = self.path(alloc)?;
         let to = self.path(alloc)?;
         let byte = self.roll(200);
-        let size = if self.roll(4) == 0 { 2_500 } else { 5 };
-        let action = match self.roll(6) {
-            0 | 1 => Action::Create,
-            2 => Action::Replace,
-            3 => Action::Make,
-            4 => Action::Rename,
-            _ => Action::Remove,
+        let size = match self.roll(5) {
+            0 => 2_500,
+            1 => 0,
+            _ => 5,
+        };
+        let (action, size) = match self.roll(7) {
+            0 | 1 => (Action::Create, size),
+            2 => (Action::Replace, size),
+            3 => (Action::Make, 0),
+            4 => (Action::Rename, 0),
+            5 => (Action::Append, size.max(1)),
+            _ => (Action::Remove, 0),
         };
         Ok(Change {
             action,
@@ -68,6 +73,7 @@ impl Die {
             moment: u64::from(self.roll(250)),
             path,
             to,
+            offset: if self.roll(8) == 0 { 1_048_576 } else { 0 },
             bytes: vec![in alloc; byte; size]?,
         })
     }
