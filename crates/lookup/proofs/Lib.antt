@@ -1,5 +1,6 @@
 pub mod Asking
 pub mod Caches
+pub mod Ending
 pub mod FileBytes
 pub mod FileSizes
 pub mod Finding

@@ -11,7 +11,7 @@ use Rattle.request.specs.declared.answer.NodeStatus.{NodeStatus}
 use Rattle.request.specs.declared.answer.NodeKind.TheVariants as kind
 use Rattle.model.specs.Tree.{Name}
 use Rattle.model.specs.Operation.{Operation}
-use Rattle.model.specs.Operation.Operation.{Create, Replace, MakeDir, Rename, Remove}
+use Rattle.model.specs.Operation.Operation.{Create, Replace, Append, MakeDir, Rename, Remove}
 use Rattle.model.specs.Session.{Request}
 use Rattle.durability.specs.Runs.{Query}
 use Rattle.durability.specs.Runs.Query.{Get, List_, Stat, Read}
@@ -20,6 +20,7 @@ use Rattle.durability.specs.Runs as runs
 abbrev pub model_operation : Op → Operation
 model_operation (asked.Create path bytes) = Create path bytes
 model_operation (asked.Replace path bytes) = Replace path bytes
+model_operation (asked.Append path offset bytes) = Append path offset bytes
 model_operation (asked.MakeDir path) = MakeDir path
 model_operation (asked.Rename from to) = Rename from to
 model_operation (asked.Remove path) = Remove path

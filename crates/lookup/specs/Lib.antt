@@ -1,6 +1,8 @@
 pub mod Asked
 pub mod Cache
+pub mod Ends
 pub mod Entries
+pub mod Extents
 pub mod Heights
 pub mod Lookups
 pub mod Queries

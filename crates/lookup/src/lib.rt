@@ -16,6 +16,8 @@
 
 mod cache;
 mod content;
+mod end;
+mod extents;
 mod lookup;
 mod nodes;
 mod queries;
@@ -23,5 +25,7 @@ mod walk;
 
 pub use cache::DirectoryCache;
 pub use content::Content;
+pub use end::FileEnd;
+pub use extents::FullExtents;
 pub use lookup::Lookup;
 pub use nodes::{EntryAt, Nodes, Placed};

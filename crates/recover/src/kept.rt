@@ -89,7 +89,7 @@ impl NodeEntry {
 }
 
 /// The extent that ends last, of those of a file of this size.
-fn last_extent(size: u32, descriptors: &[u8]) -> Option<Extent>
+pub fn last_extent(size: u32, descriptors: &[u8]) -> Option<Extent>
     requires limit { size ≤ GREATEST_FILE }
     requires long { length descriptors.now ≡ 16 * icb.extent_count size }
     ensures { result ≡ last_of None size (udf.firsts descriptors.now) }

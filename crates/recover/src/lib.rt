@@ -32,6 +32,7 @@ mod walk;
 
 pub use directory::{Extent, read_directory};
 pub use fault::{StoreFault, damaged};
+pub use kept::last_extent;
 pub use laws::last_state_stands;
 pub use node::{Node, ROOT};
 pub use read_cache::ReadCache;

@@ -1,0 +1,18 @@
+-- Where a file ends, for bytes that are appended to it.
+use Rattle.std.specs.Prelude.{◌≡◌, ℕ, ◌%◌, ◌≤◌, List, length}
+use Rattle.limits.specs.declared.TheConstants.{FILE_BYTES, GREATEST_FILE}
+use Rattle.durability.specs.Volume.{AreWithin, bytes_in_extents}
+use Rattle.udf.specs.Udf.{udf}
+use Rattle.lookup.specs.Extents.{full_size}
+use Rattle.lookup.specs.declared.end.FileEnd.{FileEnd}
+
+-- if the file's bytes fill its extents, these are known
+pub record KnowsExtents (end : FileEnd) : Type 0 where
+  pub limit : end.size ≤ GREATEST_FILE
+  pub full : end.size % FILE_BYTES ≡ 0 → full_size end.extents ≡ end.size
+
+-- the file has so many bytes; if they fill its extents, these hold them
+pub record EndsFile (medium : List (List ℕ)) (whole : List ℕ) (end : FileEnd) : Type 0 where
+  pub size : end.size ≡ length whole
+  pub within : end.size % FILE_BYTES ≡ 0 → AreWithin medium end.size (udf.firsts end.extents)
+  pub bytes : end.size % FILE_BYTES ≡ 0 → whole ≡ bytes_in_extents medium end.size (udf.firsts end.extents)
