@@ -1,6 +1,6 @@
 -- What putting a file or a directory at a new path does.
 use Rattle.std.proofs.Common.{◌≡◌, ◌<◌, ◌≤◌, ℕ, ◌==◌, if◌then◌else◌, not, Bool, true, false, List, [], ◌∷◌, ◌++◌, length, map, Option, Some, None, is_some, append_assoc, refl, sym, ap, subst, ◌∙◌, arith}
-use Rattle.std.specs.Prelude.{nat_eq, nat_lt}
+use Rattle.std.specs.Prelude.{IfSome, nat_eq, nat_lt}
 use Rattle.std.specs.Map.{lookup}
 use Rattle.std.specs.FinMap.{contains_key, len}
 use Rattle.std.specs.Cmp.Lexicographic.{pointwise}
@@ -14,6 +14,7 @@ use Rattle.model.specs.Graph.Body.{Entries}
 use Rattle.model.specs.Change.{with_entries, new_body}
 use Rattle.model.specs.Operation.{code_of}
 use Rattle.model.proofs.Paths.{parent-push, last-push}
+use Rattle.durability.specs.Volume.{Medium}
 use Rattle.durability.specs.Plan.{Writing, Plans, PlansAddition}
 use Rattle.request.specs.Numbers.{code_number}
 use Rattle.request.specs.declared.answer.Code.TheVariants as code
@@ -21,13 +22,14 @@ use Rattle.dir.specs.declared.entry.Entry.{Entry as DirEntry}
 use Rattle.udf.specs.Said.{said_entry, said_entries, names_directory}
 use Rattle.planning.specs.declared.change.Change.{Change}
 use Rattle.planning.specs.declared.change.NewDirectory.{NewDirectory}
+use Rattle.planning.specs.declared.file.NewFile.{NewFile}
 use Rattle.planning.specs.declared.change.NewContent.{NewContent}
 use Rattle.planning.specs.declared.change.NewContent.TheVariants as thing
 use Rattle.lookup.specs.declared.content.Content.{Content}
 use Rattle.recover.specs.declared.node.Node.{Node}
 use Rattle.lookup.specs.declared.nodes.Placed.{Placed}
 use Rattle.lookup.specs.Shows.{IsNodeAt, MatchesStored}
-use Rattle.planning.specs.Writings.{directory_writing, new_file, change_writings}
+use Rattle.planning.specs.Writings.{AreKeptOn, directory_writing, new_file, change_writings}
 use Rattle.table_update.specs.NextTable.{made_by, RemovesNode}
 use Rattle.planning.specs.Changes.{addition, content_of_thing, code_by_names, addresses_in, gone_of, IsChangeOf}
 use Rattle.lookup.proofs.Walks.{node_at, names_stored, directory_stored, said_names, step_some, step_none}
@@ -114,11 +116,11 @@ put_last name content entry none = insert_entry-new (pointwise nat_eq) content.d
 -- ---- what is written
 
 -- one more directory
-pub written_more : (moment : ℕ) (before after : Change) (d : NewDirectory) → after.file ≡ before.file → after.directories.items ≡ before.directories.items ++ d ∷ [] → change_writings moment after ≡ change_writings moment before ++ directory_writing d ∷ []
-written_more moment before after d file items =
-    (λ i. new_file moment (file i) ++ map directory_writing (items i))
-    ∙ (ap (λ (ws : List Writing). new_file moment before.file ++ ws) (map-append directory_writing before.directories.items (d ∷ []))
-    ∙ sym (append_assoc (new_file moment before.file) (map directory_writing before.directories.items) (directory_writing d ∷ [])))
+pub written_more : (medium : Medium) (moment : ℕ) (before after : Change) (d : NewDirectory) → after.file ≡ before.file → after.directories.items ≡ before.directories.items ++ d ∷ [] → change_writings medium moment after ≡ change_writings medium moment before ++ directory_writing d ∷ []
+written_more medium moment before after d file items =
+    (λ i. new_file medium moment (file i) ++ map directory_writing (items i))
+    ∙ (ap (λ (ws : List Writing). new_file medium moment before.file ++ ws) (map-append directory_writing before.directories.items (d ∷ []))
+    ∙ sym (append_assoc (new_file medium moment before.file) (map directory_writing before.directories.items) (directory_writing d ∷ [])))
 
 plans : (graph : Graph) (free : ℕ) (path : Path) (what : NewContent) (moment identity : ℕ) (nodes : List Writing) (gone : List ℕ) → PlansAddition graph free path (content_of_thing what) moment identity nodes → gone ≡ [] → Plans graph free (addition path what) moment identity nodes gone
 plans graph free path (thing.File bytes) moment identity nodes gone p none = (p, none)
@@ -131,36 +133,36 @@ takes_none path thing.Directory tree gone taken none = none
 -- the directory above with one entry more
 pub listed : (above : Path) (name : Name) (graph : Graph) (parent : Node) (here : IsNodeAt graph above parent) (placed : Placed) (content : Content) → MatchesStored here.found.stored placed content → (moment : ℕ) (entry : DirEntry) (d : NewDirectory)
     → d.address ≡ parent.address → d.unique ≡ parent.unique → d.moment ≡ moment → d.content.dir.parent ≡ content.dir.parent → d.content.dir.entries.entries ≡ content.dir.entries.entries ++ (name, entry) ∷ []
-    → directory_writing d ≡ record { address = here.found.address; stored = as_stored here.found.stored.identity moment (with_entries (λ entries. entries ++ said_entry (name, entry) ∷ []) here.found.stored.body) }
+    → directory_writing d ≡ record { address = here.found.address; kept = 0; stored = as_stored here.found.stored.identity moment (with_entries (λ entries. entries ++ said_entry (name, entry) ∷ []) here.found.stored.body) }
 listed above name graph parent here placed content shown moment entry d address unique when parent_is entries_are =
     let more : said_entries d.content.dir.entries.entries ≡ said_entries content.dir.entries.entries ++ said_entry (name, entry) ∷ [] =
     ap said_entries entries_are ∙ map-append said_entry content.dir.entries.entries ((name, entry) ∷ []) in
     let body : Entries d.content.dir.parent (said_entries d.content.dir.entries.entries) ≡ with_entries (λ entries. entries ++ said_entry (name, entry) ∷ []) here.found.stored.body =
     (λ i. Entries (parent_is i) (more i)) ∙ sym (ap (with_entries (λ entries. entries ++ said_entry (name, entry) ∷ [])) shown.body) in
-    λ i. record { address = (address ∙ here.address) i; stored = as_stored ((unique ∙ here.identity) i) (when i) (body i) }
+    λ i. record { address = (address ∙ here.address) i; kept = 0; stored = as_stored ((unique ∙ here.identity) i) (when i) (body i) }
 
 -- the node is put there
-pub adds : (graph : Graph) (free moment identity : ℕ) (path above : Path) (name : Name) (split : path ≡ above ++ name ∷ []) (what : NewContent) (tree : Tree) (parent : Node) (here : IsNodeAt graph above parent) (placed : Placed) (content : Content)
+pub adds : {medium : Medium} (graph : Graph) (free moment identity : ℕ) (path above : Path) (name : Name) (split : path ≡ above ++ name ∷ []) (what : NewContent) (tree : Tree) (parent : Node) (here : IsNodeAt graph above parent) (placed : Placed) (content : Content)
     → MatchesStored here.found.stored placed content → (before change : Change) (entry : DirEntry) (d : NewDirectory) → code_of (addition path what) tree ≡ 0 → change.code ≡ code.Done → change.made ≡ made_by (addition path what) free → change.removed ≡ None
-    → change_writings moment before ≡ record { address = free; stored = as_stored identity moment (new_body parent.address (content_of_thing what)) } ∷ [] → change.file ≡ before.file → change.directories.items ≡ before.directories.items ++ d ∷ []
+    → change_writings medium moment before ≡ record { address = free; kept = 0; stored = as_stored identity moment (new_body parent.address (content_of_thing what)) } ∷ [] → IfSome before.file (AreKeptOn medium) → change.file ≡ before.file → change.directories.items ≡ before.directories.items ++ d ∷ []
     → d.address ≡ parent.address → d.unique ≡ parent.unique → d.moment ≡ moment → d.content.dir.parent ≡ content.dir.parent → d.content.dir.entries.entries ≡ content.dir.entries.entries ++ (name, entry) ∷ []
-    → names_directory entry.kind ≡ has_names (content_of_thing what) → entry.virtual_address ≡ free → entry.unique ≡ identity → IsChangeOf graph free tree (addition path what) moment identity change
-adds graph free moment identity path above name split what tree parent here placed content shown before change entry d zero_code code_is made removed first file items address unique when parent_is entries_are kind icb id =
+    → names_directory entry.kind ≡ has_names (content_of_thing what) → entry.virtual_address ≡ free → entry.unique ≡ identity → IsChangeOf medium graph free tree (addition path what) moment identity change
+adds {medium} graph free moment identity path above name split what tree parent here placed content shown before change entry d zero_code code_is made removed first keeps file items address unique when parent_is entries_are kind icb id =
     let front = sym (above_is path above name split what tree) in
     let said : said_entry (name, entry) ≡ record { name = name; is_directory = has_names (content_of_thing what); address = free; identity = identity } =
     λ i. record { name = name; is_directory = kind i; address = icb i; identity = id i } in
     let gone : gone_of change ≡ [] = ap addresses_in removed in
     let dir = listed above name graph parent here placed content shown moment entry d address unique when parent_is entries_are in
-    let nodes : change_writings moment change ≡ record { address = free; stored = as_stored identity moment (new_body here.found.address (content_of_thing what)) }
-    ∷ record { address = here.found.address; stored = as_stored here.found.stored.identity moment (with_entries (λ entries. entries ++ record { name = name; is_directory = has_names (content_of_thing what); address = free; identity = identity } ∷ []) here.found.stored.body) } ∷ [] =
-    written_more moment before change d file items
+    let nodes : change_writings medium moment change ≡ record { address = free; kept = 0; stored = as_stored identity moment (new_body here.found.address (content_of_thing what)) }
+    ∷ record { address = here.found.address; kept = 0; stored = as_stored here.found.stored.identity moment (with_entries (λ entries. entries ++ record { name = name; is_directory = has_names (content_of_thing what); address = free; identity = identity } ∷ []) here.found.stored.body) } ∷ [] =
+    written_more medium moment before change d file items
     ∙ (ap (λ (ws : List Writing). ws ++ directory_writing d ∷ []) first
-    ∙ (λ i. record { address = free; stored = as_stored identity moment (new_body (here.address i) (content_of_thing what)) }
-    ∷ (dir ∙ ap (λ (e : Entry). record { address = here.found.address; stored = as_stored here.found.stored.identity moment (with_entries (λ entries. entries ++ e ∷ []) here.found.stored.body) }) said) i ∷ [])) in
+    ∙ (λ i. record { address = free; kept = 0; stored = as_stored identity moment (new_body (here.address i) (content_of_thing what)) }
+    ∷ (dir ∙ ap (λ (e : Entry). record { address = here.found.address; kept = 0; stored = as_stored here.found.stored.identity moment (with_entries (λ entries. entries ++ e ∷ []) here.found.stored.body) }) said) i ∷ [])) in
     record {
       code_is = ap code_number code_is ∙ sym zero_code;
       done = λ none. (
-        plans graph free path what moment identity (change_writings moment change) (gone_of change)
+        plans graph free path what moment identity (change_writings medium moment change) (gone_of change)
             (record {
               above = record { address = here.found.address; stored = here.found.stored; reach = subst (λ (p : Path). Reach graph p here.found.address) front here.found.reach; is = here.found.is };
               name = name;
@@ -172,4 +174,5 @@ adds graph free moment identity path above name split what tree parent here plac
         takes_none path what tree (gone_of change) change.removed removed,
       );
       refused = λ other. absurd (other zero_code);
+      kept = subst (λ (o : Option NewFile). IfSome o (AreKeptOn medium)) (sym file) keeps;
     }

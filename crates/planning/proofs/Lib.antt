@@ -1,6 +1,8 @@
 pub mod Adding
+pub mod Appending
 pub mod Deepness
 pub mod DirectoryBytes
+pub mod Growing
 pub mod Moving
 pub mod Names
 pub mod Packing

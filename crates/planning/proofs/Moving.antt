@@ -24,6 +24,7 @@ use Rattle.model.proofs.Paths.{parent-push, last-push}
 use Rattle.model.proofs.Codes.{paths_same}
 use Rattle.model.proofs.Made.{reach_one}
 use Rattle.model.proofs.Maps.{not_none}
+use Rattle.durability.specs.Volume.{Medium}
 use Rattle.durability.specs.Plan.{Writing, turned}
 use Rattle.request.specs.Numbers.{code_number}
 use Rattle.request.specs.declared.answer.Code.TheVariants as code
@@ -38,6 +39,7 @@ use Rattle.planning.specs.Moves.{IsMoveWithin, IsBetween, Turns}
 use Rattle.planning.specs.Writings.{directory_writing, new_file, new_directories, change_writings}
 use Rattle.planning.specs.Changes.{addresses_in, gone_of, IsChangeOf}
 use Rattle.planning.proofs.Removing.{left}
+use Rattle.planning.proofs.Replacing.{none_kept}
 use Rattle.lookup.proofs.Walks.{step_some, step_none, texts_exact}
 use Rattle.planning.proofs.Adding.{not_empty, put_last}
 use Rattle.lookup.proofs.Heights.{has_at, names_opened, distinct_opened}
@@ -185,10 +187,10 @@ module _ (graph : Graph) (tree : Tree) (one : IsFunctional graph) (is : IsTree t
 -- a directory with other entries
 rewritten : (graph : Graph) (path : Path) (node : Node) (at : IsNodeAt graph path node) (placed : Placed) (content : Content) → MatchesStored at.found.stored placed content → (change : List Entry → List Entry) (moment : ℕ) (d : NewDirectory)
     → d.address ≡ node.address → d.unique ≡ node.unique → d.moment ≡ moment → d.content.dir.parent ≡ content.dir.parent → said_entries d.content.dir.entries.entries ≡ change (said_entries content.dir.entries.entries)
-    → directory_writing d ≡ record { address = at.found.address; stored = as_stored at.found.stored.identity moment (with_entries change at.found.stored.body) }
+    → directory_writing d ≡ record { address = at.found.address; kept = 0; stored = as_stored at.found.stored.identity moment (with_entries change at.found.stored.body) }
 rewritten graph path node at placed content shown change moment d address unique when parent_is entries_are =
     let body : Entries d.content.dir.parent (said_entries d.content.dir.entries.entries) ≡ with_entries change at.found.stored.body = (λ i. Entries (parent_is i) (entries_are i)) ∙ sym (ap (with_entries change) shown.body) in
-    λ i. record { address = (address ∙ at.address) i; stored = as_stored ((unique ∙ at.identity) i) (when i) (body i) }
+    λ i. record { address = (address ∙ at.address) i; kept = 0; stored = as_stored ((unique ∙ at.identity) i) (when i) (body i) }
 
 said_more : (es fs : List (Name × DirEntry)) (name : Name) (entry : DirEntry) → fs ≡ es ++ (name, entry) ∷ [] → said_entries fs ≡ said_entries es ++ said_entry (name, entry) ∷ []
 said_more es fs name entry e = ap said_entries e ∙ map-append said_entry es ((name, entry) ∷ [])
@@ -203,29 +205,29 @@ pub turned_is : (s : Stored) (moved : Entry) (above : ℕ) (placed : Placed) (co
     → d.content.dir.parent ≡ above → d.content.dir.entries.entries ≡ content.dir.entries.entries → directory_writing d ∷ [] ≡ turned moved s above
 turned_is s moved above placed content d shown directory address unique when parent_is entries_are =
     let body : Entries d.content.dir.parent (said_entries d.content.dir.entries.entries) ≡ with_parent above s.body = (λ i. Entries (parent_is i) (said_entries (entries_are i))) ∙ sym (ap (with_parent above) shown.body) in
-    let writing : directory_writing d ≡ record { address = moved.address; stored = as_stored s.identity s.moment (with_parent above s.body) } = λ i. record { address = address i; stored = as_stored (unique i) ((when ∙ shown.moment) i) (body i) } in
+    let writing : directory_writing d ≡ record { address = moved.address; kept = 0; stored = as_stored s.identity s.moment (with_parent above s.body) } = λ i. record { address = address i; kept = 0; stored = as_stored (unique i) ((when ∙ shown.moment) i) (body i) } in
     ap (λ (w : Writing). w ∷ []) writing
-    ∙ sym (ap (λ (b : Bool). if b then record { address = moved.address; stored = as_stored s.identity s.moment (with_parent above s.body) } ∷ [] else []) directory)
+    ∙ sym (ap (λ (b : Bool). if b then record { address = moved.address; kept = 0; stored = as_stored s.identity s.moment (with_parent above s.body) } ∷ [] else []) directory)
 
 pub turned_none : (s : Stored) (moved : Entry) (above : ℕ) → is_directory s ≡ false → [] ≡ turned moved s above
-turned_none s moved above file = sym (ap (λ (b : Bool). if b then record { address = moved.address; stored = as_stored s.identity s.moment (with_parent above s.body) } ∷ [] else []) file)
+turned_none s moved above file = sym (ap (λ (b : Bool). if b then record { address = moved.address; kept = 0; stored = as_stored s.identity s.moment (with_parent above s.body) } ∷ [] else []) file)
 
 module _ (graph : Graph) (tree : Tree) (one : IsFunctional graph) (is : IsTree tree) (makes : MakesTree graph tree) (free moment identity : ℕ) (from to : Path) where
   -- another name in one directory
-  pub renames_within : (parent : Node) (old new : Name) (w : IsMoveWithin graph tree from to parent old new) (placed : Placed) (content : Content) → MatchesStored w.parent_at.found.stored placed content
+  pub renames_within : {medium : Medium} (parent : Node) (old new : Name) (w : IsMoveWithin graph tree from to parent old new) (placed : Placed) (content : Content) → MatchesStored w.parent_at.found.stored placed content
       → (entry : DirEntry) → lookup (pointwise nat_eq old) content.dir.entries.entries ≡ Some entry → (change : Change) (d : NewDirectory)
       → change.code ≡ code.Done → change.file ≡ None → change.made ≡ None → change.removed ≡ None → change.directories.items ≡ d ∷ []
       → d.address ≡ parent.address → d.unique ≡ parent.unique → d.moment ≡ moment → d.content.dir.parent ≡ content.dir.parent
       → d.content.dir.entries.entries ≡ remove_entry (pointwise nat_eq old) content.dir.entries.entries ++ (new, entry) ∷ []
-      → IsChangeOf graph free tree (Rename from to) moment identity change
-  renames_within parent old new w placed content shown entry listed change d code_is file made removed items address unique when parent_is entries_are =
+      → IsChangeOf medium graph free tree (Rename from to) moment identity change
+  renames_within {medium} parent old new w placed content shown entry listed change d code_is file made removed items address unique when parent_is entries_are =
       let es = content.dir.entries.entries in
       let distinct = distinct_opened graph tree one is makes w.above parent w.parent_at placed content shown in
       let said : said_entries d.content.dir.entries.entries ≡ without from (said_entries es) ++ said_entry (new, entry) ∷ [] =
       said_more (remove_entry (pointwise nat_eq old) es) d.content.dir.entries.entries new entry entries_are
       ∙ ap (λ (l : List Entry). l ++ said_entry (new, entry) ∷ []) (without_last from w.above old w.from_is es distinct) in
       let writing = rewritten graph w.above parent w.parent_at placed content shown (λ entries. without from entries ++ renamed new (said_entry (old, entry)) ∷ []) moment d address unique when parent_is said in
-      let nodes : change_writings moment change ≡ directory_writing d ∷ [] = λ i. new_file moment (file i) ++ map directory_writing (items i) in
+      let nodes : change_writings medium moment change ≡ directory_writing d ∷ [] = λ i. new_file medium moment (file i) ++ map directory_writing (items i) in
       let gone : gone_of change ≡ [] = ap addresses_in removed in
       record {
         code_is = ap code_number code_is ∙ sym w.code_is;
@@ -247,18 +249,19 @@ module _ (graph : Graph) (tree : Tree) (one : IsFunctional graph) (is : IsTree t
           removed,
         );
         refused = λ other. absurd (other w.code_is);
+        kept = none_kept medium change.file file;
       }
 
   -- to another directory
-  pub moves_between : (node source_dir target_dir : Node) (old new : Name) (b : IsBetween graph tree from to node source_dir target_dir old new) → code_of (Rename from to) tree ≡ 0
+  pub moves_between : {medium : Medium} (node source_dir target_dir : Node) (old new : Name) (b : IsBetween graph tree from to node source_dir target_dir old new) → code_of (Rename from to) tree ≡ 0
       → (lost gained : Placed) (losing gaining : Content) → MatchesStored b.loses_at.found.stored lost losing → MatchesStored b.gains_at.found.stored gained gaining
       → (entry : DirEntry) → lookup (pointwise nat_eq old) losing.dir.entries.entries ≡ Some entry → (change : Change) (before : List NewDirectory) (l g : NewDirectory)
       → Turns node.address b.node_at.found.stored target_dir.address (new_directories before)
       → change.code ≡ code.Done → change.file ≡ None → change.made ≡ None → change.removed ≡ None → change.directories.items ≡ (before ++ l ∷ []) ++ g ∷ []
       → l.address ≡ source_dir.address → l.unique ≡ source_dir.unique → l.moment ≡ moment → l.content.dir.parent ≡ losing.dir.parent → l.content.dir.entries.entries ≡ remove_entry (pointwise nat_eq old) losing.dir.entries.entries
       → g.address ≡ target_dir.address → g.unique ≡ target_dir.unique → g.moment ≡ moment → g.content.dir.parent ≡ gaining.dir.parent → g.content.dir.entries.entries ≡ gaining.dir.entries.entries ++ (new, entry) ∷ []
-      → IsChangeOf graph free tree (Rename from to) moment identity change
-  moves_between node source_dir target_dir old new b zero_code lost gained losing gaining shown_lost shown_gained entry listed change before l g before_is code_is file made removed items l_address l_unique l_when l_parent l_entries g_address g_unique g_when g_parent g_entries =
+      → IsChangeOf medium graph free tree (Rename from to) moment identity change
+  moves_between {medium} node source_dir target_dir old new b zero_code lost gained losing gaining shown_lost shown_gained entry listed change before l g before_is code_is file made removed items l_address l_unique l_when l_parent l_entries g_address g_unique g_when g_parent g_entries =
       let moved : Entry = said_entry (old, entry) in
       let entry_at = step_some graph tree one is makes b.above source_dir b.loses_at lost losing shown_lost old entry listed in
       let same : entry.virtual_address ≡ node.address = same_address graph tree one is makes (b.above ++ old ∷ []) from (record { kind = entry.kind; address = entry.virtual_address; unique = entry.unique }) node entry_at b.node_at (sym b.from_is) in
@@ -267,7 +270,7 @@ module _ (graph : Graph) (tree : Tree) (one : IsFunctional graph) (is : IsTree t
       let g_writing = rewritten graph b.beyond target_dir b.gains_at gained gaining shown_gained (λ entries. entries ++ renamed new moved ∷ []) moment g g_address g_unique g_when g_parent
       (said_more gaining.dir.entries.entries g.content.dir.entries.entries new entry g_entries) in
       let gone : gone_of change ≡ [] = ap addresses_in removed in
-      let nodes : change_writings moment change ≡ map directory_writing ((before ++ l ∷ []) ++ g ∷ []) = λ i. new_file moment (file i) ++ map directory_writing (items i) in
+      let nodes : change_writings medium moment change ≡ map directory_writing ((before ++ l ∷ []) ++ g ∷ []) = λ i. new_file medium moment (file i) ++ map directory_writing (items i) in
       let joined : map directory_writing ((before ++ l ∷ []) ++ g ∷ []) ≡ new_directories before ++ directory_writing l ∷ directory_writing g ∷ [] =
       ap (λ (ds : List NewDirectory). map directory_writing ds) (append_assoc before (l ∷ []) (g ∷ [])) ∙ map-append directory_writing before (l ∷ g ∷ []) in
       let first : new_directories before ≡ turned moved b.node_at.found.stored b.gains_at.found.address = before_is moved same ∙ ap (turned moved b.node_at.found.stored) b.gains_at.address in
@@ -294,6 +297,7 @@ module _ (graph : Graph) (tree : Tree) (one : IsFunctional graph) (is : IsTree t
           removed,
         );
         refused = λ other. absurd (other zero_code);
+        kept = none_kept medium change.file file;
       }
 
 module _ (graph : Graph) (tree : Tree) (one : IsFunctional graph) (is : IsTree tree) (makes : MakesTree graph tree) (from to : Path) where

@@ -5,6 +5,7 @@ use Rattle.std.specs.Int.{div_ceil}
 use Rattle.std.proofs.lemmas.List.{length-replicate}
 use Rattle.limits.specs.declared.TheConstants.{BLOCK_BYTES}
 use Rattle.durability.specs.Formats.{Block}
+use Rattle.durability.specs.Volume.{Medium}
 use Rattle.durability.specs.Plan.{zeros, packed, Writing, Written, WritesNode, WritesNodes}
 use Rattle.durability.proofs.Packed.{length-packed}
 use Rattle.udf.specs.Udf.{udf}
@@ -38,15 +39,15 @@ numbers_push [] p = refl
 numbers_push (x ∷ ps) p = ap (λ (ws : List Written). record { address = x.directory.address; number = x.number } ∷ ws) (numbers_push ps p)
 
 pub written_push : (ps : List PlacedDirectory) (p : PlacedDirectory) (start now : ℕ) → now ≡ start + length (directories_list ps)
-    → WritesNodes udf (directories_writings ps) start (directories_list ps) (directories_written ps) → WritesNode udf (directory_writing p.directory) now (directory_list p) p.number
-    → WritesNodes udf (directories_writings (ps ++ p ∷ [])) start (directories_list (ps ++ p ∷ [])) (directories_written (ps ++ p ∷ []))
-written_push ps p start now at w one =
+    → ((medium : Medium) → WritesNodes udf medium (directories_writings ps) start (directories_list ps) (directories_written ps)) → ((medium : Medium) → WritesNode udf medium (directory_writing p.directory) now (directory_list p) p.number)
+    → (medium : Medium) → WritesNodes udf medium (directories_writings (ps ++ p ∷ [])) start (directories_list (ps ++ p ∷ [])) (directories_written (ps ++ p ∷ []))
+written_push ps p start now at w one medium =
     let next : Written = record { address = p.directory.address; number = p.number } in
-    let last = subst (λ n. WritesNodes udf (directory_writing p.directory ∷ []) n (directory_list p) (next ∷ [])) at (writes_one (directory_writing p.directory) now (directory_list p) p.number one) in
-    let all = writes-append (directories_writings ps) (directory_writing p.directory ∷ []) start (directories_list ps) (directory_list p) (directories_written ps) (next ∷ []) w last in
-    subst (λ (ws : List Writing). WritesNodes udf ws start (directories_list (ps ++ p ∷ [])) (directories_written (ps ++ p ∷ []))) (sym (writings_push ps p))
-    (subst (λ (bs : List Block). WritesNodes udf (directories_writings ps ++ directory_writing p.directory ∷ []) start bs (directories_written (ps ++ p ∷ []))) (sym (list_push ps p))
-    (subst (λ (ws : List Written). WritesNodes udf (directories_writings ps ++ directory_writing p.directory ∷ []) start (directories_list ps ++ directory_list p) ws) (sym (numbers_push ps p)) all))
+    let last : (before : Medium) → WritesNodes udf before (directory_writing p.directory ∷ []) (start + length (directories_list ps)) (directory_list p) (next ∷ []) = λ before. subst (λ n. WritesNodes udf before (directory_writing p.directory ∷ []) n (directory_list p) (next ∷ [])) at (writes_one before (directory_writing p.directory) now (directory_list p) p.number (one before)) in
+    let all = writes-append medium (directories_writings ps) (directory_writing p.directory ∷ []) start (directories_list ps) (directory_list p) (directories_written ps) (next ∷ []) (w medium) last in
+    subst (λ (ws : List Writing). WritesNodes udf medium ws start (directories_list (ps ++ p ∷ [])) (directories_written (ps ++ p ∷ []))) (sym (writings_push ps p))
+    (subst (λ (bs : List Block). WritesNodes udf medium (directories_writings ps ++ directory_writing p.directory ∷ []) start bs (directories_written (ps ++ p ∷ []))) (sym (list_push ps p))
+    (subst (λ (ws : List Written). WritesNodes udf medium (directories_writings ps ++ directory_writing p.directory ∷ []) start (directories_list ps ++ directory_list p) ws) (sym (numbers_push ps p)) all))
 
 pub laid_push : (ps : List PlacedDirectory) (p : PlacedDirectory) (start now : ℕ) → now ≡ start + length (directories_list ps) → AreLaid start ps → IsLaid now p → AreLaid start (ps ++ p ∷ [])
 laid_push [] p start now at laid one = (subst (λ n. IsLaid n p) (let begins : now ≡ start = omega (arith, at) in begins) one, tt)

@@ -17,6 +17,7 @@ use Rattle.model.specs.Operation.{code_of, is_other}
 use Rattle.model.specs.Operation.Operation.{Remove}
 use Rattle.model.proofs.Lists.{not_in_nil, not_same, other_apart, keeps_not}
 use Rattle.model.proofs.Paths.{parent-push, last-push}
+use Rattle.durability.specs.Volume.{Medium}
 use Rattle.durability.specs.Plan.{Writing}
 use Rattle.request.specs.Numbers.{code_number}
 use Rattle.request.specs.declared.answer.Code.TheVariants as code
@@ -35,6 +36,7 @@ use Rattle.table_update.specs.NextTable.{RemovesNode}
 use Rattle.planning.specs.Changes.{addresses_in, gone_of, IsChangeOf}
 use Rattle.model.proofs.Maps.{none_at}
 use Rattle.planning.proofs.Adding.{not_empty}
+use Rattle.planning.proofs.Replacing.{none_kept}
 use Rattle.lookup.proofs.Walks.{node_at, names_stored, directory_stored, texts_exact}
 
 -- ---- whether there are names
@@ -124,29 +126,29 @@ left name (e ∷ es) d = go (left name es d.1) (pointwise nat_eq name e.0) refl
 -- the directory above without the entry
 unlisted : (path above : Path) (name : Name) (split : path ≡ above ++ name ∷ []) (graph : Graph) (parent : Node) (up : IsNodeAt graph above parent) (placed : Placed) (content : Content) → MatchesStored up.found.stored placed content → IsDistinct (pointwise nat_eq) (keys_of content.dir.entries.entries)
     → (moment : ℕ) (d : NewDirectory) → d.address ≡ parent.address → d.unique ≡ parent.unique → d.moment ≡ moment → d.content.dir.parent ≡ content.dir.parent → d.content.dir.entries.entries ≡ remove_entry (pointwise nat_eq name) content.dir.entries.entries
-    → directory_writing d ≡ record { address = up.found.address; stored = as_stored up.found.stored.identity moment (with_entries (without path) up.found.stored.body) }
+    → directory_writing d ≡ record { address = up.found.address; kept = 0; stored = as_stored up.found.stored.identity moment (with_entries (without path) up.found.stored.body) }
 unlisted path above name split graph parent up placed content shown distinct moment d address unique when parent_is entries_are =
     let last : last_of path ≡ name ∷ [] = ap last_of split ∙ last-push above name in
     let less : said_entries d.content.dir.entries.entries ≡ without path (said_entries content.dir.entries.entries) =
     ap said_entries entries_are ∙ (left name content.dir.entries.entries distinct ∙ ap (λ (ns : List Name). filter (λ (e : Entry). is_other ns e.name) (said_entries content.dir.entries.entries)) (sym last)) in
     let body : Entries d.content.dir.parent (said_entries d.content.dir.entries.entries) ≡ with_entries (without path) up.found.stored.body =
     (λ i. Entries (parent_is i) (less i)) ∙ sym (ap (with_entries (without path)) shown.body) in
-    λ i. record { address = (address ∙ up.address) i; stored = as_stored ((unique ∙ up.identity) i) (when i) (body i) }
+    λ i. record { address = (address ∙ up.address) i; kept = 0; stored = as_stored ((unique ∙ up.identity) i) (when i) (body i) }
 
 kind_back : (k : Kind) → k ≡ name_kind (names_directory k)
 kind_back kinds.Directory = refl
 kind_back kinds.File = refl
 
 -- the node is taken away
-pub removes : (graph : Graph) (one : IsFunctional graph) (free moment identity : ℕ) (path above : Path) (name : Name) (split : path ≡ above ++ name ∷ []) (tree : Tree) (is : IsTree tree) (makes : MakesTree graph tree)
+pub removes : {medium : Medium} (graph : Graph) (one : IsFunctional graph) (free moment identity : ℕ) (path above : Path) (name : Name) (split : path ≡ above ++ name ∷ []) (tree : Tree) (is : IsTree tree) (makes : MakesTree graph tree)
     (parent : Node) (up : IsNodeAt graph above parent) (placed : Placed) (content : Content)
     → MatchesStored up.found.stored placed content → IsDistinct (pointwise nat_eq) (keys_of content.dir.entries.entries) → (node : Node) (here : IsNodeAt graph path node) (change : Change) (d : NewDirectory) → code_of (Remove path) tree ≡ 0
     → change.code ≡ code.Done → change.made ≡ None → change.removed ≡ Some node → change.file ≡ None → change.directories.items ≡ d ∷ []
     → d.address ≡ parent.address → d.unique ≡ parent.unique → d.moment ≡ moment → d.content.dir.parent ≡ content.dir.parent → d.content.dir.entries.entries ≡ remove_entry (pointwise nat_eq name) content.dir.entries.entries
-    → IsChangeOf graph free tree (Remove path) moment identity change
-removes graph one free moment identity path above name split tree is makes parent up placed content shown distinct node here change d zero_code code_is made removed file items address unique when parent_is entries_are =
+    → IsChangeOf medium graph free tree (Remove path) moment identity change
+removes {medium} graph one free moment identity path above name split tree is makes parent up placed content shown distinct node here change d zero_code code_is made removed file items address unique when parent_is entries_are =
     let front : above ≡ parent_of path = sym (ap parent_of split ∙ parent-push above name) in
-    let nodes : change_writings moment change ≡ directory_writing d ∷ [] = λ i. new_file moment (file i) ++ map directory_writing (items i) in
+    let nodes : change_writings medium moment change ≡ directory_writing d ∷ [] = λ i. new_file medium moment (file i) ++ map directory_writing (items i) in
     let kind : node.kind ≡ name_kind (is_directory_at tree path) = kind_back node.kind ∙ ap name_kind (sym (directory_stored graph tree one is makes path node here)) in
     let takes : RemovesNode (Remove path) tree (gone_of change) change.removed = (node, removed, ap addresses_in removed, kind) in
     record {
@@ -162,4 +164,5 @@ removes graph one free moment identity path above name split tree is makes paren
         takes,
       );
       refused = λ other. absurd (other zero_code);
+      kept = none_kept medium change.file file;
     }

@@ -5,11 +5,12 @@ use Rattle.std.proofs.lemmas.Bool.{eqb-true, eqb-false}
 use Rattle.std.proofs.lemmas.List.{map-append}
 use Rattle.std.proofs.lemmas.List.Elements.{All-cons}
 use Rattle.std.proofs.lemmas.Option.{slice_get_within}
+use Rattle.durability.specs.Volume.{Medium}
 use Rattle.durability.specs.Plan.{Writing, Written}
 use Rattle.vat.specs.Table.{Table}
 use Rattle.planning.specs.declared.change.Change.{Change}
 use Rattle.planning.specs.declared.change.NewDirectory.{NewDirectory}
-use Rattle.planning.specs.declared.change.NewFile.{NewFile}
+use Rattle.planning.specs.declared.file.NewFile.{NewFile}
 use Rattle.planning.specs.declared.layout.PlacedDirectory.{PlacedDirectory}
 use Rattle.planning.specs.declared.layout.PlacedFile.{PlacedFile}
 use Rattle.recover.specs.Below.{IsUsed}
@@ -59,9 +60,9 @@ used_after (x ∷ xs) ys t h = used_after xs ys (placed x.address x.number t) h.
 
 -- ---- as they are placed
 
-file_addresses : (moment : ℕ) (p : Option PlacedFile) → map (λ (w : Written). w.address) (file_written p) ≡ map (λ (n : Writing). n.address) (file_writings moment p)
-file_addresses moment None = refl
-file_addresses moment (Some p) = refl
+file_addresses : (medium : Medium) (moment : ℕ) (p : Option PlacedFile) → map (λ (w : Written). w.address) (file_written p) ≡ map (λ (n : Writing). n.address) (file_writings medium moment p)
+file_addresses medium moment None = refl
+file_addresses medium moment (Some p) = refl
 
 directory_addresses : (ps : List PlacedDirectory) → map (λ (w : Written). w.address) (directories_written ps) ≡ map (λ (n : Writing). n.address) (directories_writings ps)
 directory_addresses [] = refl
@@ -75,14 +76,14 @@ both_addresses xs ys ms ns p q =
     ∙ sym (map-append (λ (n : Writing). n.address) ms ns)
 
 -- a table that takes a change takes it once the new node is in it
-pub taken_after : (made : Option NewNode) (moment : ℕ) (change : Change) (base : Table) → IsTakenWith made moment change base → IsTakenWith None moment change (with_new_node made base)
-taken_after made moment change base takes written same =
+pub taken_after : (medium : Medium) (made : Option NewNode) (moment : ℕ) (change : Change) (base : Table) → IsTakenWith medium made moment change base → IsTakenWith medium None moment change (with_new_node made base)
+taken_after medium made moment change base takes written same =
     let taken = takes written same in
     record { free = tt; used = taken.used; there = taken.there }
 
-module _ (made : Option NewNode) (moment : ℕ) (change : Change) (base : Table) (takes : IsTakenWith made moment change base) where
-  first : AreTaken made (bare (change_writings moment change)) change.removed base
-  first = takes (bare (change_writings moment change)) (bare_addresses (change_writings moment change))
+module _ (medium : Medium) (made : Option NewNode) (moment : ℕ) (change : Change) (base : Table) (takes : IsTakenWith medium made moment change base) where
+  first : AreTaken made (bare (change_writings medium moment change)) change.removed base
+  first = takes (bare (change_writings medium moment change)) (bare_addresses (change_writings medium moment change))
 
   pub made_free : IfSome made (λ node. IsFree node.address base.entries)
   made_free = first.free
@@ -90,23 +91,23 @@ module _ (made : Option NewNode) (moment : ℕ) (change : Change) (base : Table)
   pub file_used : IfSome change.file (λ f. IsUsed f.address (with_new_node made base).entries)
   file_used = go change.file (new_directories change.directories.items) (with_new_node made base).entries first.used
     where
-      go : (o : Option NewFile) (rest : List Writing) (xs : List (Option ℕ)) → AreUsed (bare (new_file moment o ++ rest)) xs → IfSome o (λ f. IsUsed f.address xs)
+      go : (o : Option NewFile) (rest : List Writing) (xs : List (Option ℕ)) → AreUsed (bare (new_file medium moment o ++ rest)) xs → IfSome o (λ f. IsUsed f.address xs)
       go None rest xs h = tt
       go (Some f) rest xs h = h.0
 
-  module _ (file : Option PlacedFile) (same : file_writings moment file ≡ new_file moment change.file) where
-    file_same : map (λ (w : Written). w.address) (file_written file) ≡ map (λ (n : Writing). n.address) (new_file moment change.file)
-    file_same = file_addresses moment file ∙ ap (λ (ns : List Writing). map (λ (n : Writing). n.address) ns) same
+  module _ (file : Option PlacedFile) (same : file_writings medium moment file ≡ new_file medium moment change.file) where
+    file_same : map (λ (w : Written). w.address) (file_written file) ≡ map (λ (n : Writing). n.address) (new_file medium moment change.file)
+    file_same = file_addresses medium moment file ∙ ap (λ (ns : List Writing). map (λ (n : Writing). n.address) ns) same
 
     pub directories_used : All (λ (d : NewDirectory). IsUsed d.address (all_placed (file_written file) (with_new_node made base)).entries) change.directories.items
     directories_used =
         let new : List Writing = new_directories change.directories.items in
-        let all = takes (file_written file ++ bare new) (both_addresses (file_written file) (bare new) (new_file moment change.file) new file_same (bare_addresses new)) in
+        let all = takes (file_written file ++ bare new) (both_addresses (file_written file) (bare new) (new_file medium moment change.file) new file_same (bare_addresses new)) in
         all_used change.directories.items (all_placed (file_written file) (with_new_node made base)).entries (used_after (file_written file) (bare new) (with_new_node made base) all.used)
 
     pub gone_there : (ps : List PlacedDirectory) → directories_writings ps ≡ new_directories change.directories.items
         → IfSome change.removed (λ node. IsRemovable node.kind node.address (all_placed (directories_written ps) (all_placed (file_written file) (with_new_node made base))))
     gone_there ps all_same =
         let new : List Writing = new_directories change.directories.items in
-        let all = takes (file_written file ++ directories_written ps) (both_addresses (file_written file) (directories_written ps) (new_file moment change.file) new file_same (directory_addresses ps ∙ ap (λ (ns : List Writing). map (λ (n : Writing). n.address) ns) all_same)) in
+        let all = takes (file_written file ++ directories_written ps) (both_addresses (file_written file) (directories_written ps) (new_file medium moment change.file) new file_same (directory_addresses ps ∙ ap (λ (ns : List Writing). map (λ (n : Writing). n.address) ns) all_same)) in
         subst (λ (t : Table). IfSome change.removed (λ node. IsRemovable node.kind node.address t)) (placed_append (file_written file) (directories_written ps) (with_new_node made base)) all.there

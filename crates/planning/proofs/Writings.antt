@@ -17,7 +17,7 @@ use Rattle.dir.proofs.Sizes.{data_sized}
 use Rattle.model.specs.Graph.{links_in, Entry as GraphEntry}
 use Rattle.model.specs.Graph.Body.{Entries}
 use Rattle.durability.specs.Formats.{Block}
-use Rattle.durability.specs.Volume.{blocks_for}
+use Rattle.durability.specs.Volume.{Medium, blocks_for}
 use Rattle.durability.specs.Plan.{zeros, packed, Writing, Written, IsClearStart, IsPlaced, WritesNode, WritesNodes}
 use Rattle.durability.proofs.Packed.{length-packed}
 use Rattle.recover.specs.Nodes.{links_of}
@@ -74,22 +74,23 @@ directory_short d first low few proper =
 -- ---- nodes one after another
 
 -- the entry of a node is its last block
-pub node_ends : (node : Writing) (from : ℕ) (blocks : List Block) (number : ℕ) → WritesNode udf node from blocks number → number + 1 ≡ from + length blocks
-node_ends node from blocks number w = omega (arith, w.number_is, ap length w.blocks_are, length-append w.before (w.entry ∷ []))
+pub node_ends : (medium : Medium) (node : Writing) (from : ℕ) (blocks : List Block) (number : ℕ) → WritesNode udf medium node from blocks number → number + 1 ≡ from + length blocks
+node_ends medium node from blocks number w = omega (arith, w.number_is, ap length w.blocks_are, length-append w.before (w.entry ∷ []))
 
-pub writes_one : (node : Writing) (from : ℕ) (blocks : List Block) (number : ℕ) → WritesNode udf node from blocks number → WritesNodes udf (node ∷ []) from blocks (record { address = node.address; number = number } ∷ [])
-writes_one node from blocks number w = (blocks, [], number, [], sym (append-nil blocks), refl, w, (refl, refl))
+pub writes_one : (medium : Medium) (node : Writing) (from : ℕ) (blocks : List Block) (number : ℕ) → WritesNode udf medium node from blocks number → WritesNodes udf medium (node ∷ []) from blocks (record { address = node.address; number = number } ∷ [])
+writes_one medium node from blocks number w = (blocks, [], number, [], sym (append-nil blocks), refl, w, (refl, refl))
 
-pub writes-append : (nodes more : List Writing) (from : ℕ) (blocks others : List Block) (written rest : List Written) → WritesNodes udf nodes from blocks written → WritesNodes udf more (from + length blocks) others rest
-    → WritesNodes udf (nodes ++ more) from (blocks ++ others) (written ++ rest)
-writes-append [] more from blocks others written rest w v =
+-- those that come after are written on every medium
+pub writes-append : (medium : Medium) (nodes more : List Writing) (from : ℕ) (blocks others : List Block) (written rest : List Written) → WritesNodes udf medium nodes from blocks written
+    → ((before : Medium) → WritesNodes udf before more (from + length blocks) others rest) → WritesNodes udf medium (nodes ++ more) from (blocks ++ others) (written ++ rest)
+writes-append medium [] more from blocks others written rest w v =
     let at : from + length blocks ≡ from = omega (arith, ap length w.0) in
-    subst (λ (bs : List Block). WritesNodes udf more from (bs ++ others) (written ++ rest)) (sym w.0)
-    (subst (λ (ws : List Written). WritesNodes udf more from others (ws ++ rest)) (sym w.1)
-    (subst (λ n. WritesNodes udf more n others rest) at v))
-writes-append (node ∷ nodes) more from blocks others written rest (first, after, number, tail, e, f, one, w) v =
+    subst (λ (bs : List Block). WritesNodes udf medium more from (bs ++ others) (written ++ rest)) (sym w.0)
+    (subst (λ (ws : List Written). WritesNodes udf medium more from others (ws ++ rest)) (sym w.1)
+    (subst (λ n. WritesNodes udf medium more n others rest) at (v medium)))
+writes-append medium (node ∷ nodes) more from blocks others written rest (first, after, number, tail, e, f, one, w) v =
     let at : from + length blocks ≡ from + length first + length after = omega (arith, ap length e, length-append first after) in
-    let next = writes-append nodes more (from + length first) after others tail rest w (subst (λ n. WritesNodes udf more n others rest) at v) in (
+    let next = writes-append (medium ++ first) nodes more (from + length first) after others tail rest w (λ before. subst (λ n. WritesNodes udf before more n others rest) at (v before)) in (
       first,
       after ++ others,
       number,

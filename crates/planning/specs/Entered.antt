@@ -1,7 +1,8 @@
 -- What is entered in the table of a commit, and what of the table stays.
 use Rattle.std.specs.Prelude.{◌≡◌, ℕ, ◌+◌, ◌-◌, ◌<◌, ◌≤◌, false, List, length, Option, Some, IfSome, Result}
 use Rattle.limits.specs.declared.TheConstants.{FIRST_UNIQUE, PARTITION_START}
-use Rattle.durability.specs.Plan.{Writing, Written, WritesNodes}
+use Rattle.durability.specs.Volume.{Medium}
+use Rattle.durability.specs.Plan.{Written}
 use Rattle.recover.specs.Faults.{devices}
 use Rattle.recover.specs.declared.fault.StoreFault.{StoreFault}
 use Rattle.request.specs.Numbers.{code_number}
@@ -11,11 +12,10 @@ use Rattle.table_update.specs.Full.{is_full}
 use Rattle.table_update.specs.NextTable.{all_placed, begun, next_table, without_gone}
 use Rattle.table_update.specs.TableChange.{OnlyNodesChange}
 use Rattle.recover.specs.declared.node.Node.{Node}
-use Rattle.udf.specs.Udf.{udf}
 use Rattle.vat.specs.Table.{FitsTable, view}
 use Rattle.vat.specs.declared.table.Vat.{Vat}
 use Rattle.planning.specs.Plan.{AreLaid, directories_writings, plan_writings, plan_written}
-use Rattle.planning.specs.Writings.{change_writings, new_directories}
+use Rattle.planning.specs.Writings.{AreKeptOn, change_writings, new_directories}
 use Rattle.planning.specs.declared.change.Change.{Change}
 use Rattle.planning.specs.declared.change.NewDirectory.{NewDirectory}
 use Rattle.planning.specs.declared.layout.PlacedDirectory.{PlacedDirectory}
@@ -42,10 +42,9 @@ pub record BeginsNext (last : LastTable) (request : Request) (change : Change) (
   pub begun_is : IsBegunAfter last vat
 
 -- Nodes are entered in the table at the numbers that are given out for their blocks, which are no more than were reckoned.
-pub record Enters (old new : Vat) (from to : Numbers) (nodes : List Writing) (blocks : List (List ℕ)) (entered : List Written) (reckoned : ℕ) : Type 0 where
+pub record Enters (old new : Vat) (from to : Numbers) (blocks : List (List ℕ)) (entered : List Written) (reckoned : ℕ) : Type 0 where
   pub table : view new ≡ all_placed entered (view old)
   pub fits : FitsTable (view new)
-  pub written : WritesNodes udf nodes from.next blocks entered
   pub next : to.next ≡ from.next + length blocks
   pub most : to.next ≤ from.next + reckoned
   pub below : AreBelow (from.next + PARTITION_START) old.entries.items → AreBelow (to.next + PARTITION_START) new.entries.items
@@ -73,7 +72,8 @@ pub record IsPlanOf (change : Change) (moment : ℕ) (vat : Vat) (plan : Plan) :
   pub code : plan.reply.code ≡ change.code
   pub commit : plan.reply.commit ≡ vat.sessions.commits
   pub moment_is : plan.moment ≡ moment
-  pub writings : plan_writings plan ≡ change_writings moment change
+  pub writings : (medium : Medium) → plan_writings medium plan ≡ change_writings medium moment change
+  pub kept : (medium : Medium) → IfSome change.file (AreKeptOn medium) → IfSome plan.file (λ f. AreKeptOn medium f.file)
   pub table : view plan.table.vat ≡ without_gone change.removed (all_placed (plan_written plan) (view vat))
 
 -- The plan is that of a change which a request makes after the last table: its reply, what it writes, and the next table.
@@ -81,7 +81,8 @@ pub record IsPlanAfter (last : LastTable) (request : Request) (change : Change) 
   pub code : plan.reply.code ≡ change.code
   pub commit : plan.reply.commit ≡ last.vat.now.sessions.commits + 1
   pub moment_is : plan.moment ≡ moment
-  pub writings : plan_writings plan ≡ change_writings moment change
+  pub writings : (medium : Medium) → plan_writings medium plan ≡ change_writings medium moment change
+  pub kept : (medium : Medium) → IfSome change.file (AreKeptOn medium) → IfSome plan.file (λ f. AreKeptOn medium f.file)
   pub table : view plan.table.vat ≡ next_table last.vat_icb_address request.client request.number (code_number change.code) change.made (plan_written plan) change.removed (view last.vat.now)
 
 -- but for the writer, through which it is written, it is the same plan

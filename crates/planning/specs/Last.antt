@@ -2,11 +2,12 @@
 use Rattle.std.specs.Prelude.{◌≡◌, ℕ, ◌+◌, ◌*◌, ◌-◌, ◌<◌, ◌≤◌, List, Option, map}
 use Rattle.std.specs.FinMap.{len}
 use Rattle.limits.specs.declared.TheConstants.{LEAST_CAPACITY, GREATEST_CAPACITY, FORMAT_BLOCKS, FIRST_UNIQUE, NODES}
-use Rattle.drive.specs.Journal.{Event, next_of}
+use Rattle.drive.specs.Journal.{Event, held, next_of}
 use Rattle.drive.specs.declared.Drive.{Ghosts}
 use Rattle.model.specs.Addresses.{free_address}
 use Rattle.model.specs.Tree.{Tree}
 use Rattle.request.specs.declared.message.Request.{Request}
+use Rattle.durability.specs.Volume.{Medium}
 use Rattle.durability.specs.Plan.{Writing, Written}
 use Rattle.request.specs.Numbers.{code_number}
 use Rattle.vat.specs.Table.{FitsTable, Table, view}
@@ -56,16 +57,16 @@ pub record IsCounted (last : LastTable) (tree : Tree) : Type 0 where
 -- the change is the one that a request makes of the table's state at a moment
 abbrev pub IsChangeIn : List Event → LastTable → Tree → Request → ℕ → Change → Type 0
 IsChangeIn journal last tree request moment change =
-    IsChangeOf (graph_below last.vat_icb_address last.vat.now.entries.items journal) (free_address last.vat.now.entries.items) tree (model_operation request.op) moment last.vat.now.sessions.next_unique change
+    IsChangeOf (held journal) (graph_below last.vat_icb_address last.vat.now.entries.items journal) (free_address last.vat.now.entries.items) tree (model_operation request.op) moment last.vat.now.sessions.next_unique change
 
 -- whatever the numbers of the entries are, the table takes this new node, and what the change writes and removes
-abbrev pub IsTakenWith : Option NewNode → ℕ → Change → Table → Type 0
-IsTakenWith made moment change base =
-    (written : List Written) → map (λ (w : Written). w.address) written ≡ map (λ (n : Writing). n.address) (change_writings moment change) → AreTaken made written change.removed base
+abbrev pub IsTakenWith : Medium → Option NewNode → ℕ → Change → Table → Type 0
+IsTakenWith medium made moment change base =
+    (written : List Written) → map (λ (w : Written). w.address) written ≡ map (λ (n : Writing). n.address) (change_writings medium moment change) → AreTaken made written change.removed base
 
 -- it takes the change
-abbrev pub IsTakenBy : ℕ → Change → Table → Type 0
-IsTakenBy moment change base = IsTakenWith change.made moment change base
+abbrev pub IsTakenBy : Medium → ℕ → Change → Table → Type 0
+IsTakenBy medium moment change base = IsTakenWith medium change.made moment change base
 
 -- the most blocks that a request's change may take
 abbrev pub need_of : LastTable → Request → Change → ℕ

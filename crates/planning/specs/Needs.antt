@@ -5,15 +5,16 @@ use Rattle.limits.specs.declared.TheConstants.{BLOCK_BYTES, LEAST_FILLED_BYTES}
 use Rattle.dir.specs.Size.{name_sizes, plain_sizes}
 use Rattle.vat.specs.Table.{Table}
 pub use Rattle.table_update.specs.Needs.{table_need}
-use Rattle.table_update.specs.Outside.{outside}
+use Rattle.table_update.specs.Outside.{outside_after}
+use Rattle.lookup.specs.Extents.{full_size}
 use Rattle.planning.specs.declared.change.Change.{Change}
-use Rattle.planning.specs.declared.change.NewFile.{NewFile}
+use Rattle.planning.specs.declared.file.NewFile.{NewFile}
 use Rattle.planning.specs.declared.change.NewDirectory.{NewDirectory}
 
 -- before data there may be as many blocks of zeros
 abbrev pub file_need : Option NewFile → ℕ
 file_need None = 0
-file_need (Some f) = 2 * div_ceil (length (outside f.bytes.now)) BLOCK_BYTES + 1
+file_need (Some f) = 2 * div_ceil (length (outside_after (full_size f.kept) f.bytes.now)) BLOCK_BYTES + 1
 
 -- a block of a directory that another one follows is used up to byte 1,720 at least
 abbrev pub directory_need : NewDirectory → ℕ

@@ -1,5 +1,5 @@
 -- The blocks that a planned commit writes.
-use Rattle.std.specs.Prelude.{◌≡◌, ℕ, ◌+◌, ◌-◌, ◌<◌, ◌≤◌, ⊤, List, [], ◌∷◌, ◌++◌, length, replicate, Option, Some, None}
+use Rattle.std.specs.Prelude.{◌≡◌, ℕ, ◌+◌, ◌-◌, ◌<◌, ◌≤◌, ⊤, List, [], ◌∷◌, ◌++◌, length, replicate, Option, Some, None, IfSome}
 use Rattle.std.specs.Int.{div_ceil}
 use Rattle.limits.specs.declared.TheConstants.{BLOCK_BYTES, PARTITION_START}
 use Rattle.dir.specs.Directory.{directory_blocks, IsDirectory}
@@ -8,20 +8,22 @@ use Rattle.lookup.specs.declared.nodes.Placed.{Placed}
 use Rattle.durability.specs.Formats.{NodeFields}
 use Rattle.durability.specs.Formats.Kind.{Table}
 use Rattle.durability.specs.Formats.NodePlace.{Extent}
+use Rattle.durability.specs.Volume.{Medium}
 use Rattle.durability.specs.Plan.{zeros, packed, Writing, Written, IsPlaced, WritesNodes}
 use Rattle.udf.specs.Udf.{udf}
 use Rattle.vat.specs.Table.{view, IsTableAt}
-use Rattle.table_update.specs.Outside.{outside}
-use Rattle.planning.specs.Writings.{file_writing, directory_writing}
+use Rattle.table_update.specs.Outside.{outside_after}
+use Rattle.lookup.specs.Extents.{full_size}
+use Rattle.planning.specs.Writings.{AreKeptOn, file_writing, directory_writing}
 use Rattle.planning.specs.declared.layout.PlacedFile.{PlacedFile}
 use Rattle.planning.specs.declared.layout.PlacedDirectory.{PlacedDirectory}
 use Rattle.planning.specs.declared.layout.PlacedTable.{PlacedTable}
 use Rattle.planning.specs.declared.plan.Plan.{Plan}
 use Rattle.planning.specs.Last.{HasTableBelow}
 
--- the blocks of a file's bytes, where they are outside the entry
+-- the blocks of the bytes that a file gets, where they are outside the entry
 abbrev pub file_data : PlacedFile → List (List ℕ)
-file_data p = replicate p.gap zeros ++ packed (outside p.file.bytes.now)
+file_data p = replicate p.gap zeros ++ packed (outside_after (full_size p.file.kept) p.file.bytes.now)
 
 -- these, and the entry
 abbrev pub file_list : Option PlacedFile → List (List ℕ)
@@ -67,9 +69,9 @@ abbrev pub plan_blocks : Plan → List (List ℕ)
 plan_blocks p = node_list p ++ (table_data p.table ++ p.table.entry ∷ [])
 
 -- what the nodes say, and where their entries are
-abbrev pub file_writings : ℕ → Option PlacedFile → List Writing
-file_writings moment None = []
-file_writings moment (Some p) = file_writing moment p.file ∷ []
+abbrev pub file_writings : Medium → ℕ → Option PlacedFile → List Writing
+file_writings medium moment None = []
+file_writings medium moment (Some p) = file_writing medium moment p.file ∷ []
 
 abbrev pub file_written : Option PlacedFile → List Written
 file_written None = []
@@ -83,8 +85,8 @@ abbrev pub directories_written : List PlacedDirectory → List Written
 directories_written [] = []
 directories_written (p ∷ ps) = record { address = p.directory.address; number = p.number } ∷ directories_written ps
 
-abbrev pub plan_writings : Plan → List Writing
-plan_writings p = file_writings p.moment p.file ++ directories_writings p.directories.items
+abbrev pub plan_writings : Medium → Plan → List Writing
+plan_writings medium p = file_writings medium p.moment p.file ++ directories_writings p.directories.items
 
 abbrev pub plan_written : Plan → List Written
 plan_written p = file_written p.file ++ directories_written p.directories.items
@@ -104,7 +106,8 @@ pub record IsTablePlaced (from moment : ℕ) (t : PlacedTable) : Type 0 where
 pub record IsPlan (next capacity : ℕ) (p : Plan) : Type 0 where
   pub begins : p.writer.packets ≡ record { at = next; blocks = [] }
   pub low : PARTITION_START ≤ next
-  pub nodes : WritesNodes udf (plan_writings p) (next - PARTITION_START) (node_list p) (plan_written p)
+  -- on each medium that has what the file keeps
+  pub nodes : (medium : Medium) → IfSome p.file (λ f. AreKeptOn medium f.file) → WritesNodes udf medium (plan_writings medium p) (next - PARTITION_START) (node_list p) (plan_written p)
   pub laid : AreLaid (next - PARTITION_START + length (file_list p.file)) p.directories.items
   pub table : IsTablePlaced (next - PARTITION_START + length (node_list p)) p.moment p.table
   pub fits : p.table.at < capacity

@@ -1,32 +1,35 @@
 //! What a request changes in the state before it. Each directory on its paths is looked up once.
 
-ghost use Rattle.std.specs.Prelude.{◌≡◌, ℕ, IsTrue, IfOk, IfErr, [], length, nat_lt};
+ghost use Rattle.std.specs.Prelude.{◌≡◌, ◌%◌, ◌==◌, ◌&&◌, ℕ, IsTrue, IfOk, IfErr, [], length, nat_lt};
 ghost use Rattle.std.specs.FinMap.{len};
+ghost use Rattle.drive.specs.Journal.{Once};
 ghost use Rattle.drive.specs.Reads.{ReadsOnly};
 ghost use Rattle.model.specs.Graph.{entries_of};
 ghost use Rattle.model.specs.Operation.{moves_too_deep};
-ghost use Rattle.model.specs.Operation.Operation.{Remove, Rename, Replace};
+ghost use Rattle.model.specs.Operation.Operation.{Append, Remove, Rename, Replace};
 ghost use Rattle.model.specs.Tree.{Path, Tree};
 ghost use Rattle.recover.specs.Faults.{IsShortage, devices};
 ghost use Rattle.lookup.specs.Asked.{model_operation};
 ghost use Rattle.lookup.specs.Cache.{AreKept};
 ghost use Rattle.lookup.specs.Lookups.{Answers, Looks, OfDirectory, OfStoredNode, Sees, SeesNode, graph_seen};
+ghost use Rattle.limits.specs.declared.TheConstants.{FILE_BYTES};
 ghost use Rattle.planning.specs.Changes.{IsChangeRefused, IsChangeSeen, IsSameButDirectories, addition};
 ghost use Rattle.planning.specs.Last.{HasTree, IsChangeIn, IsCounted, IsLastTableOn};
 ghost use Rattle.planning.specs.Moves.{IsBetween, IsMoveWithin, Moves, Turns};
 ghost use Rattle.planning.specs.Rewriting.{TakesName};
 ghost use Rattle.planning.specs.Writings.{new_directories};
 
-use crate::change::{Change, NewContent, NewFile, code_of_addition, is_below, written};
+use crate::change::{Change, NewContent, code_of_addition, is_below, written};
+use crate::file::NewFile;
 use crate::plan::LastTable;
 use dir::Entry;
 use drive::Drive;
 use ecma::Timestamp;
-use limits::DIRECTORY_NAMES;
-use lookup::{DirectoryCache, Lookup, Nodes};
+use limits::{DIRECTORY_NAMES, FILE_BYTES, GREATEST_FILE};
+use lookup::{DirectoryCache, FileEnd, Lookup, Nodes};
 use osta::Name;
 use recover::{Node, StoreFault};
-use request::{Code, FileSlice, Op, Request};
+use request::{AppendSlice, Code, FileSlice, Op, Request};
 use std::alloc::Global;
 
 /// The greatest number of names in a path of the tree.
@@ -52,7 +55,7 @@ impl LastTable<'_> {
         moment: Timestamp,
     ) -> Result<Change<'r>, StoreFault>
         requires agrees { IsLastTableOn (D.journal drive.old) (D.capacity drive.old) self.now }
-        ensures does { (tree : Tree) → HasTree D.Drive drive.old drive.new cache.old self.now tree → IsCounted self.now tree → IfOk result (IsChangeIn (D.journal drive.old) self.now tree request.now moment) }
+        ensures does { (tree : Tree) → Once (D.journal drive.old) → HasTree D.Drive drive.old drive.new cache.old self.now tree → IsCounted self.now tree → IfOk result (IsChangeIn (D.journal drive.old) self.now tree request.now moment) }
         ensures short { (tree : Tree) → HasTree D.Drive drive.old drive.new cache.old self.now tree → IfErr result IsShortage }
         ensures kept { IsTrue (D.honest drive.new) → AreKept (D.journal drive.old) cache.old → AreKept (D.journal drive.old) cache.new }
         ensures reads { ReadsOnly D.Drive (devices result) drive.old drive.new }
@@ -77,7 +80,7 @@ impl<D: Drive> StateBefore<'_, '_, D> {
         request: &'r Request<'r>,
         moment: Timestamp,
     ) -> Result<Change<'r>, StoreFault>
-        ensures does { (tree : Tree) → Sees D.Drive self.old.lookup self.new.lookup tree → self.old.node_count ≡ len tree → IfOk result (IsChangeSeen D.Drive self.old.lookup tree (model_operation request.now.op) moment self.old.next_unique) }
+        ensures does { (tree : Tree) → Once (D.journal self.old.lookup.drive.now) → Sees D.Drive self.old.lookup self.new.lookup tree → self.old.node_count ≡ len tree → IfOk result (IsChangeSeen D.Drive self.old.lookup tree (model_operation request.now.op) moment self.old.next_unique) }
         ensures short { (tree : Tree) → Sees D.Drive self.old.lookup self.new.lookup tree → IfErr result IsShortage }
         ensures looks { Looks D.Drive (devices result) self.old.lookup self.new.lookup }
     {
@@ -85,6 +88,11 @@ impl<D: Drive> StateBefore<'_, '_, D> {
             Op::Create { path, bytes } => self.add(path.names(), NewContent::File(bytes), moment),
             Op::MakeDir { path } => self.add(path.names(), NewContent::Directory, moment),
             Op::Replace { path, bytes } => self.replace(path.names(), bytes),
+            Op::Append {
+                path,
+                offset,
+                bytes,
+            } => self.append(path.names(), *offset, bytes),
             Op::Rename { from, to } => self.rename(from.names(), to.names(), moment),
             Op::Remove { path } => self.remove(path.names(), moment),
         }
@@ -155,13 +163,40 @@ impl<D: Drive> StateBefore<'_, '_, D> {
         if node.is_directory() {
             return Ok(self.refused(Code::IsDirectory));
         }
-        let mut change = Change::new(self.lookup.alloc());
-        change.file = Some(NewFile {
-            address: node.address,
-            unique: node.unique,
-            bytes,
-        });
-        Ok(change)
+        let alloc = self.lookup.alloc();
+        let file = NewFile::whole(alloc, node.address, node.unique, bytes);
+        Ok(Change::of_file(alloc, file))
+    }
+
+    /// Adds bytes at the end of a file, which has `offset` bytes before: no byte of these is read.
+    fn append<'r>(
+        &mut self,
+        names: &[Name],
+        offset: u64,
+        bytes: &'r AppendSlice<'r>,
+    ) -> Result<Change<'r>, StoreFault>
+        ensures does { (tree : Tree) (moment identity : ℕ) → Once (D.journal self.old.lookup.drive.now) → Sees D.Drive self.old.lookup self.new.lookup tree → IfOk result (IsChangeSeen D.Drive self.old.lookup tree (Append names.now offset bytes.now) moment identity) }
+        ensures short { (tree : Tree) → Sees D.Drive self.old.lookup self.new.lookup tree → IfErr result IsShortage }
+        ensures looks { Looks D.Drive (devices result) self.old.lookup self.new.lookup }
+    {
+        if names.is_empty() {
+            return Ok(self.refused(Code::Root));
+        }
+        let Some(node) = self.lookup.find(names)? else {
+            return Ok(self.refused(Code::NotFound));
+        };
+        if node.is_directory() {
+            return Ok(self.refused(Code::IsDirectory));
+        }
+        let end = self.lookup.file_end(node.address)?;
+        if !ends_at(&end, offset) {
+            return Ok(self.refused(Code::Exists));
+        }
+        if offset >= u64::from(GREATEST_FILE) {
+            return Ok(self.refused(Code::TooMany));
+        }
+        let file = NewFile::grown(node.address, node.unique, end.extents, bytes);
+        Ok(Change::of_file(self.lookup.alloc(), file))
     }
 
     /// Removes a file or an empty directory.
@@ -356,4 +391,14 @@ impl<D: Drive> StateBefore<'_, '_, D> {
         self.lookup.keep(placed, content);
         Ok(has_names)
     }
+}
+
+/// Whether a file has `offset` bytes, and these fill its extents.
+fn ends_at(end: &FileEnd, offset: u64) -> bool
+    ensures { result ≡ (end.now.size == offset && offset % FILE_BYTES == 0) }
+{
+    if u64::from(end.size) != offset {
+        return false;
+    }
+    offset % FILE_BYTES as u64 == 0
 }

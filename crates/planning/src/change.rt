@@ -1,7 +1,7 @@
 //! What a request does to the nodes, before any place is chosen.
 
 ghost use Rattle.limits.specs.declared.TheConstants.{DIRECTORY_NAMES};
-ghost use Rattle.std.specs.Prelude.{◌≡◌, ◌<◌, [], ◌∷◌, ◌&&◌, IfOk, IfErr, None, OnOk, is_some, length, nat_eq, nat_lt};
+ghost use Rattle.std.specs.Prelude.{◌≡◌, ◌<◌, List, ℕ, [], ◌∷◌, ◌&&◌, IfOk, IfErr, IfSome, None, Some, OnOk, is_some, length, nat_eq, nat_lt};
 ghost use Rattle.std.specs.Cmp.Lexicographic.{pointwise};
 ghost use Rattle.std.specs.Map.{lookup};
 ghost use Rattle.indexmap.specs.IndexMap.{insert_entry};
@@ -11,11 +11,12 @@ ghost use Rattle.recover.specs.declared.fault.StoreFault.TheVariants.{Memory};
 ghost use Rattle.table_update.specs.NextTable.{made_by};
 ghost use Rattle.planning.specs.Changes.{IsChangeRefused, IsSameButDirectories, addition, code_by_names, content_of_thing, new_writing};
 ghost use Rattle.planning.specs.Rewriting.{Rewrites};
-ghost use Rattle.planning.specs.Writings.{change_writings};
+ghost use Rattle.planning.specs.Writings.{AreKeptOn, change_writings};
 ghost use Rattle.request.specs.Numbers.{code_number};
 ghost use Rattle.udf.specs.Said.{names_directory};
 ghost use Rattle.request.specs.declared.answer.Code.TheVariants.{Done};
 
+use crate::file::NewFile;
 use dir::{Dir, Entry, Kind};
 use ecma::Timestamp;
 use indexmap::IndexMap;
@@ -26,15 +27,6 @@ use recover::{Node, StoreFault};
 use request::{Code, FileSlice};
 use std::alloc::Global;
 use table_update::NewNode;
-
-/// A file that is written.
-#[derive(Clone, Copy, Debug)]
-pub struct NewFile<'r> {
-    /// The virtual address of its entry.
-    pub address: u32,
-    pub unique: u32,
-    pub bytes: &'r FileSlice<'r>,
-}
 
 /// A directory that is written.
 #[derive(Drop)]
@@ -94,6 +86,23 @@ impl<'r> Change<'r> {
         }
     }
 
+    /// A change that writes a file alone.
+    pub(crate) fn of_file(alloc: Global, file: NewFile<'r>) -> Change<'r>
+        ensures file { result.file ≡ Some file.entry }
+        ensures code { result.code ≡ Done }
+        ensures directories { result.directories.items ≡ [] }
+        ensures made { result.made ≡ None }
+        ensures removed { result.removed ≡ None }
+    {
+        Change {
+            code: Code::Done,
+            file: Some(file),
+            directories: Vec::new(alloc),
+            made: None,
+            removed: None,
+        }
+    }
+
     /// Adds the new node to what is written, and returns its kind.
     pub(crate) fn put_new(
         &mut self,
@@ -105,7 +114,8 @@ impl<'r> Change<'r> {
         moment: Timestamp,
     ) -> Result<Kind, StoreFault>
         // If nothing is written yet, the node comes first.
-        ensures put { IfOk result (λ kind. self.old.file ≡ None → self.old.directories.items ≡ [] → change_writings moment self.new ≡ new_writing address unique moment parent.address thing.entry ∷ []) }
+        ensures put { (medium : List (List ℕ)) → IfOk result (λ kind. self.old.file ≡ None → self.old.directories.items ≡ [] → change_writings medium moment self.new ≡ new_writing address unique moment parent.address thing.entry ∷ []) }
+        ensures kept { (medium : List (List ℕ)) → IfOk result (λ kind. self.old.file ≡ None → IfSome self.new.file (AreKeptOn medium)) }
         ensures kind { IfOk result (λ kind. names_directory kind ≡ has_names (content_of_thing thing.entry)) }
         ensures made { IfOk result (λ kind. (path : Path) → self.new.made ≡ made_by (addition path thing.entry) address) }
         ensures code { self.new.code ≡ self.old.code }
@@ -113,14 +123,14 @@ impl<'r> Change<'r> {
         ensures memory { IfErr result (λ fault. fault ≡ Memory) }
         ensures device { devices result ≡ 0 }
     {
-        let kind = match thing {
+        match thing {
             NewContent::File(bytes) => {
-                self.file = Some(NewFile {
+                self.file = Some(NewFile::whole(alloc, address, unique, bytes));
+                self.made = Some(NewNode {
+                    kind: Kind::File,
                     address,
-                    unique,
-                    bytes,
                 });
-                Kind::File
+                Ok(Kind::File)
             }
             NewContent::Directory => {
                 let dir = Dir {
@@ -133,11 +143,13 @@ impl<'r> Change<'r> {
                     moment,
                     content: Content::of(alloc, dir),
                 })?;
-                Kind::Directory
+                self.made = Some(NewNode {
+                    kind: Kind::Directory,
+                    address,
+                });
+                Ok(Kind::Directory)
             }
-        };
-        self.made = Some(NewNode { kind, address });
-        Ok(kind)
+        }
     }
 
     /// Adds a name to the content of a node's directory, and that directory, with this moment, to what is written.

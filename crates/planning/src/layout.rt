@@ -3,7 +3,9 @@
 ghost use Rattle.limits.specs.declared.TheConstants.{PARTITION_BLOCKS};
 ghost use Rattle.std.specs.Prelude.{◌≡◌, ◌≤◌};
 
-use crate::change::{NewDirectory, NewFile};
+use crate::change::NewDirectory;
+use crate::file::NewFile;
+use ecma::Block;
 use icb::PlannedEntry;
 use lookup::{EntryAt, Placed};
 use recover::Extent;
@@ -15,7 +17,8 @@ pub struct PlacedFile<'r> {
     pub file: NewFile<'r>,
     /// How many blocks of zeros are before its bytes, if these are outside the entry.
     pub gap: u32,
-    pub entry: PlannedEntry<'r>,
+    /// The block of its entry.
+    pub entry: Block,
     /// The block number of its entry.
     pub number: u32,
 }

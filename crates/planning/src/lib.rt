@@ -10,11 +10,13 @@
 
 mod before;
 mod change;
+mod file;
 mod layout;
 mod places;
 mod plan;
 mod write;
 
-pub use change::{Change, NewDirectory, NewFile};
+pub use change::{Change, NewDirectory};
+pub use file::NewFile;
 pub use layout::{PlacedDirectory, PlacedFile, PlacedTable};
 pub use plan::{LastTable, Plan};

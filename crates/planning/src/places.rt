@@ -9,16 +9,19 @@ ghost use Rattle.dir.specs.Directory.{directory_blocks, directory_size};
 ghost use Rattle.lookup.specs.Cache.{SaysPlace};
 ghost use Rattle.durability.specs.Plan.{packed, IsClearStart, IsPlaced, PlacesFile, WritesNode};
 ghost use Rattle.planning.specs.Needs as needs;
-ghost use Rattle.table_update.specs.Outside.{outside};
+ghost use Rattle.table_update.specs.Outside.{outside, outside_after};
+ghost use Rattle.lookup.specs.Extents.{full_size};
 ghost use Rattle.planning.specs.Plan.{file_data, directory_data, IsLaid};
-ghost use Rattle.planning.specs.Writings.{IsProper, file_writing, directory_writing};
+ghost use Rattle.planning.specs.Writings.{AreKeptOn, IsProper, file_writing, directory_writing};
 ghost use Rattle.udf.specs.Said.{said_place};
 ghost use Rattle.udf.specs.Udf.{udf};
 
-use crate::change::{NewDirectory, NewFile};
+use crate::change::NewDirectory;
+use crate::file::NewFile;
 use crate::layout::{PlacedDirectory, PlacedFile};
-use ecma::Timestamp;
+use ecma::{Block, Timestamp};
 use icb::{FileEntry, Kind, Place, PlannedEntry};
+use limits::BLOCK_SIZE;
 use recover::{Extent, block_count};
 use vat::clear_start;
 
@@ -87,19 +90,22 @@ impl Numbers {
         ensures address { result.file.address ≡ file.entry.address }
         ensures unique { result.file.unique ≡ file.entry.unique }
         ensures bytes { result.file.bytes.now ≡ file.entry.bytes.now }
-        ensures written { WritesNode udf (file_writing moment result.file) self.old.next (file_data result ++ result.entry ∷ []) result.number }
+        ensures kept { result.file.kept ≡ file.entry.kept }
+        ensures written { (medium : List (List ℕ)) → AreKeptOn medium result.file → WritesNode udf medium (file_writing medium moment result.file) self.old.next (file_data result ++ result.entry ∷ []) result.number }
+        ensures ends { result.number + 1 ≡ self.old.next + length (file_data result ++ result.entry ∷ []) }
         ensures next { self.new.next ≡ result.number + 1 }
         ensures most { self.new.next ≤ self.old.next + needs.file_need (Some file.entry) }
         ensures end { self.new.end ≡ self.old.end }
     {
         let start = self.next;
-        let first = self.place_bytes(outside_of(file.bytes.as_slice()));
+        let first = self.place_bytes(outside_of(&file));
         let number = self.next;
         self.take(1);
+        let entry = file_entry(&file, moment, first);
         PlacedFile {
             file,
             gap: first - start,
-            entry: file_entry(&file, moment, first),
+            entry,
             number,
         }
     }
@@ -110,7 +116,7 @@ impl Numbers {
         requires room { self.old.next + needs.directory_need directory ≤ self.old.end }
         ensures directory { result.directory ≡ directory }
         ensures laid { IsLaid self.old.next result }
-        ensures written { WritesNode udf (directory_writing result.directory) self.old.next (directory_data result ++ result.entry ∷ []) result.number }
+        ensures written { (medium : List (List ℕ)) → WritesNode udf medium (directory_writing result.directory) self.old.next (directory_data result ++ result.entry ∷ []) result.number }
         ensures next { self.new.next ≡ result.number + 1 }
         ensures most { self.new.next ≤ self.old.next + needs.directory_need directory }
         ensures end { self.new.end ≡ self.old.end }
@@ -134,10 +140,32 @@ impl Numbers {
     }
 }
 
-/// The entry of a file. If its bytes are outside the entry, they begin at block number `first`.
-fn file_entry<'r>(file: &NewFile<'r>, moment: Timestamp, first: u32) -> PlannedEntry<'r>
-    requires { first + div_ceil (length (outside file.now.bytes.now)) BLOCK_BYTES ≤ PARTITION_BLOCKS }
-    ensures { (from : ℕ) (blocks : List (List ℕ)) → IsPlaced udf (outside file.now.bytes.now) from first blocks → WritesNode udf (file_writing moment file.now) from (blocks ++ result ∷ []) (from + length blocks) }
+/// The block of a file's entry. If its new bytes are outside the entry, they begin at block number `first`.
+fn file_entry(file: &NewFile<'_>, moment: Timestamp, first: u32) -> Block
+    requires { first + div_ceil (length (outside_after (full_size file.now.kept) file.now.bytes.now)) BLOCK_BYTES ≤ PARTITION_BLOCKS }
+    ensures { (medium : List (List ℕ)) (from : ℕ) (blocks : List (List ℕ)) → AreKeptOn medium file.now → IsPlaced udf (outside_after (full_size file.now.kept) file.now.bytes.now) from first blocks → WritesNode udf medium (file_writing medium moment file.now) from (blocks ++ result ∷ []) (from + length blocks) }
+{
+    let mut block = [0; BLOCK_SIZE];
+    planned_entry(file, moment, first).write(&mut block);
+    block
+}
+
+/// The entry of a file. If its new bytes are outside the entry, they begin at block number `first`.
+fn planned_entry<'a>(file: &'a NewFile<'_>, moment: Timestamp, first: u32) -> PlannedEntry<'a>
+    requires { first + div_ceil (length (outside_after (full_size file.now.kept) file.now.bytes.now)) BLOCK_BYTES ≤ PARTITION_BLOCKS }
+    ensures { (medium : List (List ℕ)) (from : ℕ) (blocks : List (List ℕ)) → AreKeptOn medium file.now → IsPlaced udf (outside_after (full_size file.now.kept) file.now.bytes.now) from first blocks → WritesNode udf medium (file_writing medium moment file.now) from (blocks ++ result ∷ []) (from + length blocks) }
+{
+    if file.kept.is_empty() {
+        return whole_entry(file, moment, first);
+    }
+    grown_entry(file, moment, first)
+}
+
+/// The entry of a file that keeps nothing.
+fn whole_entry<'a>(file: &'a NewFile<'_>, moment: Timestamp, first: u32) -> PlannedEntry<'a>
+    requires none { file.now.kept ≡ [] }
+    requires room { first + div_ceil (length (outside file.now.bytes.now)) BLOCK_BYTES ≤ PARTITION_BLOCKS }
+    ensures { (medium : List (List ℕ)) (from : ℕ) (blocks : List (List ℕ)) → IsPlaced udf (outside file.now.bytes.now) from first blocks → WritesNode udf medium (file_writing medium moment file.now) from (blocks ++ result ∷ []) (from + length blocks) }
 {
     let bytes = file.bytes.as_slice();
     let entry = FileEntry {
@@ -151,6 +179,24 @@ fn file_entry<'r>(file: &NewFile<'r>, moment: Timestamp, first: u32) -> PlannedE
     PlannedEntry::new(&entry, file.address)
 }
 
+/// The entry of a file that keeps what it has, and gets one extent more.
+fn grown_entry<'a>(file: &'a NewFile<'_>, moment: Timestamp, first: u32) -> PlannedEntry<'a>
+    requires some { 0 < full_size file.now.kept }
+    requires room { first + div_ceil (length file.now.bytes.now) BLOCK_BYTES ≤ PARTITION_BLOCKS }
+    ensures { (medium : List (List ℕ)) (from : ℕ) (blocks : List (List ℕ)) → AreKeptOn medium file.now → IsPlaced udf file.now.bytes.now from first blocks → WritesNode udf medium (file_writing medium moment file.now) from (blocks ++ result ∷ []) (from + length blocks) }
+{
+    let bytes = file.bytes.as_slice();
+    let entry = FileEntry {
+        kind: Kind::File,
+        moment,
+        links: 1,
+        unique: u64::from(file.unique),
+        size: file.kept.size() + bytes.len() as u32,
+        place: Place::Extents(file.kept.descriptors()),
+    };
+    PlannedEntry::with_extent(&entry, first, file.address)
+}
+
 /// The entry of a directory whose data are at `extent`.
 fn directory_entry(directory: &NewDirectory, extent: Extent) -> PlannedEntry<'static>
     requires proper { IsProper directory.now.content.dir }
@@ -160,7 +206,7 @@ fn directory_entry(directory: &NewDirectory, extent: Extent) -> PlannedEntry<'st
     requires room { extent.first + div_ceil extent.size BLOCK_BYTES ≤ PARTITION_BLOCKS }
     requires blocks { length (directory_blocks directory.now.content.dir extent.first) ≡ div_ceil extent.size BLOCK_BYTES }
     ensures describes { SaysPlace directory.now.address extent directory.now.moment result }
-    ensures written { WritesNode udf (directory_writing directory.now) extent.first (directory_blocks directory.now.content.dir extent.first ++ result ∷ []) (extent.first + div_ceil extent.size BLOCK_BYTES) }
+    ensures written { (medium : List (List ℕ)) → WritesNode udf medium (directory_writing directory.now) extent.first (directory_blocks directory.now.content.dir extent.first ++ result ∷ []) (extent.first + div_ceil extent.size BLOCK_BYTES) }
 {
     let content = &directory.content;
     // Unused: it gives the proof that the parent's address has 32 bits.
@@ -176,10 +222,15 @@ fn directory_entry(directory: &NewDirectory, extent: Extent) -> PlannedEntry<'st
     PlannedEntry::new(&entry, directory.address)
 }
 
-/// The bytes of a file that are outside its entry: all or none.
-pub(crate) fn outside_of(bytes: &[u8]) -> &[u8]
-    ensures { result.now ≡ outside bytes.now }
+/// The new bytes of a file that are outside its entry: all or none. If the file keeps others, they are all outside.
+pub(crate) fn outside_of<'r>(file: &NewFile<'r>) -> &'r [u8]
+    ensures value { result.now ≡ outside_after (full_size file.now.kept) file.now.bytes.now }
+    ensures few { length result.now ≤ FILE_BYTES }
 {
+    let bytes = file.bytes.as_slice();
+    if !file.kept.is_empty() {
+        return bytes;
+    }
     if bytes.len() > INSIDE_BYTES {
         bytes
     } else {
@@ -192,7 +243,7 @@ fn place_of_bytes(bytes: &[u8], first: u32) -> Place<'_>
     requires few { length bytes.now ≤ FILE_BYTES }
     requires room { first + div_ceil (length (outside bytes.now)) BLOCK_BYTES ≤ PARTITION_BLOCKS }
     ensures fits { FitsPlace File (length bytes.now) (place_of result) }
-    ensures places { (from : ℕ) (blocks : List (List ℕ)) → IsPlaced udf (outside bytes.now) from first blocks → PlacesFile udf bytes.now from blocks (said_place (place_of result)) }
+    ensures places { (medium : List (List ℕ)) (from : ℕ) (blocks : List (List ℕ)) → IsPlaced udf (outside bytes.now) from first blocks → PlacesFile udf medium 0 bytes.now from blocks (said_place (place_of result)) }
 {
     if bytes.is_empty() {
         Place::None

@@ -1,7 +1,7 @@
 //! The plan of a whole commit, that is which blocks it writes and where, and the writes.
 
 ghost use Rattle.limits.specs.declared.TheConstants.{BLOCK_BYTES, FILE_BYTES, PARTITION_BLOCKS, PARTITION_START};
-ghost use Rattle.std.specs.Prelude.{min, ◌≡◌, ◌+◌, ◌-◌, ◌*◌, ◌<◌, ◌≤◌, ◌^◌, ◌++◌, [], ◌∷◌, None, Some, IfOk, IfErr, OnOk, OnErr, IfSome, All, Err, false, is_err, length, ◌⊎◌};
+ghost use Rattle.std.specs.Prelude.{min, List, ℕ, ◌≡◌, ◌+◌, ◌-◌, ◌*◌, ◌<◌, ◌≤◌, ◌^◌, ◌++◌, [], ◌∷◌, None, Some, IfOk, IfErr, OnOk, OnErr, IfSome, All, Err, false, is_err, length, ◌⊎◌};
 ghost use Rattle.std.specs.Int.{div_ceil};
 ghost use Rattle.drive.specs.Journal.{next_of, written, AddsPrefix};
 ghost use Rattle.drive.specs.Reads.{ReadsOnly, WritesOnly};
@@ -10,6 +10,7 @@ ghost use Rattle.drive.specs.Waiting.{next_address, TakesBlocks, Stops};
 ghost use Rattle.dir.specs.Size.{name_sizes, plain_sizes};
 ghost use Rattle.durability.specs.Formats.Kind.{Table};
 ghost use Rattle.durability.specs.Formats.NodePlace.{Extent};
+ghost use Rattle.durability.specs.Plan.{WritesNodes};
 ghost use Rattle.recover.specs.declared.fault.StoreFault.TheVariants.{Full, Memory};
 ghost use Rattle.udf.specs.Udf.{udf};
 ghost use Rattle.vat.specs.Table.{FitsTable, view};
@@ -21,9 +22,10 @@ ghost use Rattle.planning.specs.Needs as needs;
 ghost use Rattle.planning.specs.Plan.{IsPlan, IsTablePlaced, file_list, node_list, file_writings, file_written, directory_list, directories_list, directories_writings, directories_written, plan_blocks, table_data};
 ghost use Rattle.table_update.specs.Full.{OnlyMemoryIsShort};
 ghost use Rattle.table_update.specs.TableChange.{IsFree, IsNext, IsRemovable};
-ghost use Rattle.planning.specs.Writings.{IsProper, new_file};
+ghost use Rattle.planning.specs.Writings.{AreKeptOn, IsProper, new_file};
 
-use crate::change::{Change, NewDirectory, NewFile};
+use crate::change::{Change, NewDirectory};
+use crate::file::NewFile;
 use crate::layout::{PlacedDirectory, PlacedFile, PlacedTable};
 use crate::places::{Numbers, outside_of};
 use crate::write::Writer;
@@ -71,10 +73,11 @@ impl Plan<'_> {
         Ok(())
     }
 
-    /// How many encoded blocks are held during all writes: those of the table's data.
+    /// How many encoded blocks are held during all writes: those of the table's data, and a file's entry.
     fn held(&self) -> usize {
         let bytes = self.table.bytes.len();
-        bytes.div_ceil(BLOCK_SIZE)
+        let entries = usize::from(self.file.is_some());
+        bytes.div_ceil(BLOCK_SIZE).saturating_add(entries)
     }
 
     /// The greatest number of encoded blocks that were held at once.
@@ -100,9 +103,8 @@ fn write_file<'r, D: Drive>(
     let Some(placed) = file else {
         return Ok(());
     };
-    let bytes = placed.file.bytes.as_slice();
-    writer.lend_bytes(drive, placed.gap, outside_of(bytes))?;
-    writer.put_entry(drive, &placed.entry)?;
+    writer.lend_bytes(drive, placed.gap, outside_of(&placed.file))?;
+    writer.put(drive, &placed.entry)?;
     Ok(())
 }
 
@@ -191,7 +193,7 @@ impl LastTable<'_> {
         ensures room { OnOk result (next_of (D.journal drive.old) + need_of self.now request.now change.entry ≤ self.now.capacity) }
         ensures full { result ≡ Err Full → self.now.capacity < next_of (D.journal drive.old) + need_of self.now request.now change.entry }
         // If the table takes each change, nothing else is refused.
-        ensures refused { IsTakenBy moment change.entry (table_committed self.now request.now change.entry) → IfErr result (λ fault. IsShortage fault ⊎ (fault ≡ Full)) }
+        ensures refused { (medium : List (List ℕ)) → IsTakenBy medium moment change.entry (table_committed self.now request.now change.entry) → IfErr result (λ fault. IsShortage fault ⊎ (fault ≡ Full)) }
         ensures reads { ReadsOnly D.Drive (devices result) drive.old drive.new }
     {
         let next = match drive.next() {
@@ -220,7 +222,7 @@ impl LastTable<'_> {
         requires room { next + needs.change_need change (view vat) ≤ self.now.capacity }
         ensures plan { IfOk result (IsPlan next self.now.capacity) }
         ensures makes { IfOk result (IsPlanOf change.entry moment vat) }
-        ensures refused { IsTakenWith None moment change.entry (view vat) → IfErr result (λ fault. fault ≡ Memory) }
+        ensures refused { (medium : List (List ℕ)) → IsTakenWith medium None moment change.entry (view vat) → IfErr result (λ fault. fault ≡ Memory) }
         ensures apart { IsApartFromDrive result }
     {
         let mut numbers = Numbers::new(next - PARTITION_START, self.capacity - PARTITION_START);
@@ -316,7 +318,7 @@ fn file_need(file: &Option<NewFile<'_>>) -> u64
     let Some(file) = file else {
         return 0;
     };
-    let outside = outside_of(file.bytes.as_slice());
+    let outside = outside_of(file);
     2 * u64::from(block_count(outside.len() as u32)) + 1
 }
 
@@ -355,8 +357,10 @@ fn enter_file<'r>(
 ) -> Result<Option<PlacedFile<'r>>, StoreFault>
     requires fits { FitsTable (view vat.old) }
     requires room { numbers.old.next + needs.file_need file ≤ numbers.old.end }
-    ensures enters { IfOk result (λ placed. Enters vat.old vat.new numbers.old numbers.new (file_writings moment placed) (file_list placed) (file_written placed) (needs.file_need file.entry)) }
-    ensures writings { IfOk result (λ placed. file_writings moment placed ≡ new_file moment file.entry) }
+    ensures enters { IfOk result (λ placed. Enters vat.old vat.new numbers.old numbers.new (file_list placed) (file_written placed) (needs.file_need file.entry)) }
+    ensures written { IfOk result (λ placed. (medium : List (List ℕ)) → IfSome placed (λ p. AreKeptOn medium p.file) → WritesNodes udf medium (file_writings medium moment placed) numbers.old.next (file_list placed) (file_written placed)) }
+    ensures writings { IfOk result (λ placed. (medium : List (List ℕ)) → file_writings medium moment placed ≡ new_file medium moment file.entry) }
+    ensures kept { IfOk result (λ placed. (medium : List (List ℕ)) → IfSome file.entry (AreKeptOn medium) → IfSome placed (λ p. AreKeptOn medium p.file)) }
     ensures end { numbers.new.end ≡ numbers.old.end }
     ensures used { IfSome file.entry (λ f. IsUsed f.address vat.old.entries.items) → is_err result ≡ false }
     ensures apart { IsApartFromDrive result }
@@ -384,7 +388,8 @@ fn enter_directories(
     requires fits { FitsTable (view vat.old) }
     requires proper { All (λ d. IsProper d.content.dir) directories.items }
     requires room { numbers.old.next + needs.directories_need directories.items ≤ numbers.old.end }
-    ensures enters { IfOk result (λ placed. Enters vat.old vat.new numbers.old numbers.new (directories_writings placed.items) (directories_list placed.items) (directories_written placed.items) (needs.directories_need directories.items)) }
+    ensures enters { IfOk result (λ placed. Enters vat.old vat.new numbers.old numbers.new (directories_list placed.items) (directories_written placed.items) (needs.directories_need directories.items)) }
+    ensures written { IfOk result (λ placed. (medium : List (List ℕ)) → WritesNodes udf medium (directories_writings placed.items) numbers.old.next (directories_list placed.items) (directories_written placed.items)) }
     ensures placed { IfOk result (λ placed. ArePlacedFrom numbers.old.next directories.items placed.items) }
     ensures end { numbers.new.end ≡ numbers.old.end }
     ensures used { All (λ d. IsUsed d.address vat.old.entries.items) directories.items → IfErr result (λ fault. fault ≡ Memory) }

@@ -18,7 +18,7 @@ returns-clause-describes c = record {
 }
 
 pub returns-clause-written : goal.returns-clause-written
-returns-clause-written c =
+returns-clause-written c medium =
     let d = c.args.directory.now in
     let dir = d.content.dir in
     let first = c.args.extent.first in

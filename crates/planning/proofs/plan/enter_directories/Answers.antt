@@ -41,7 +41,7 @@ loop-directory-init c =
       fits = c.requires.fits;
       below = λ h. h;
       stays = record { previous = refl; commits = refl; unique = refl; need = refl };
-      written = subst (λ (ps : List PlacedDirectory). WritesNodes udf (directories_writings ps) start (directories_list ps) (directories_written ps)) (sym none) (refl, refl);
+      written = λ medium. subst (λ (ps : List PlacedDirectory). WritesNodes udf medium (directories_writings ps) start (directories_list ps) (directories_written ps)) (sym none) (refl, refl);
       laid = subst (λ (ps : List PlacedDirectory). AreLaid start ps) (sym none) tt;
       room = omega (arith, ap directories_need gives.0);
       next = subst (λ (ps : List PlacedDirectory). start ≡ start + length (directories_list ps)) (sym none) (omega arith);
@@ -54,12 +54,14 @@ returns-clause-enters c =
     record {
       table = so_far.table;
       fits = so_far.fits;
-      written = so_far.written;
       next = so_far.next;
       most = omega (arith, so_far.room);
       below = so_far.below;
       stays = so_far.stays;
     }
+
+pub returns-clause-written : goal.returns-clause-written
+returns-clause-written c = c.loop-directory.invariant.written
 
 pub returns-clause-placed : goal.returns-clause-placed
 returns-clause-placed c =
@@ -77,7 +79,7 @@ loop-directory-preserved c =
     let next = c.place_directory-placed.new.self.next in
     let all = c.loop-directory.all.items in
     let p = c.place_directory-placed.result in
-    let ends = node_ends (directory_writing p.directory) now (directory_list p) p.number c.place_directory-placed.ensures.written in
+    let ends = node_ends [] (directory_writing p.directory) now (directory_list p) p.number (c.place_directory-placed.ensures.written []) in
     let later : now + PARTITION_START ≤ next + PARTITION_START = omega (arith, ends, c.place_directory-placed.ensures.next) in
     let number : p.number + PARTITION_START < next + PARTITION_START = omega (arith, c.place_directory-placed.ensures.next) in
     let d = c.in-Some.directory in
@@ -110,7 +112,7 @@ loop-directory-preserved c =
         unique = c.place_node.ensures.stays.unique ∙ c.loop-directory.invariant.stays.unique;
         need = c.place_node.ensures.stays.need ∙ c.loop-directory.invariant.stays.need;
       };
-      written = subst (λ (ps : List PlacedDirectory). WritesNodes udf (directories_writings ps) start (directories_list ps) (directories_written ps)) pushed (written_push all p start now c.loop-directory.invariant.next c.loop-directory.invariant.written c.place_directory-placed.ensures.written);
+      written = λ medium. subst (λ (ps : List PlacedDirectory). WritesNodes udf medium (directories_writings ps) start (directories_list ps) (directories_written ps)) pushed (written_push all p start now c.loop-directory.invariant.next c.loop-directory.invariant.written c.place_directory-placed.ensures.written medium);
       laid = subst (λ (ps : List PlacedDirectory). AreLaid start ps) pushed (laid_push all p start now c.loop-directory.invariant.next c.loop-directory.invariant.laid c.place_directory-placed.ensures.laid);
       room = omega (arith, c.loop-directory.invariant.room, ap directories_need c.in-Some.ensures.steps.0, c.place_directory-placed.ensures.most);
       next = subst (λ (ps : List PlacedDirectory). next ≡ start + length (directories_list ps)) pushed (omega (arith, ends, c.place_directory-placed.ensures.next, c.loop-directory.invariant.next, ap length (list_push all p), length-append (directories_list all) (directory_list p)));

@@ -2,6 +2,7 @@ use Rattle.std.proofs.Common.{◌≡◌, ◌+◌, ◌≤◌, ◌++◌, length}
 use Rattle.std.specs.Prelude.{All}
 use Rattle.std.specs.Vec.Iter.{into_iter_items, into_iter_len}
 use Rattle.limits.specs.declared.TheConstants.{PARTITION_START}
+use Rattle.durability.specs.Volume.{Medium}
 use Rattle.durability.specs.Plan.{WritesNodes}
 use Rattle.udf.specs.Udf.{udf}
 use Rattle.vat.specs.Table.{FitsTable, view}
@@ -24,7 +25,7 @@ invariant-loop-directory l = record {
   fits : FitsTable (view l.vat);
   below : AreBelow (l.fn.numbers.next + PARTITION_START) l.fn.vat.entries.items → AreBelow (l.numbers.next + PARTITION_START) l.vat.entries.items;
   stays : OnlyNodesChange l.fn.vat l.vat;
-  written : WritesNodes udf (directories_writings l.all.items) l.fn.numbers.next (directories_list l.all.items) (directories_written l.all.items);
+  written : (medium : Medium) → WritesNodes udf medium (directories_writings l.all.items) l.fn.numbers.next (directories_list l.all.items) (directories_written l.all.items);
   laid : AreLaid l.fn.numbers.next l.all.items;
   room : l.numbers.next + directories_need (into_iter_items l.directory-iterator) ≤ l.fn.numbers.next + directories_need l.fn.directories.items;
   next : l.numbers.next ≡ l.fn.numbers.next + length (directories_list l.all.items);

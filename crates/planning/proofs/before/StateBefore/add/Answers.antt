@@ -6,6 +6,7 @@ use Rattle.std.specs.FinMap.{len}
 use Rattle.std.specs.Cmp.Lexicographic.{pointwise}
 use Rattle.std.proofs.lemmas.Bool.{true≢false, le-ltb}
 use Rattle.dir.specs.declared.entry.Entry.{Entry}
+use Rattle.drive.specs.Journal.{held}
 use Rattle.durability.specs.Plan.{Writing}
 use Rattle.model.specs.Change.{new_body}
 use Rattle.model.specs.Graph.{as_stored}
@@ -99,15 +100,16 @@ returns-clause-does g c tree s few =
     let missing : found ≡ None = unlisted_yet found (length listed) c.args.self.now.node_count zero_by in
     let entry : Entry = record { kind = c.in_ok-kind.kind; virtual_address = c.free_address-address.result; unique = identity } in
     let free_is = c.free_address-address.ensures ∙ free_same (looks_then {n = 0} p q) in
-    let node : ℕ → List Writing = λ a. record { address = a; stored = as_stored identity moment (new_body parent.address (content_of_thing what)) } ∷ [] in
-    let first = c.in_ok-kind.ensures.put c.new-change.ensures.file c.new-change.ensures.directories ∙ ap node free_is in
+    let node : ℕ → List Writing = λ a. record { address = a; kept = 0; stored = as_stored identity moment (new_body parent.address (content_of_thing what)) } ∷ [] in
+    let M = held (g.D.Drive.journal a.drive.now) in
+    let first = c.in_ok-kind.ensures.put M c.new-change.ensures.file c.new-change.ensures.directories ∙ ap node free_is in
     let put = c.in_ok-put_name.ensures.put in
     let d = put.0 in
     let is = put.2 in
     let same = c.in_ok-put_name.ensures.same in
     adds graph (free_seen a) moment identity path above name c.in-Some.ensures.cases.0 what tree parent here.0 c.in_ok-placed.placed content shown c.put_new.new.self c.put_name.new.self entry d
     (code_there ∙ zero_there) (same.code ∙ (c.in_ok-kind.ensures.code ∙ c.new-change.ensures.code)) (same.made ∙ (c.in_ok-kind.ensures.made path ∙ ap (λ (a : ℕ). made_by (addition path what) a) free_is))
-    (same.removed ∙ (c.in_ok-kind.ensures.removed ∙ c.new-change.ensures.removed)) first same.file put.1 is.address is.unique is.moment_is
+    (same.removed ∙ (c.in_ok-kind.ensures.removed ∙ c.new-change.ensures.removed)) first (c.in_ok-kind.ensures.kept M c.new-change.ensures.file) same.file put.1 is.address is.unique is.moment_is
     is.parent (is.entries_are ∙ put_last name content entry missing) c.in_ok-kind.ensures.kind free_is refl
 
 pub returns-clause-looks : goal.returns-clause-looks

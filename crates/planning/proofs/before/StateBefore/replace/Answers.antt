@@ -1,12 +1,11 @@
-use Rattle.std.proofs.Common.{◌∙◌, sym, subst, refl, Option, Some}
+use Rattle.std.proofs.Common.{◌∙◌, [], sym, subst, refl, Option}
 use Rattle.model.specs.Operation.Operation.{Replace}
 use Rattle.request.specs.declared.answer.Code.TheVariants as code
 use Rattle.recover.specs.declared.node.Node.{Node}
 use Rattle.lookup.specs.Lookups.{free_seen, graph_seen}
 use Rattle.lookup.specs.Shows.{IsFound}
 use Rattle.lookup.proofs.Looking.{failed}
-use Rattle.planning.specs.declared.change.Change.{Change}
-use Rattle.planning.specs.declared.change.NewFile.{NewFile}
+use Rattle.planning.specs.Changes.{WritesFile}
 use Rattle.planning.proofs.Replacing.{refuses, replace_root, replace_missing, replace_directory, replaces}
 use Rattle.planning.proofs.before.StateBefore.replace.Goals as goal
 
@@ -45,10 +44,21 @@ pub returns-clause-does : goal.returns-clause-does
 returns-clause-does g c tree moment identity s =
     let a = c.args.self.now.lookup in
     let here = subst (λ (o : Option Node). IsFound (graph_seen g.D.Drive a) tree c.args.names.now o) c.in-Some.is (c.in_ok-node.ensures.found tree s).0 in
-    let done = c.new-change.result in
-    let file : NewFile = record { address = c.in-Some.node.address; unique = c.in-Some.node.unique; bytes = c.args.bytes } in
-    let change : Change = record { code = done.code; file = Some file; directories = done.directories; made = done.made; removed = done.removed } in (
-      replaces a.nodes.vat_icb_address a.nodes.numbers.now (g.D.Drive.journal a.drive.now) tree s.tree s.makes (free_seen a) moment identity c.args.names.now c.in-Some.node file done change (sym c.is_empty.ensures ∙ c.if-is_empty.false) here (sym c.is_directory.ensures ∙ c.if-is_directory.false)
-          (record { code_is = c.new-change.ensures.code; file = c.new-change.ensures.file; directories = c.new-change.ensures.directories; made = c.new-change.ensures.made; removed = c.new-change.ensures.removed }) refl refl refl refl refl refl refl,
+    let f = c.whole-file.ensures in
+    let e = c.of_file.ensures in
+    let writes : WritesFile c.in-Some.node [] c.args.bytes.now c.of_file.result = record {
+      file = c.whole-file.result;
+      file_is = e.file;
+      address = f.address;
+      unique = f.unique;
+      kept = f.kept;
+      bytes_are = f.bytes;
+      code = e.code;
+      directories = e.directories;
+      made = e.made;
+      removed = e.removed;
+    } in (
+      replaces a.nodes.vat_icb_address a.nodes.numbers.now (g.D.Drive.journal a.drive.now) tree s.tree s.makes (free_seen a) moment identity c.args.names.now c.in-Some.node c.args.bytes.now c.of_file.result (sym c.is_empty.ensures ∙ c.if-is_empty.false) here
+          (sym c.is_directory.ensures ∙ c.if-is_directory.false) writes,
       tt,
     )

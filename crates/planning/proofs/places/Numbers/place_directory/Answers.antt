@@ -31,11 +31,11 @@ directory_entry-entry-requires-clause-room c =
     omega (arith, blocks, c.take.ensures.next, c.take.new.self.within, c.take.new.self.partition)
 
 pub returns-clause-written : goal.returns-clause-written
-returns-clause-written c =
+returns-clause-written c medium =
     let blocks : c.blocks-2.result ≡ (c.bytes.result + 2047) / BLOCK_BYTES = c.blocks-2.ensures.size ∙ ap block_count (sym c.bytes.ensures) in
     let from = c.args.self.now.next in
     let number : from + div_ceil c.bytes.result BLOCK_BYTES ≡ c.take.new.self.next = omega (arith, blocks, c.take.ensures.next) in
-    subst (λ n. WritesNode udf (directory_writing c.args.directory) from (directory_blocks c.args.directory.content.dir from ++ c.directory_entry-entry.result ∷ []) n) number c.directory_entry-entry.ensures.written
+    subst (λ n. WritesNode udf medium (directory_writing c.args.directory) from (directory_blocks c.args.directory.content.dir from ++ c.directory_entry-entry.result ∷ []) n) number (c.directory_entry-entry.ensures.written medium)
 
 pub returns-clause-laid : goal.returns-clause-laid
 returns-clause-laid c =

@@ -3,6 +3,7 @@ use Rattle.std.specs.Prelude.{All, IfSome, Option}
 use Rattle.std.proofs.lemmas.Bool.{false≢true}
 use Rattle.std.proofs.lemmas.Result.{err_from_is_err_and}
 use Rattle.limits.specs.declared.TheConstants.{PARTITION_START}
+use Rattle.durability.specs.Volume.{Medium}
 use Rattle.durability.specs.Plan.{Writing, WritesNodes}
 use Rattle.udf.specs.Udf.{udf}
 use Rattle.vat.specs.declared.table.Vat.{Vat}
@@ -57,12 +58,14 @@ returns-clause-plan c =
     let first = below_later c.args.self.now.vat_icb_address (start + PARTITION_START) c.args.vat.entries.items (omega (arith, begins, low, c.requires.agrees.on)) c.requires.begun.below in
     let gone = c.in_ok-take_away.ensures.gone.below (node_end + PARTITION_START) (c.in_ok-directories.ensures.enters.below (c.in_ok-file.ensures.enters.below first)) in
     let all : AreBelow at c.take_away.new.vat.entries.items = below_later (node_end + PARTITION_START) at c.take_away.new.vat.entries.items (omega (arith, c.in_ok-table.ensures.placed.number)) gone in
-    let second = subst (λ n. WritesNodes udf (directories_writings directories) n (directories_list directories) (directories_written directories)) c.in_ok-file.ensures.enters.next c.in_ok-directories.ensures.enters.written in
-    let both = writes-append (file_writings c.args.moment file) (directories_writings directories) start (file_list file) (directories_list directories) (file_written file) (directories_written directories) c.in_ok-file.ensures.enters.written second in
+    let second : (medium : Medium) → WritesNodes udf medium (directories_writings directories) (start + length (file_list file)) (directories_list directories) (directories_written directories) =
+    λ medium. subst (λ n. WritesNodes udf medium (directories_writings directories) n (directories_list directories) (directories_written directories)) c.in_ok-file.ensures.enters.next (c.in_ok-directories.ensures.written medium) in
     record {
       begins = c.in_ok-new.ensures;
       low = low;
-      nodes = subst (λ n. WritesNodes udf (file_writings c.args.moment file ++ directories_writings directories) n nodes (file_written file ++ directories_written directories)) begins both;
+      nodes = λ medium kept.
+          subst (λ n. WritesNodes udf medium (file_writings medium c.args.moment file ++ directories_writings directories) n nodes (file_written file ++ directories_written directories)) begins
+          (writes-append medium (file_writings medium c.args.moment file) (directories_writings directories) start (file_list file) (directories_list directories) (file_written file) (directories_written directories) (c.in_ok-file.ensures.written medium kept) second);
       laid = subst (λ n. AreLaid n directories) (c.in_ok-file.ensures.enters.next ∙ ap (λ n. n + length (file_list file)) begins) c.in_ok-directories.ensures.placed.laid;
       table = subst (λ n. IsTablePlaced n c.args.moment table) size c.in_ok-table.ensures.placed;
       fits = omega (arith, c.in_ok-table.ensures.within, c.in_ok-directories.ensures.end, c.in_ok-file.ensures.end, c.new-numbers.ensures.end, c.requires.agrees.least);
@@ -83,32 +86,33 @@ returns-clause-makes c =
       code = refl;
       commit = refl;
       moment_is = refl;
-      writings = ap (λ (ws : List Writing). ws ++ directories_writings c.in_ok-directories.directories.items) c.in_ok-file.ensures.writings
-          ∙ ap (λ (ws : List Writing). new_file c.args.moment c.args.change.file ++ ws) c.in_ok-directories.ensures.placed.writings;
+      writings = λ medium. ap (λ (ws : List Writing). ws ++ directories_writings c.in_ok-directories.directories.items) (c.in_ok-file.ensures.writings medium)
+          ∙ ap (λ (ws : List Writing). new_file medium c.args.moment c.args.change.file ++ ws) c.in_ok-directories.ensures.placed.writings;
+      kept = c.in_ok-file.ensures.kept;
       table = ap view c.in_ok-table.ensures.vat
           ∙ c.in_ok-take_away.ensures.gone.table
           ∙ ap (without_gone c.args.change.removed) (c.in_ok-directories.ensures.enters.table ∙ ap (all_placed directories) c.in_ok-file.ensures.enters.table ∙ sym (placed_append file directories (view c.args.vat)));
     }
 
 pub returns-in_err-file-clause-refused : goal.returns-in_err-file-clause-refused
-returns-in_err-file-clause-refused c takes =
-    absurd (false≢true (sym (c.in_err-file.ensures.used (file_used None c.args.moment c.args.change (view c.args.vat) takes))))
+returns-in_err-file-clause-refused c medium takes =
+    absurd (false≢true (sym (c.in_err-file.ensures.used (file_used medium None c.args.moment c.args.change (view c.args.vat) takes))))
 
 pub returns-in_err-directories-clause-refused : goal.returns-in_err-directories-clause-refused
-returns-in_err-directories-clause-refused c takes =
+returns-in_err-directories-clause-refused c medium takes =
     let p = err_from_is_err_and c.from_residual-in_err-directories.result c.from_residual-in_err-directories.ensures.1 in
-    let used = directories_used None c.args.moment c.args.change (view c.args.vat) takes c.in_ok-file.file c.in_ok-file.ensures.writings in
+    let used = directories_used medium None c.args.moment c.args.change (view c.args.vat) takes c.in_ok-file.file (c.in_ok-file.ensures.writings medium) in
     let there = subst (λ (t : Table). All (λ (d : NewDirectory). IsUsed d.address t.entries) c.args.change.directories.items) (sym c.in_ok-file.ensures.enters.table) used in
     rw p.1 (p.2 ∙ c.in_err-directories.ensures.used there)
 
 pub returns-in_err-take_away-clause-refused : goal.returns-in_err-take_away-clause-refused
-returns-in_err-take_away-clause-refused c takes =
-    let gone = gone_there None c.args.moment c.args.change (view c.args.vat) takes c.in_ok-file.file c.in_ok-file.ensures.writings c.in_ok-directories.directories.items c.in_ok-directories.ensures.placed.writings in
+returns-in_err-take_away-clause-refused c medium takes =
+    let gone = gone_there medium None c.args.moment c.args.change (view c.args.vat) takes c.in_ok-file.file (c.in_ok-file.ensures.writings medium) c.in_ok-directories.directories.items c.in_ok-directories.ensures.placed.writings in
     let table = c.in_ok-directories.ensures.enters.table ∙ ap (all_placed (directories_written c.in_ok-directories.directories.items)) c.in_ok-file.ensures.enters.table in
     let there = subst (λ (t : Table). IfSome c.args.change.removed (λ (node : Node). IsRemovable node.kind node.address t)) (sym table) gone in
     absurd (false≢true (sym (c.in_err-take_away.ensures.there there)))
 
 pub returns-in_err-new-clause-refused : goal.returns-in_err-new-clause-refused
-returns-in_err-new-clause-refused c takes =
+returns-in_err-new-clause-refused c medium takes =
     let p = err_from_is_err_and c.from_residual-in_err-new.result c.from_residual-in_err-new.ensures.1 in
     rw p.1 p.2

@@ -29,9 +29,9 @@ place-requires-clause-agrees g c = record {
 }
 
 pub returns-in_err-vat-clause-refused : goal.returns-in_err-vat-clause-refused
-returns-in_err-vat-clause-refused g c takes =
+returns-in_err-vat-clause-refused g c medium takes =
     let p = err_from_is_err_and c.from_residual.result c.from_residual.ensures.1 in
-    rw p.1 (inl (inr (p.2 ∙ c.in_err-vat.ensures.free (made_free c.args.change.made c.args.moment c.args.change (committed c.args.self.now.vat_icb_address c.args.request.now.client c.args.request.now.number (code_number c.args.change.code) (view c.args.self.now.vat.now)) takes))))
+    rw p.1 (inl (inr (p.2 ∙ c.in_err-vat.ensures.free (made_free medium c.args.change.made c.args.moment c.args.change (committed c.args.self.now.vat_icb_address c.args.request.now.client c.args.request.now.number (code_number c.args.change.code) (view c.args.self.now.vat.now)) takes))))
 
 pub returns-clause-plan : goal.returns-clause-plan
 returns-clause-plan g c = IfOk-weaker c.place.result (IsPlan c.in-Ok.next c.args.self.now.capacity) (IsPlan (next_of (g.D.Drive.journal c.args.drive.now)) (g.D.Drive.capacity c.args.drive.now)) plan c.place.ensures.plan
@@ -48,6 +48,7 @@ returns-clause-makes g c = IfOk-weaker c.place.result (IsPlanOf c.args.change c.
       commit = h.commit ∙ c.in_ok-vat.ensures.begins.begun_is.commits;
       moment_is = h.moment_is;
       writings = h.writings;
+      kept = h.kept;
       table = h.table ∙ ap (λ (t : Table). without_gone c.args.change.removed (all_placed (plan_written p) t)) c.in_ok-vat.ensures.begins.table;
     }
 
@@ -61,9 +62,9 @@ returns-clause-room g c =
     if_so (Err y) p = tt
 
 pub returns-clause-refused : goal.returns-clause-refused
-returns-clause-refused g c takes =
+returns-clause-refused g c medium takes =
     IfErr-weaker c.place.result (λ (fault : StoreFault). fault ≡ Memory) (λ (fault : StoreFault). IsShortage fault ⊎ (fault ≡ Full)) (λ fault memory. inl (inr memory))
-    (c.place.ensures.refused (subst (IsTakenWith None c.args.moment c.args.change) (sym c.in_ok-vat.ensures.begins.table) (taken_after c.args.change.made c.args.moment c.args.change (table_committed c.args.self.now c.args.request.now c.args.change) takes)))
+    (c.place.ensures.refused medium (subst (IsTakenWith medium None c.args.moment c.args.change) (sym c.in_ok-vat.ensures.begins.table) (taken_after medium c.args.change.made c.args.moment c.args.change (table_committed c.args.self.now c.args.request.now c.args.change) takes)))
 
 pub returns-clause-reads : goal.returns-clause-reads
 returns-clause-reads g c =
