@@ -84,7 +84,7 @@ module _ (capacity volume : ℕ) (J : List Event) (S : State) (store : Store) (k
   )
   short r refusal J' now (inr memory) same again = inr (inl (memory, record { journal = same; knows = λ going. again }))
 
-  module _ (r : asking.Request) (change : Change) (does : IsChangeOf (graph_below store.vat_icb_address store.vat.entries.items J) (free_address store.vat.entries.items) S.tree (model_operation r.op) r.moment store.vat.sessions.next_unique change) where
+  module _ (r : asking.Request) (change : Change) (does : IsChangeOf (held J) (graph_below store.vat_icb_address store.vat.entries.items J) (free_address store.vat.entries.items) S.tree (model_operation r.op) r.moment store.vat.sessions.next_unique change) where
     -- so many blocks from the end of the journal on
     abbrev most : ℕ
     most = next_of J + change_need change (begun store.vat_icb_address r.client r.number (code_number change.code) change.made (view store.vat))

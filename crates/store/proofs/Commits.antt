@@ -31,7 +31,8 @@ makes_plan store last request change plan moment at makes address vat = record {
   moment = makes.moment_is ∙ at;
   code = makes.code;
   commit = makes.commit ∙ ap (λ (v : Vat). v.sessions.commits + 1) vat;
-  writings = makes.writings ∙ ap (λ (m : ℕ). change_writings m change) at;
+  writings = λ medium. makes.writings medium ∙ ap (λ (m : ℕ). change_writings medium m change) at;
+  kept = makes.kept;
   table = makes.table ∙ (λ i. next_table (address i) request.client request.number (code_number change.code) change.made (plan_written plan) change.removed (view (vat i)));
 }
 

@@ -65,10 +65,10 @@ module _ (capacity volume : ℕ) (J : List Event) (S : State) (store : Store) (k
 
   -- at the request's own moment
   pub does_at : (r : asking.Request) (change : Change) (moment : ℕ) → moment ≡ r.moment
-      → IsChangeOf (graph_below store.vat_icb_address store.vat.entries.items J) (free_address store.vat.entries.items) S.tree (model_operation r.op) moment store.vat.sessions.next_unique change
-      → IsChangeOf (graph_below store.vat_icb_address store.vat.entries.items J) (free_address store.vat.entries.items) S.tree (model_operation r.op) r.moment store.vat.sessions.next_unique change
+      → IsChangeOf (held J) (graph_below store.vat_icb_address store.vat.entries.items J) (free_address store.vat.entries.items) S.tree (model_operation r.op) moment store.vat.sessions.next_unique change
+      → IsChangeOf (held J) (graph_below store.vat_icb_address store.vat.entries.items J) (free_address store.vat.entries.items) S.tree (model_operation r.op) r.moment store.vat.sessions.next_unique change
   does_at r change moment at =
-      subst (λ (m : ℕ). IsChangeOf (graph_below store.vat_icb_address store.vat.entries.items J) (free_address store.vat.entries.items) S.tree (model_operation r.op) m store.vat.sessions.next_unique change) at
+      subst (λ (m : ℕ). IsChangeOf (held J) (graph_below store.vat_icb_address store.vat.entries.items J) (free_address store.vat.entries.items) S.tree (model_operation r.op) m store.vat.sessions.next_unique change) at
 
   -- the nodes are counted
   pub nodes : store.vat.files + store.vat.directories ≡ len S.tree
@@ -93,26 +93,26 @@ module _ (capacity volume : ℕ) (J : List Event) (S : State) (store : Store) (k
     kept = kept;
   })
 
-  module _ (r : asking.Request) (change : Change) (does : IsChangeOf (graph_below store.vat_icb_address store.vat.entries.items J) (free_address store.vat.entries.items) S.tree (model_operation r.op) r.moment store.vat.sessions.next_unique change) where
+  module _ (r : asking.Request) (change : Change) (does : IsChangeOf (held J) (graph_below store.vat_icb_address store.vat.entries.items J) (free_address store.vat.entries.items) S.tree (model_operation r.op) r.moment store.vat.sessions.next_unique change) where
     abbrev request : model.Request
     request = model_request r
 
     abbrev nodes_written : List Writing
-    nodes_written = change_writings r.moment change
+    nodes_written = change_writings (held J) r.moment change
 
     -- of the newest table
-    does_there : IsChangeOf (graph_below knows.stands.at knows.stands.tells.table.entries J) (free_address knows.stands.tells.table.entries) S.tree (model_operation r.op) r.moment S.next_identity change
+    does_there : IsChangeOf (held J) (graph_below knows.stands.at knows.stands.tells.table.entries J) (free_address knows.stands.tells.table.entries) S.tree (model_operation r.op) r.moment S.next_identity change
     does_there =
         let next : store.vat.sessions.next_unique ≡ S.next_identity = ap (λ (t : Table_). t.next_identity) knows.table ∙ knows.stands.tells.next_identity in
-        let one = subst (λ (a : ℕ). IsChangeOf (graph_below a store.vat.entries.items J) (free_address store.vat.entries.items) S.tree (model_operation r.op) r.moment store.vat.sessions.next_unique change) knows.at does in
-        let two = subst (λ (es : List (Option ℕ)). IsChangeOf (graph_below knows.stands.at es J) (free_address es) S.tree (model_operation r.op) r.moment store.vat.sessions.next_unique change) entries_are one in
-        subst (λ (n : ℕ). IsChangeOf (graph_below knows.stands.at knows.stands.tells.table.entries J) (free_address knows.stands.tells.table.entries) S.tree (model_operation r.op) r.moment n change) next two
+        let one = subst (λ (a : ℕ). IsChangeOf (held J) (graph_below a store.vat.entries.items J) (free_address store.vat.entries.items) S.tree (model_operation r.op) r.moment store.vat.sessions.next_unique change) knows.at does in
+        let two = subst (λ (es : List (Option ℕ)). IsChangeOf (held J) (graph_below knows.stands.at es J) (free_address es) S.tree (model_operation r.op) r.moment store.vat.sessions.next_unique change) entries_are one in
+        subst (λ (n : ℕ). IsChangeOf (held J) (graph_below knows.stands.at knows.stands.tells.table.entries J) (free_address knows.stands.tells.table.entries) S.tree (model_operation r.op) r.moment n change) next two
 
     pub changes : (written : List Written) → map (λ (w : Written). w.address) written ≡ map (λ (n : Writing). n.address) nodes_written
         → ChangesVolume capacity volume (held J) S knows.stands request nodes_written (gone_of change) written change.made change.removed
     changes written addresses = record { done = does_there.done; refused = does_there.refused; addresses = addresses }
 
-    pub takes : IsTakenBy r.moment change (committed store.vat_icb_address r.client r.number (code_number change.code) (view store.vat))
+    pub takes : IsTakenBy (held J) r.moment change (committed store.vat_icb_address r.client r.number (code_number change.code) (view store.vat))
     takes written addresses =
         let there = changes_are_taken capacity volume (held J) S knows.stands request nodes_written (gone_of change) written change.made change.removed (view store.vat) knows.table (changes written addresses) in
         subst (λ (a : ℕ). AreTaken change.made written change.removed (committed a r.client r.number (code_number change.code) (view store.vat))) (sym knows.at)
@@ -124,19 +124,19 @@ module _ (capacity volume : ℕ) (J : List Event) (S : State) (store : Store) (k
         change_reckoned change (begun store.vat_icb_address r.client r.number (code_number change.code) change.made (view store.vat))
         ∙ (λ i. reckoned (bytes_of change.file) (all_names change.directories.items) (begun (knows.at i) r.client r.number (does.code_is i) change.made (view store.vat)))
         ∙ need_is_reckoned capacity volume (held J) S knows.stands request nodes_written (gone_of change) (bare nodes_written) change.made change.removed (view store.vat) (bytes_of change.file) (all_names change.directories.items) knows.table
-        (changes (bare nodes_written) (bare_addresses nodes_written)) (change_is_of r.moment change)
+        (changes (bare nodes_written) (bare_addresses nodes_written)) (change_is_of (held J) r.moment change does.kept)
 
     module _ (plan : Plan) (makes : IsPlanOf store r change plan) (is : IsPlan (next_of J) capacity plan) where
       size_is : next_of J ≡ length (held J)
       size_is = next_is ∙ sym (length-held J knows.once)
 
-      pub writes : WritesNodes udf nodes_written (length (held J) - PARTITION_START) (node_list plan) (plan_written plan)
+      pub writes : WritesNodes udf (held J) nodes_written (length (held J) - PARTITION_START) (node_list plan) (plan_written plan)
       writes =
-          subst (λ (n : ℕ). WritesNodes udf nodes_written (n - PARTITION_START) (node_list plan) (plan_written plan)) size_is
-          (subst (λ (ns : List Writing). WritesNodes udf ns (next_of J - PARTITION_START) (node_list plan) (plan_written plan)) makes.writings is.nodes)
+          subst (λ (n : ℕ). WritesNodes udf (held J) nodes_written (n - PARTITION_START) (node_list plan) (plan_written plan)) size_is
+          (subst (λ (ns : List Writing). WritesNodes udf (held J) ns (next_of J - PARTITION_START) (node_list plan) (plan_written plan)) (makes.writings (held J)) (is.nodes (held J) (makes.kept (held J) does.kept)))
 
       pub planned_changes : ChangesVolume capacity volume (held J) S knows.stands request nodes_written (gone_of change) (plan_written plan) change.made change.removed
-      planned_changes = changes (plan_written plan) (nodes_are_written nodes_written (length (held J) - PARTITION_START) (node_list plan) (plan_written plan) writes)
+      planned_changes = changes (plan_written plan) (nodes_are_written (held J) nodes_written (length (held J) - PARTITION_START) (node_list plan) (plan_written plan) writes)
 
       abbrev pub planned_blocks : List (List ℕ)
       planned_blocks = node_list plan ++ table_data plan.table

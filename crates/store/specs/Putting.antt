@@ -1,6 +1,7 @@
 -- What a commit writes to a drive.
-use Rattle.std.specs.Prelude.{◌≡◌, ◌⊎◌, ℕ, ◌+◌, false, true, List, ◌++◌}
+use Rattle.std.specs.Prelude.{◌≡◌, ◌⊎◌, ℕ, ◌+◌, false, true, List, ◌++◌, IfSome}
 use Rattle.drive.specs.Journal.{Event, next_of, written, AddsPrefix}
+use Rattle.durability.specs.Volume.{Medium}
 use Rattle.recover.specs.declared.fault.StoreFault.{StoreFault}
 use Rattle.recover.specs.declared.fault.StoreFault.TheVariants.{Device}
 use Rattle.request.specs.Numbers.{code_number}
@@ -9,7 +10,7 @@ use Rattle.request.specs.declared.message.Request.{Request}
 use Rattle.vat.specs.Table.{view}
 use Rattle.table_update.specs.NextTable.{next_table}
 use Rattle.planning.specs.Plan.{IsPlan, plan_blocks, plan_writings, plan_written}
-use Rattle.planning.specs.Writings.{change_writings}
+use Rattle.planning.specs.Writings.{AreKeptOn, change_writings}
 use Rattle.planning.specs.declared.change.Change.{Change}
 use Rattle.planning.specs.declared.plan.Plan.{Plan}
 use Rattle.store.specs.declared.store.Store.{Store}
@@ -19,7 +20,8 @@ pub record IsPlanOf (store : Store) (request : Request) (change : Change) (plan 
   pub moment : plan.moment ≡ request.moment
   pub code : plan.reply.code ≡ change.code
   pub commit : plan.reply.commit ≡ store.vat.sessions.commits + 1
-  pub writings : plan_writings plan ≡ change_writings request.moment change
+  pub writings : (medium : Medium) → plan_writings medium plan ≡ change_writings medium request.moment change
+  pub kept : (medium : Medium) → IfSome change.file (AreKeptOn medium) → IfSome plan.file (λ f. AreKeptOn medium f.file)
   pub table : view plan.table.vat ≡ next_table store.vat_icb_address request.client request.number (code_number change.code) change.made (plan_written plan) change.removed (view store.vat)
 
 -- All blocks of a plan were written after a journal, and the store goes on with the plan's table.

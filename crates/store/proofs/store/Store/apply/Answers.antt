@@ -3,7 +3,7 @@ use Rattle.std.specs.Prelude.{Err}
 use Rattle.std.proofs.lemmas.Bool.{false≢true}
 use Rattle.std.proofs.lemmas.Result.{err_from_is_err_and}
 use Rattle.drive.proofs.Reading.{reads_follows}
-use Rattle.drive.specs.Journal.{Event, Once, next_of}
+use Rattle.drive.specs.Journal.{Event, Once, held, next_of}
 use Rattle.recover.specs.Faults.{IsShortage}
 use Rattle.recover.specs.declared.fault.StoreFault.{StoreFault}
 use Rattle.recover.specs.declared.fault.StoreFault.TheVariants.{Full}
@@ -134,9 +134,9 @@ returns-in_err-plan-clause-applies g c volume S honest knows going =
     let after_change = c.plan.ensures.reads.honest honest in
     let of_moment : c.unwrap-moment.result ≡ c.args.request.now.moment = some_is c.of.result c.unwrap-moment.result c.args.request.now.moment _ (search rules) c.of.ensures in
     let going_on = shows capacity volume J S store knows (g.D.Drive.honest c.change.new.drive) after_change in
-    let does = does_at capacity volume J S store knows r change c.unwrap-moment.result of_moment (c.in_ok-change.ensures.does S.tree going_on (record { count = nodes capacity volume J S store knows; few = few capacity volume J S store knows })) in
-    let taken = subst (λ (m : ℕ). IsTakenBy m c.in_ok-change.change (committed c.args.self.now.vat_icb_address c.args.request.now.client c.args.request.now.number (code_number c.in_ok-change.change.code) (view c.args.self.now.vat))) (sym of_moment) (takes capacity volume J S store knows r change does) in
-    let refused : IsShortage p.0 ⊎ (p.0 ≡ Full) = subst (λ (f : StoreFault). IsShortage f ⊎ (f ≡ Full)) (sym p.2) (c.in_err-plan.ensures.refused taken) in
+    let does = does_at capacity volume J S store knows r change c.unwrap-moment.result of_moment (c.in_ok-change.ensures.does S.tree knows.once going_on (record { count = nodes capacity volume J S store knows; few = few capacity volume J S store knows })) in
+    let taken = subst (λ (m : ℕ). IsTakenBy (held J) m c.in_ok-change.change (committed c.args.self.now.vat_icb_address c.args.request.now.client c.args.request.now.number (code_number c.in_ok-change.change.code) (view c.args.self.now.vat))) (sym of_moment) (takes capacity volume J S store knows r change does) in
+    let refused : IsShortage p.0 ⊎ (p.0 ≡ Full) = subst (λ (f : StoreFault). IsShortage f ⊎ (f ≡ Full)) (sym p.2) (c.in_err-plan.ensures.refused (held J) taken) in
     let same = c.plan.ensures.reads.journal ∙ c.change.ensures.reads.journal in
     let again = knows_again capacity volume J S store knows (g.D.Drive.journal c.plan.new.drive) now same refl refl refl (c.change.ensures.kept after_change knows.kept) in
     let over = λ (e : p.0 ≡ Full). subst (λ (L : List Event). c.args.self.now.capacity < next_of L + change_need c.in_ok-change.change (begun c.args.self.now.vat_icb_address c.args.request.now.client c.args.request.now.number (code_number c.in_ok-change.change.code) c.in_ok-change.change.made (view c.args.self.now.vat))) c.change.ensures.reads.journal
@@ -156,7 +156,7 @@ returns-clause-applies g c volume S honest knows going =
     let after_change = c.plan.ensures.reads.honest after_plan in
     let of_moment : c.unwrap-moment.result ≡ c.args.request.now.moment = some_is c.of.result c.unwrap-moment.result c.args.request.now.moment _ (search rules) c.of.ensures in
     let going_on = shows capacity volume J S store knows (g.D.Drive.honest c.change.new.drive) after_change in
-    let does = does_at capacity volume J S store knows r change c.unwrap-moment.result of_moment (c.in_ok-change.ensures.does S.tree going_on (record { count = nodes capacity volume J S store knows; few = few capacity volume J S store knows })) in
+    let does = does_at capacity volume J S store knows r change c.unwrap-moment.result of_moment (c.in_ok-change.ensures.does S.tree knows.once going_on (record { count = nodes capacity volume J S store knows; few = few capacity volume J S store knows })) in
     let is : IsPlan (next_of J) capacity plan = plan_is J (g.D.Drive.journal c.change.new.drive) capacity (g.D.Drive.capacity c.change.new.drive) plan c.change.ensures.reads.journal c.change.ensures.reads.capacity c.in_ok-plan.ensures.plan in
     let makes : IsPlanOf c.args.self.now c.args.request.now change plan = makes_plan c.args.self.now _ c.args.request.now change plan c.unwrap-moment.result of_moment c.in_ok-plan.ensures.makes refl refl in
     let room = subst (λ (L : List Event). next_of L + change_need c.in_ok-change.change (begun c.args.self.now.vat_icb_address c.args.request.now.client c.args.request.now.number (code_number c.in_ok-change.change.code) c.in_ok-change.change.made (view c.args.self.now.vat)) ≤ c.args.self.now.capacity) c.change.ensures.reads.journal c.in_ok-plan.ensures.room in
@@ -177,7 +177,7 @@ returns-clause-withstands g c volume S honest knows =
     let after_change = c.plan.ensures.reads.honest after_plan in
     let of_moment : c.unwrap-moment.result ≡ c.args.request.now.moment = some_is c.of.result c.unwrap-moment.result c.args.request.now.moment _ (search rules) c.of.ensures in
     let going_on = shows capacity volume J S store knows (g.D.Drive.honest c.change.new.drive) after_change in
-    let does = does_at capacity volume J S store knows r change c.unwrap-moment.result of_moment (c.in_ok-change.ensures.does S.tree going_on (record { count = nodes capacity volume J S store knows; few = few capacity volume J S store knows })) in
+    let does = does_at capacity volume J S store knows r change c.unwrap-moment.result of_moment (c.in_ok-change.ensures.does S.tree knows.once going_on (record { count = nodes capacity volume J S store knows; few = few capacity volume J S store knows })) in
     let is : IsPlan (next_of J) capacity plan = plan_is J (g.D.Drive.journal c.change.new.drive) capacity (g.D.Drive.capacity c.change.new.drive) plan c.change.ensures.reads.journal c.change.ensures.reads.capacity c.in_ok-plan.ensures.plan in
     let makes : IsPlanOf c.args.self.now c.args.request.now change plan = makes_plan c.args.self.now _ c.args.request.now change plan c.unwrap-moment.result of_moment c.in_ok-plan.ensures.makes refl refl in
     let room = subst (λ (L : List Event). next_of L + change_need c.in_ok-change.change (begun c.args.self.now.vat_icb_address c.args.request.now.client c.args.request.now.number (code_number c.in_ok-change.change.code) c.in_ok-change.change.made (view c.args.self.now.vat)) ≤ c.args.self.now.capacity) c.change.ensures.reads.journal c.in_ok-plan.ensures.room in
