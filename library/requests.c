@@ -6,7 +6,7 @@
 #include <stdlib.h>
 #include <string.h>
 
-enum kind { CREATE = 1, REPLACE = 2, MAKE_DIRECTORY = 3, RENAME = 4, REMOVE = 5, GET = 16, LIST = 17, STAT = 18 };
+enum kind { CREATE = 1, REPLACE = 2, MAKE_DIRECTORY = 3, RENAME = 4, REMOVE = 5, APPEND = 6, GET = 16, LIST = 17, STAT = 18, READ = 19 };
 
 /* Codes of answers. Up to LAST_RESULT they are results of committed requests. */
 enum code {
@@ -24,7 +24,8 @@ enum {
     LENGTH_BYTES = 4, CODE_BYTES = 2, NODE_BYTES = 17, NAME_HEAD = 3            /* of an answer */
 };
 
-/* A message before it is a frame. Queries have no request, only Rename has `to`, only Create and Replace have data. */
+/* A message before it is a frame. Queries have no request, only Rename has `to`. Create, Replace and Append have data, and Read
+ * asks for `length` bytes; only Append and Read have an offset. */
 struct message {
     enum kind kind;
     const struct udfburn_request *request;
@@ -32,6 +33,7 @@ struct message {
     const char *to;
     const void *data;
     size_t length;
+    uint64_t offset;
 };
 
 /* An answer: `fields` is what follows its code. Short answers, such as those to requests, need no allocation. */
@@ -94,7 +96,17 @@ static uint8_t *put_path(uint8_t *at, const char *path) {
 }
 
 static bool has_data(const struct message *message) {
-    return message->kind == CREATE || message->kind == REPLACE;
+    return message->kind == CREATE || message->kind == REPLACE || message->kind == APPEND;
+}
+
+static bool has_offset(const struct message *message) {
+    return message->kind == APPEND || message->kind == READ;
+}
+
+/* The bytes of a message's fields after its paths. */
+static size_t tail_size(const struct message *message) {
+    size_t numbers = (has_offset(message) ? 8 : 0) + (has_data(message) || message->kind == READ ? 4 : 0);
+    return numbers + (has_data(message) ? message->length : 0);
 }
 
 /* The bytes of a message's payload. */
@@ -106,7 +118,7 @@ static int32_t payload_size(const struct message *message, size_t *size) {
     if (message->length > UDFBURN_FILE_LIMIT) {
         return UDFBURN_ARGUMENT;
     }
-    *size = 1 + (message->request ? 24 : 0) + path + to + (has_data(message) ? 4 + message->length : 0);
+    *size = 1 + (message->request ? 24 : 0) + path + to + tail_size(message);
     /* No valid path needs more than a payload has room for beside the largest file. */
     return *size <= PAYLOAD_LIMIT ? UDFBURN_OK : UDFBURN_TEXT;
 }
@@ -123,11 +135,14 @@ static void put_message(uint8_t *at, const struct message *message, size_t paylo
     if (message->to) {
         at = put_path(at, message->to);
     }
-    if (has_data(message)) {
+    if (has_offset(message)) {
+        at = put_number(at, message->offset, 8);
+    }
+    if (has_data(message) || message->kind == READ) {
         at = put_number(at, message->length, 4);
-        if (message->length > 0) {
-            memcpy(at, message->data, message->length);
-        }
+    }
+    if (has_data(message) && message->length > 0) {
+        memcpy(at, message->data, message->length);
     }
 }
 
@@ -222,14 +237,19 @@ static int32_t refusal(const struct answer *answer) {
 
 /* ---- queries */
 
-/* Asks one question about a path. At UDFBURN_OK the answer has this code. The caller ends the answer in any case. */
-static int32_t ask(udfburn *handle, enum kind kind, const char *path, enum code expected, struct answer *answer) {
-    struct message message = {kind, NULL, path, NULL, NULL, 0};
-    int32_t status = exchange(handle, &message, answer);
+/* Asks one question. At UDFBURN_OK the answer has this code. The caller ends the answer in any case. */
+static int32_t ask_message(udfburn *handle, const struct message *message, enum code expected, struct answer *answer) {
+    int32_t status = exchange(handle, message, answer);
     if (status != UDFBURN_OK) {
         return status;
     }
     return answer->code == expected ? UDFBURN_OK : refusal(answer);
+}
+
+/* The same of a question about a path alone. */
+static int32_t ask(udfburn *handle, enum kind kind, const char *path, enum code expected, struct answer *answer) {
+    struct message message = {kind, NULL, path, NULL, NULL, 0, 0};
+    return ask_message(handle, &message, expected, answer);
 }
 
 int32_t udfburn_look_at(udfburn *handle, const char *path, struct udfburn_node *node) {
@@ -256,7 +276,7 @@ int32_t udfburn_stat(udfburn *handle, const char *path, struct udfburn_node *nod
     return udfburn_leave(&call, path && node ? udfburn_look_at(handle, path, node) : UDFBURN_ARGUMENT);
 }
 
-/* The bytes of the file in an answer to Get. */
+/* The bytes of the file in an answer to Get or Read. */
 static int32_t data_of(const struct answer *answer, const uint8_t **data, size_t *length) {
     if (answer->length < 4 || number_at(answer->fields, 4) != answer->length - 4) {
         return UDFBURN_DEVICE;
@@ -291,6 +311,50 @@ int32_t udfburn_get(udfburn *handle, const char *path, void *into, size_t room, 
     struct udfburn_call call;
     int32_t status = udfburn_enter(&call, handle);
     return status == UDFBURN_OK ? udfburn_leave(&call, copy_file(handle, path, into, room, length)) : status;
+}
+
+/* Reads up to `room` bytes of a file, at most UDFBURN_FILE_LIMIT: fewer at its end alone. */
+static int32_t read_piece(udfburn *handle, const char *path, uint64_t offset, void *into, size_t room, size_t *length) {
+    struct answer answer;
+    const uint8_t *data;
+    struct message message = {READ, NULL, path, NULL, NULL, room, offset};
+    int32_t status = ask_message(handle, &message, DATA, &answer);
+    if (status == UDFBURN_OK) {
+        status = data_of(&answer, &data, length);
+    }
+    if (status == UDFBURN_OK && *length > room) {
+        status = UDFBURN_DEVICE;
+    }
+    if (status == UDFBURN_OK && *length > 0) {
+        memcpy(into, data, *length);
+    }
+    end_answer(&answer);
+    return status;
+}
+
+/* Reads up to `room` bytes of a file, one piece after the other. */
+static int32_t read_in(udfburn *handle, const char *path, uint64_t offset, void *into, size_t room, size_t *length) {
+    size_t taken = 0, piece, count;
+    if (!path || (!into && room > 0) || !length) {
+        return UDFBURN_ARGUMENT;
+    }
+    *length = 0;
+    do {
+        piece = room - taken < UDFBURN_FILE_LIMIT ? room - taken : UDFBURN_FILE_LIMIT;
+        int32_t status = read_piece(handle, path, offset + taken, (uint8_t *)into + taken, piece, &count);
+        if (status != UDFBURN_OK) {
+            return status;
+        }
+        taken += count;
+    } while (count == piece && taken < room && offset + taken >= offset);
+    *length = taken;
+    return UDFBURN_OK;
+}
+
+int32_t udfburn_read(udfburn *handle, const char *path, uint64_t offset, void *into, size_t room, size_t *length) {
+    struct udfburn_call call;
+    int32_t status = udfburn_enter(&call, handle);
+    return status == UDFBURN_OK ? udfburn_leave(&call, read_in(handle, path, offset, into, room, length)) : status;
 }
 
 /* The bytes of all names in an answer to List, with a NUL after each. 0 if the names do not end with the answer. */
@@ -375,12 +439,13 @@ void udfburn_free(void *memory) {
 
 /* ---- requests */
 
-/* Whether the file has the bytes of the message: UDFBURN_OK, UDFBURN_USED, or why it is not known. */
+/* Whether the file has the bytes of the message at their place: UDFBURN_OK, UDFBURN_USED, or why it is not known. */
 static int32_t same_bytes(udfburn *handle, const struct message *message) {
     struct answer answer;
     const uint8_t *data;
     size_t length;
-    int32_t status = ask(handle, GET, message->path, DATA, &answer);
+    struct message piece = {READ, NULL, message->path, NULL, NULL, message->length, message->offset};
+    int32_t status = ask_message(handle, &piece, DATA, &answer);
     if (status == UDFBURN_OK) {
         status = data_of(&answer, &data, &length);
     }
@@ -389,6 +454,19 @@ static int32_t same_bytes(udfburn *handle, const struct message *message) {
     }
     end_answer(&answer);
     return status;
+}
+
+/* Whether a file has the bytes of the message, and may have got no others but by appends since. */
+static int32_t confirm_file(udfburn *handle, const struct message *message, const struct udfburn_node *node) {
+    uint64_t end = message->offset + message->length;
+    bool has_grown = node->size > end && end > 0 && end % UDFBURN_FILE_LIMIT == 0;
+    if (node->kind != UDFBURN_FILE || (node->size != end && !has_grown)) {
+        return UDFBURN_USED;
+    }
+    if (!has_grown && node->moment != message->request->moment) {
+        return UDFBURN_USED;
+    }
+    return same_bytes(handle, message);
 }
 
 /* Whether the tree shows that a repeated request is done. */
@@ -410,13 +488,7 @@ static int32_t confirm(udfburn *handle, const struct message *message) {
     if (message->kind == MAKE_DIRECTORY && node.kind != UDFBURN_DIRECTORY) {
         return UDFBURN_USED;
     }
-    if (!has_data(message)) {
-        return UDFBURN_OK;
-    }
-    if (node.kind != UDFBURN_FILE || node.moment != message->request->moment) {
-        return UDFBURN_USED;
-    }
-    return same_bytes(handle, message);
+    return has_data(message) ? confirm_file(handle, message, &node) : UDFBURN_OK;
 }
 
 /* The status of an answer to a request. `latest` is the client's latest number before it. */
@@ -503,7 +575,7 @@ static int32_t run(udfburn *handle, struct udfburn_request *request, struct mess
 
 static int32_t run_on(udfburn *handle, struct udfburn_request *request, enum kind kind, const char *path,
                       const void *data, size_t length) {
-    struct message message = {kind, NULL, path, NULL, data, length};
+    struct message message = {kind, NULL, path, NULL, data, length, 0};
     return run(handle, request, &message, path && (data || length == 0));
 }
 
@@ -517,6 +589,12 @@ int32_t udfburn_replace(udfburn *handle, struct udfburn_request *request, const 
     return run_on(handle, request, REPLACE, path, data, length);
 }
 
+int32_t udfburn_append(udfburn *handle, struct udfburn_request *request, const char *path, uint64_t offset,
+                       const void *data, size_t length) {
+    struct message message = {APPEND, NULL, path, NULL, data, length, offset};
+    return run(handle, request, &message, path && data && length > 0);
+}
+
 int32_t udfburn_mkdir(udfburn *handle, struct udfburn_request *request, const char *path) {
     return run_on(handle, request, MAKE_DIRECTORY, path, NULL, 0);
 }
@@ -526,7 +604,7 @@ int32_t udfburn_remove(udfburn *handle, struct udfburn_request *request, const c
 }
 
 int32_t udfburn_rename(udfburn *handle, struct udfburn_request *request, const char *from, const char *to) {
-    struct message message = {RENAME, NULL, from, to, NULL, 0};
+    struct message message = {RENAME, NULL, from, to, NULL, 0, 0};
     return run(handle, request, &message, from && to);
 }
 

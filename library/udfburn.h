@@ -62,7 +62,8 @@ extern "C" {
 #define UDFBURN_BLOCK 2048                            /* bytes of a block */
 #define UDFBURN_LEAST_CAPACITY 512                    /* blocks of a volume */
 #define UDFBURN_GREATEST_CAPACITY 450000              /* blocks of a volume */
-#define UDFBURN_FILE_LIMIT 1048576                    /* bytes of a file */
+#define UDFBURN_FILE_LIMIT 1048576                    /* bytes that one request gives a file */
+#define UDFBURN_GREATEST_FILE 122683392               /* bytes of a file, with all that was appended to it */
 #define UDFBURN_NODES 4096                            /* files and directories of a volume, the root included */
 #define UDFBURN_NAMES 512                             /* names of a directory */
 #define UDFBURN_DEPTH 16                              /* names of a path */
@@ -103,14 +104,14 @@ enum udfburn_code {
      * UDFBURN_NOT_FOUND, UDFBURN_IS_DIRECTORY and UDFBURN_NOT_DIRECTORY too, and commit nothing. */
     UDFBURN_NO_PARENT = 33,     /* the parent is not a directory of the tree */
     UDFBURN_NOT_FOUND = 34,     /* the path does not exist */
-    UDFBURN_EXISTS = 35,        /* the path exists */
+    UDFBURN_EXISTS = 35,        /* the path exists. Of an append: the file does not end at this offset, or takes no more */
     UDFBURN_IS_DIRECTORY = 36,  /* it is a directory, and a file is needed */
     UDFBURN_NOT_EMPTY = 37,     /* a directory that is not empty is not removed */
     UDFBURN_INTO_ITSELF = 38,   /* a directory is not moved below itself */
-    UDFBURN_ROOT = 39,          /* the root is not created, replaced, moved or removed */
+    UDFBURN_ROOT = 39,          /* the root is not created, replaced, appended to, moved or removed */
     UDFBURN_TOO_DEEP = 40,      /* a path would have more than 16 names */
     UDFBURN_DIRECTORY_FULL = 41, /* the parent has 512 names */
-    UDFBURN_TREE_FULL = 42,     /* the tree has 4,096 files and directories */
+    UDFBURN_TREE_FULL = 42,     /* the tree has 4,096 files and directories. Of an append: the file has UDFBURN_GREATEST_FILE bytes */
     UDFBURN_NOT_DIRECTORY = 43, /* it is a file, and a directory is needed (queries only) */
 
     /* The call committed nothing, and changed nothing. */
@@ -237,6 +238,16 @@ int32_t udfburn_create(udfburn *handle, struct udfburn_request *request, const c
 int32_t udfburn_replace(udfburn *handle, struct udfburn_request *request, const char *path, const void *data,
                         size_t length);
 
+/* Append bytes to a file that has `offset` bytes: at least one, at most UDFBURN_FILE_LIMIT. So a file grows by pieces, of which
+ * all but the last have UDFBURN_FILE_LIMIT bytes: `offset` is a multiple of it. Begin with a create of the first piece, or of
+ * an empty file. Each append is a commit of its own: readers see the file grow. To show it when it is whole, append under
+ * another name and rename it.
+ *   UDFBURN_EXISTS: the file has more or fewer bytes, or its last piece is shorter. A piece that is sent again under a new number
+ * gets it too, and is there once. UDFBURN_TREE_FULL: `offset` is UDFBURN_GREATEST_FILE or more. UDFBURN_ARGUMENT: also no bytes.
+ * A repeat of an old number is UDFBURN_OK where the file has these bytes at `offset`, also if more were appended since. */
+int32_t udfburn_append(udfburn *handle, struct udfburn_request *request, const char *path, uint64_t offset,
+                       const void *data, size_t length);
+
 /* Make a directory. */
 int32_t udfburn_mkdir(udfburn *handle, struct udfburn_request *request, const char *path);
 
@@ -262,9 +273,14 @@ struct udfburn_node {
 int32_t udfburn_stat(udfburn *handle, const char *path, struct udfburn_node *node);
 
 /* Copy the bytes of a file to `into`, and set `*length` to their number. UDFBURN_ROOM: they are more than `room`. `*length`
- * says how many then, and nothing is copied. A room of UDFBURN_FILE_LIMIT bytes is always enough. `into` may be NULL if
- * `room` is 0. */
+ * says how many then, and nothing is copied. UDFBURN_TOO_LONG: they are more than UDFBURN_FILE_LIMIT; use udfburn_read(). A room
+ * of UDFBURN_FILE_LIMIT bytes is enough for every other file. `into` may be NULL if `room` is 0. */
 int32_t udfburn_get(udfburn *handle, const char *path, void *into, size_t room, size_t *length);
+
+/* Copy the bytes of a file from `offset` on to `into`, at most `room` of them, and set `*length` to their number. It is less than
+ * `room` only where the file ends, and 0 at its end or after it. `into` may be NULL if `room` is 0. On failure `*length` is 0,
+ * and what `into` has is not known. */
+int32_t udfburn_read(udfburn *handle, const char *path, uint64_t offset, void *into, size_t room, size_t *length);
 
 /* One name of a directory. */
 struct udfburn_name {
