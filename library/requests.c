@@ -334,6 +334,7 @@ static int32_t read_piece(udfburn *handle, const char *path, uint64_t offset, vo
 
 /* Reads up to `room` bytes of a file, one piece after the other. */
 static int32_t read_in(udfburn *handle, const char *path, uint64_t offset, void *into, size_t room, size_t *length) {
+    uint8_t *at = into;
     size_t taken = 0, piece, count;
     if (!path || (!into && room > 0) || !length) {
         return UDFBURN_ARGUMENT;
@@ -341,12 +342,13 @@ static int32_t read_in(udfburn *handle, const char *path, uint64_t offset, void 
     *length = 0;
     do {
         piece = room - taken < UDFBURN_FILE_LIMIT ? room - taken : UDFBURN_FILE_LIMIT;
-        int32_t status = read_piece(handle, path, offset + taken, (uint8_t *)into + taken, piece, &count);
+        int32_t status = read_piece(handle, path, offset + taken, at, piece, &count);
         if (status != UDFBURN_OK) {
             return status;
         }
         taken += count;
-    } while (count == piece && taken < room && offset + taken >= offset);
+        at = count > 0 ? at + count : at;
+    } while (count == piece && taken < room);
     *length = taken;
     return UDFBURN_OK;
 }

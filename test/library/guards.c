@@ -243,12 +243,14 @@ static void try_all(udfburn *handle) {
     STATUS(UDFBURN_MISUSE, udfburn_create(handle, &request, "/again", "x", 1));
     EXPECT(request.commit == 0 && request.number == 0);
     STATUS(UDFBURN_MISUSE, udfburn_replace(handle, &request, "/again", "x", 1));
+    STATUS(UDFBURN_MISUSE, udfburn_append(handle, &request, "/a", 0, "x", 1));
     STATUS(UDFBURN_MISUSE, udfburn_mkdir(handle, &request, "/again"));
     STATUS(UDFBURN_MISUSE, udfburn_rename(handle, &request, "/a", "/again"));
     STATUS(UDFBURN_MISUSE, udfburn_remove(handle, &request, "/a"));
     STATUS(UDFBURN_MISUSE, udfburn_last_number(handle, 9, &number));
     STATUS(UDFBURN_MISUSE, udfburn_stat(handle, "/", &node));
     STATUS(UDFBURN_MISUSE, udfburn_get(handle, "/a", bytes, sizeof bytes, &count));
+    STATUS(UDFBURN_MISUSE, udfburn_read(handle, "/a", 0, bytes, sizeof bytes, &count));
     STATUS(UDFBURN_MISUSE, udfburn_list(handle, "/", &names, &count));
     EXPECT(!names && count == 0);
     STATUS(UDFBURN_MISUSE, udfburn_entries(handle, "/", sizeof *entries, &entries, &count));

@@ -155,6 +155,10 @@ class FromPython(Case):
         self.assertEqual(self.call("get", handle, b"/d/y", room, c_size_t(5), byref(count)), OK)
         self.assertEqual(room.raw, b"other")
         self.assertEqual(self.call("get", handle, b"/a", room, c_size_t(5), byref(count)), NOT_FOUND)
+        self.assertEqual(self.call("read", handle, b"/d/y", c_uint64(1), room, c_size_t(5), byref(count)), OK)
+        self.assertEqual(room.raw[:count.value], b"ther")
+        asked.number = 0
+        self.assertEqual(self.call("append", handle, byref(asked), b"/d/y", c_uint64(5), b"!", c_size_t(1)), EXISTS)
         self.assertEqual(self.call("list", handle, b"/d", byref(names), byref(count)), OK)
         self.assertEqual([(names[i].name, names[i].kind) for i in range(count.value)], [(b"y", 0)])
         self.call("free", names)
