@@ -112,7 +112,7 @@ class Faults(unittest.TestCase):
     def test_each_cause(self) -> None:
         good = p.encode_message(p.Create(7, 1, 0, ("a",), b"hello"))
         self.assertEqual(self.fault(b"\x10" + bytes(p.limits.PAYLOAD)), p.Cause.TOO_LONG)
-        for kind in (0, 6, 9, 15, 20, 255):
+        for kind in (0, 7, 9, 15, 20, 255):
             self.assertEqual(self.fault(bytes((kind,)) + good[1:]), p.Cause.KIND)
         for end in range(len(good)):
             self.assertEqual(self.fault(good[:end]), p.Cause.SHORT, end)
@@ -133,7 +133,9 @@ class Faults(unittest.TestCase):
 
     def test_what_cannot_be_said(self) -> None:
         messages: List[p.Message] = [p.MakeDir(0, 1, 0, ("a",)), p.MakeDir(1, 0, 0, ("a",)), p.MakeDir(1, 1, p.limits.MOMENT, ("a",)), p.MakeDir(1, 1, -1, ("a",)),
-                        p.MakeDir(1 << 64, 1, 0, ("a",)), p.MakeDir(1, 1, 0, ("",)), p.MakeDir(1, 1, 0, ("a",) * 256), p.Create(1, 1, 0, ("a",), bytes(p.limits.FILE + 1))]
+                        p.MakeDir(1 << 64, 1, 0, ("a",)), p.MakeDir(1, 1, 0, ("",)), p.MakeDir(1, 1, 0, ("a",) * 256), p.Create(1, 1, 0, ("a",), bytes(p.limits.FILE + 1)),
+                        p.Append(1, 1, 0, ("a",), 0, b""), p.Append(1, 1, 0, ("a",), -1, b"x"), p.Append(1, 1, 0, ("a",), 1 << 64, b"x"),
+                        p.Append(1, 1, 0, ("a",), 0, bytes(p.limits.FILE + 1))]
         for message in messages:
             with self.assertRaises(p.Fault):
                 p.encode_message(message)
