@@ -7,7 +7,7 @@ import shutil
 import stat
 from contextlib import redirect_stderr, redirect_stdout, suppress
 from io import StringIO
-from typing import List
+from typing import List, Optional
 from unittest import mock
 
 from .support import UDFBURN, WithArchive, write
@@ -63,24 +63,26 @@ class Races(WithArchive):
                     self.assertNotIn(SECRET, self.walked(Swap(at, turned.forth, back)), (name, at))
                     self.assertEqual(picture(self.outside), self.before, (name, at))
 
-    def run_at(self, at: int, turned: Turned, *words: str) -> int:
+    def run_at(self, at: int, turned: Turned, *words: str, about: Optional[str] = None) -> int:
         """Runs a command with a turn at a call; gives how many calls it made."""
-        with mock.patch.dict(os.environ, {"UDFBURN": UDFBURN}), redirect_stdout(StringIO()), redirect_stderr(StringIO()), Swap(at, turned.forth) as swap:
+        swapped = Swap(at, turned.forth, about=about)
+        with mock.patch.dict(os.environ, {"UDFBURN": UDFBURN}), redirect_stdout(StringIO()), redirect_stderr(StringIO()), swapped as swap:
             main([*words, "--archive", self.archive])
         return swap.calls
 
     def test_commands(self) -> None:
-        """At some calls: `add --delete-source` of a folder, and `get` into one."""
+        """`add --delete-source` of a folder, and `get` into one, at each call that names it."""
         self.init("--delete", "acknowledged")
         back = self.path("back")
         for words, turned, ready in (
             (("add", self.source, "--at", "/x", "--delete-source", "--skip-odd"), Turned(os.path.join(self.source, "sub"), self.outside), self.fill),
             (("get", "/x", back), Turned(os.path.join(back, "x", "sub"), self.outside), lambda: shutil.rmtree(back, ignore_errors=True)),
         ):
-            count = self.run_at(0, turned, *words)
-            for at in range(1, count, max(count // 25, 1)):
+            count = self.run_at(0, turned, *words, about="sub")
+            self.assertGreater(count, 3)
+            for at in range(1, count + 1):
                 ready()
-                self.run_at(at, turned, *words)
+                self.run_at(at, turned, *words, about="sub")
                 self.assertEqual(picture(self.outside), self.before, (words, at))
         with open(self.path("archive", "open", "T-000001.img"), "rb") as file:
             self.assertNotIn(SECRET, file.read())

@@ -16,10 +16,11 @@ REAL: Dict[str, Any] = {name: getattr(os, name) for name in CALLS}
 
 class Swap:
     """Does something right before a call of the system, by its number from 1 on, and undoes it before the next one where `back` is given.
-    `calls` counts those that were made."""
+    `calls` counts those that were made; where `about` is given, those that take a path with this last name."""
 
-    def __init__(self, at: int = 0, forth: Callable[[], None] = lambda: None, back: Optional[Callable[[], None]] = None):
+    def __init__(self, at: int = 0, forth: Callable[[], None] = lambda: None, back: Optional[Callable[[], None]] = None, about: Optional[str] = None):
         self.calls = 0
+        self._about = about
         self._at, self._forth, self._back = at, forth, back
         self._within = False
         self._stack = ExitStack()
@@ -34,7 +35,8 @@ class Swap:
 
     def _wrapped(self, real: Any) -> Callable[..., Any]:
         def call(*words: Any, **more: Any) -> Any:
-            if not self._within:
+            is_meant = self._about is None or any(isinstance(word, (str, bytes)) and os.path.basename(os.fsdecode(word)) == self._about for word in words)
+            if is_meant and not self._within:
                 self._within = True
                 try:
                     self.calls += 1
