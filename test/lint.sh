@@ -68,7 +68,7 @@ if have pyflakes3 pyflakes3; then
     holds 'nothing in Python is unused' pyflakes3 .
 fi
 if have shellcheck shellcheck; then
-    for file in .ci/run test/quick install.sh packaging/deb/build.sh packaging/deb/postinst packaging/deb/prerm packaging/library/*.sh packaging/completion/udfburn.bash test/*.sh bench/run bench/small bench/*/run; do
+    for file in .ci/run test/quick install.sh packaging/deb/build.sh packaging/deb/postinst packaging/deb/prerm packaging/library/*.sh packaging/completion/udfburn.bash test/*.sh bench/run bench/small bench/*/run bench/library/beside; do
         holds "$file is clean" shellcheck -x -S warning "$file"
     done
 fi
