@@ -56,13 +56,9 @@ static int32_t ask(struct udfburn_mmc *mmc, const char *name, uint8_t code, uint
     return run(mmc, &command);
 }
 
-static int32_t order(struct udfburn_mmc *mmc, const char *name, uint8_t code, uint8_t how, uint32_t number) {
-    struct udfburn_command command = {name, {code, how}, 10, UDFBURN_NOTHING, NULL, 0, 0};
-    put_number(command.block + 2, number, 4);
-    return run(mmc, &command);
+static struct udfburn_command synchronization(void) {
+    return (struct udfburn_command){"SYNCHRONIZE CACHE", {0x35}, 10, UDFBURN_NOTHING, NULL, 0, 0};
 }
-
-static int32_t synchronize(struct udfburn_mmc *mmc) { return order(mmc, "SYNCHRONIZE CACHE", 0x35, 0, 0); }
 
 /* Blocks from an address on, or to it. */
 static void set_transfer(struct udfburn_command *command, uint32_t address, uint32_t count) {
@@ -222,7 +218,7 @@ static void lock_tray(struct udfburn_mmc *mmc, int is_locked) {
 /* Has what an earlier process may have left in the drive's buffer brought to the medium: what is read from now on is there. There is none
  * where the disc is blank, and a drive may refuse then. */
 static int32_t settle(struct udfburn_mmc *mmc) {
-    struct udfburn_command command = {"SYNCHRONIZE CACHE", {0x35}, 10, UDFBURN_NOTHING, NULL, 0, 0};
+    struct udfburn_command command = synchronization();
     int32_t outcome = udfburn_do(mmc->fd, &command);
     if (udfburn_key_of(outcome) == UDFBURN_ILLEGAL && mmc->is_blank) outcome = 0;
     return outcome == 0 ? UDFBURN_OK : refuse(UDFBURN_DEVICE, command.name, outcome);
@@ -408,13 +404,14 @@ static int32_t compare(struct udfburn_mmc *mmc, uint32_t first) {
 /* Writes what is held, and has the drive bring it to the medium. Only then is it there: if the drive lost its buffer meanwhile, the next
  * address says so. */
 static int32_t write_held(struct udfburn_mmc *mmc) {
+    struct udfburn_command command = synchronization();
     uint32_t first = mmc->next, free_blocks;
     for (uint32_t done = 0, part; done < mmc->count; done += part) {
         part = mmc->count - done < PART ? mmc->count - done : PART;
         int32_t outcome = write_part(mmc, first + done, part, mmc->held + (size_t)done * UDFBURN_BLOCK);
         if (outcome != 0) return outcome;
     }
-    int32_t outcome = synchronize(mmc);
+    int32_t outcome = run(mmc, &command);
     if (outcome == 0) outcome = look(mmc, &free_blocks);
     if (outcome != 0) return outcome;
     if (mmc->next < first + mmc->count) {

@@ -438,7 +438,8 @@ int32_t udfburn_took(udfburn *handle);
  *     what is held is forgotten: `next` is that of the medium.
  *   - After that last block `next` may be more than `address + 1`. What lies between reads as zeros, or as copies of that
  *     block by udfburn_copy_vat_icb(). With at least three copies, up to the end of the packet, Linux finds the end of a disc.
- * The library then opens the volume again before it acknowledges the commit, and goes on at `next`.
+ * The library then opens the volume again before it acknowledges the commit, and goes on at `next`. With UDFBURN_VERIFY such a
+ * drive reads its packet back by itself, since `read` gives what it holds.
  *
  * After a write that failed, send the request again. If blocks of its commit are on the medium by then, every request and
  * query returns UDFBURN_DEVICE: close the handle and open the drive again. It goes on after those blocks, and the request

@@ -42,10 +42,10 @@ def all_recorders() -> List[Recorder]:
 
 
 def packet_recorders() -> List[Recorder]:
-    """Drives of each kind, with and without a last recorded address. They may report the end of a track differently."""
+    """Drives of each kind, and some without a last recorded address: drives report the end of a track differently."""
     kinds = {"CDR": "cdr", "DVDR": "dvdr", "DVD+R": "dvd+r", "BDR": "bdr"}
     found = [Recorder(name, kind) for name, kind in kinds.items()]
-    return [*found, *(Recorder(f"{name} NO LAST", kind, faults=Faults(no_last=True)) for name, kind in kinds.items()), Recorder("REAL", "dvd+r")]
+    return [*found, *(Recorder(f"{name} NO LAST", kind, faults=Faults(no_last=True)) for name, kind in kinds.items()), Recorder("REAL", "bdr")]
 
 
 # ---- what the machine has

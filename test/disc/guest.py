@@ -251,6 +251,8 @@ def in_place(device: str, name: str) -> None:
     expect(client("put", "-r", "/work/first", "/first", *where), 0, "stored 20 files")
     take_in_again(device, quiet)
     files_are_there(device, {"first": "/work/first"})
+    if name.endswith("NO LAST"):
+        return
     with mounted(device):
         expect(client("put", "-r", "/work/second", "/second", "--wait", "0", *where), 1, "another program has it, or the disc is mounted")
     expect(client("put", "-r", "/work/second", "/second", *where), 0, "stored 5 files")
@@ -270,7 +272,7 @@ def as_a_real_one(device: str) -> None:
     import runpy
 
     os.mkdir("/tmp/real")
-    words, sys.argv = sys.argv, ["real.py", device, "/work", "/bin/udfburn", "/tmp/real"]
+    words, sys.argv = sys.argv, ["real.py", device, "/work", "/tmp/real"]
     output = io.StringIO()
     try:
         with redirect_stdout(output):

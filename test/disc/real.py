@@ -1,6 +1,6 @@
 """Tries the disc in a real drive: file by file with the C library, and mounted by Linux where that is allowed.
 
-    real.py DEVICE LIBRARY UDFBURN ROOM
+    real.py DEVICE LIBRARY ROOM
 
 LIBRARY is the folder of the C library. The disc must be blank, and is not blank afterwards. What it prints is what we ask to be sent.
 """
@@ -94,8 +94,8 @@ def make(folder: Path, count: int) -> Tuple[str, str]:
 
 
 def main() -> int:
-    device, room = sys.argv[1], Path(sys.argv[4])
-    os.environ.update(UDFBURN_LIBRARY=str(Path(sys.argv[2]).resolve() / "libudfburn.so.0"), UDFBURN=sys.argv[3], UDFBURN_LEDGER=str(room / "ledger"))
+    device, room = sys.argv[1], Path(sys.argv[3])
+    os.environ.update(UDFBURN_LIBRARY=str(Path(sys.argv[2]).resolve() / "libudfburn.so.0"), UDFBURN_LEDGER=str(room / "ledger"))
     trial = Trial(device, room)
     trial.say(f"drive {drive_of(device)}, Linux {platform.release()}")
     first, second = make(room / "first", 20), make(room / "second", 5)

@@ -56,12 +56,18 @@ class Sense(Exception):
 class Faults(NamedTuple):
     """What is wrong with a drive: the address of a block that cannot be written, and that of one that is read with a wrong bit.
 
-    `once`: the first write that reaches it fails, and the blocks before its unit are on the medium; `spoils`: the unit with it is unreadable then, and the
-    drive goes on after it. `no_last`: no last recorded address is given. `ends_early`: the last link is not counted as recorded.
-    `loses`: the blocks of this synchronisation, counted from 1, are lost, which nothing says. `flips`: those of it have a wrong bit.
-    `unsynchronized`: it fails, with its blocks on the medium. `stuck`: it and all after it fail, and the blocks stay in the buffer. `resets`: the drive resets before it, and loses them. `slow`: so many times a
-    command is refused, since the drive is not ready yet. `hardware`: this READ, counted from 1, and five after it fail for another reason than the medium.
-    `flaky`: what is read from a cache fails at the first try.
+    once            the first write that reaches the block fails, and what comes before its unit is on the medium
+    spoils          the unit is unreadable then, and the drive goes on after it
+    no_last         no last recorded address is given
+    ends_early      the last link is not counted as recorded
+    loses           the blocks of this synchronisation, counted from 1, are lost, which nothing says
+    flips           one of them has a wrong bit
+    unsynchronized  this synchronisation fails, and its blocks are on the medium
+    stuck           this one and all after it fail, and the blocks stay in the buffer
+    resets          the drive resets before this one, and loses its blocks
+    slow            so many times a command is refused, since the drive is not ready yet
+    hardware        this READ, counted from 1, and five after it fail for another reason than the medium
+    flaky           what is read from a cache fails at the first try
     """
 
     write: Optional[int] = None

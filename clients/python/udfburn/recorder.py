@@ -133,10 +133,10 @@ def format_disc(library: Library, device: str, label: str, moment: int) -> None:
     try:
         library.require(library.calls.udfburn_format_mmc(os.fsencode(device), label.encode(), moment))
     except Refused as refused:
-        why, _ = explained(library, None, refused.name)
+        why, is_passing = explained(library, None, refused.name)
         if refused.name == "UDFBURN_VOLUME" and not reason_of(library, None)[0]:
             why = "holds something already, and stays as it is: put a blank disc in; or repeat a format that was cut short with its own --label and --moment"
-        elif refused.name == "UDFBURN_DEVICE":
+        elif refused.name == "UDFBURN_DEVICE" and is_passing:
             why += f". The same command may finish it, with --moment {moment}"
         raise DiscFailed(f"{shown(device)}: {why}") from refused
 
