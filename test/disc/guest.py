@@ -279,7 +279,7 @@ def as_a_real_one(device: str) -> None:
             runpy.run_path("/work/real.py", run_name="__main__")
     except SystemExit as ended:
         # The machine has no program that mounts.
-        expect((int(ended.code or 0), output.getvalue()), 0, "disc: 27 passed, 0 failed")
+        expect((int(ended.code or 0), output.getvalue()), 0, "disc: 14 passed, 0 failed")
     finally:
         sys.argv = words
 

@@ -20,8 +20,8 @@ from typing import List, Tuple
 CLIENT = Path(__file__).resolve().parent.parent.parent / "clients/python"
 sys.path.insert(1, str(CLIENT) if CLIENT.is_dir() else "/client")
 
-LONGEST = 300_000
-"""Bytes of the largest file."""
+STEP = 5_000
+"""Bytes of the second file, by which the others grow."""
 
 
 class Trial:
@@ -89,7 +89,7 @@ def drive_of(device: str) -> str:
 def make(folder: Path, count: int) -> Tuple[str, str]:
     folder.mkdir()
     for at in range(count):
-        (folder / f"f{at}").write_bytes(os.urandom(at * at * 700 % LONGEST))
+        (folder / f"f{at}").write_bytes(os.urandom(at * at * STEP))
     return str(folder), f"/{folder.name}"
 
 
@@ -98,10 +98,10 @@ def main() -> int:
     os.environ.update(UDFBURN_LIBRARY=str(Path(sys.argv[2]).resolve() / "libudfburn.so.0"), UDFBURN_LEDGER=str(room / "ledger"))
     trial = Trial(device, room)
     trial.say(f"drive {drive_of(device)}, Linux {platform.release()}")
-    first, second = make(room / "first", 20), make(room / "second", 5)
+    first, second = make(room / "first", 8), make(room / "second", 5)
     if trial.step("formatted", "format", "--label", "TRY"):
         for path in sorted(Path(first[0]).iterdir()):
-            trial.step(f"stored {path.stat().st_size} bytes", "put", str(path), f"{first[1]}/{path.name}")
+            trial.step(f"stored {path.stat().st_size} bytes", "put", "-p", str(path), f"{first[1]}/{path.name}")
         trial.reload()
         trial.step("read again, each file compared", "verify", *first)
         trial.mount(["first"])
