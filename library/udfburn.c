@@ -263,6 +263,13 @@ static size_t follow(udfburn *handle, const uint8_t *bytes, size_t count) {
     return done + part;
 }
 
+/* The same through all of them. */
+static size_t follow_all(udfburn *handle, const uint8_t *bytes, size_t count) {
+    size_t done = 0;
+    while (done < count) done += follow(handle, bytes + done, count - done);
+    return done;
+}
+
 int udfburn_between_frames(const udfburn *handle) {
     return handle->length_bytes == 0 && udfburn_answered_in(handle) == 0;
 }
@@ -270,9 +277,9 @@ int udfburn_between_frames(const udfburn *handle) {
 int32_t udfburn_answer_in(udfburn *handle, const void *bytes, size_t count) {
     const uint8_t *from = bytes;
     if (handle->ended != UDFBURN_OK || udfburn_check_file(handle) != UDFBURN_OK) return handle->ended;
-    /* One message after another, since a drive may go on elsewhere after each commit. */
+    /* To a drive one message after another, since it may go on elsewhere after each commit. */
     while (count > 0 && handle->ended == UDFBURN_OK) {
-        size_t part = follow(handle, from, count);
+        size_t part = handle->port ? follow(handle, from, count) : follow_all(handle, from, count);
         handle->ended = udfburn_core_answer(handle->core, from, part);
         if (handle->ended == UDFBURN_OK) handle->ended = udfburn_follow_drive(handle);
         from += part;

@@ -12,7 +12,7 @@ from typing import Dict, List, Optional, Tuple
 
 from .connection import Connection, Lost
 from .errors import DiscFailed
-from .library import HANDLE, OK, Library, LibraryConnection, OpenVolume, Refused, declare
+from .library import HANDLE, Library, LibraryConnection, OpenVolume, Refused, declare
 from .protocol import shown
 
 VERIFY = 1
@@ -28,17 +28,10 @@ class Volume(ctypes.Structure):
     ]
 
 
-class Reason(ctypes.Structure):
-    """`struct udfburn_reason`."""
-
-    _fields_ = [("size", ctypes.c_size_t), ("status", ctypes.c_int32), ("error", ctypes.c_int32), ("call", ctypes.c_char * 32), ("path", ctypes.c_char * 256)]
-
-
 CALLS: Dict[str, Tuple[Optional[type], List[object]]] = {
     "udfburn_format_mmc": (ctypes.c_int32, [ctypes.c_char_p, ctypes.c_char_p, ctypes.c_uint64]),
     "udfburn_open_mmc": (ctypes.c_int32, [ctypes.c_char_p, ctypes.c_uint32, ctypes.POINTER(HANDLE)]),
     "udfburn_describe": (ctypes.c_int32, [HANDLE, ctypes.POINTER(Volume)]),
-    "udfburn_reason": (ctypes.c_int32, [HANDLE, ctypes.POINTER(Reason)]),
 }
 """The functions of udfburn.h that a recorder takes, beside those of `udfburn.library`."""
 
@@ -63,17 +56,9 @@ WHY = {
 """What reasons mean."""
 
 
-def reason_of(library: Library, handle: object) -> Tuple[str, int]:
-    """The call that failed and its number, of the last call on a handle, or without one."""
-    reason = Reason(ctypes.sizeof(Reason))
-    if library.calls.udfburn_reason(handle, ctypes.byref(reason)) != OK:
-        return "", 0
-    return reason.call.decode(errors="replace"), reason.error
-
-
-def explained(library: Library, handle: object, status: str) -> Tuple[str, bool]:
+def explained(refused: Refused) -> Tuple[str, bool]:
     """Why a call on a disc was refused, in words, and whether another try may help."""
-    call, error = reason_of(library, handle)
+    status, call, error = refused.name, refused.call, refused.error
     if status == "UDFBURN_BUSY":
         return WHY["open", errno.EBUSY], True
     if (call, error) in WHY:
@@ -95,11 +80,8 @@ class OpenDisc(OpenVolume):
     def name(self) -> str:
         """What the volume is known by: the moment of its format, and its label."""
         volume = Volume(ctypes.sizeof(Volume))
-        self._library.require(self._library.calls.udfburn_describe(self._handle, ctypes.byref(volume)))
+        self._library.require(self._library.calls.udfburn_describe(self._handle, ctypes.byref(volume)), self._handle)
         return f"{volume.identity}:{volume.label.decode(errors='replace')}"
-
-    def explained(self, status: str) -> str:
-        return explained(self._library, self._handle, status)[0]
 
 
 class DiscConnection(LibraryConnection):
@@ -113,7 +95,7 @@ class DiscConnection(LibraryConnection):
             self.disc = OpenDisc(library, device)
             self.volume = self.disc
         except Refused as refused:
-            why, is_passing = explained(library, None, refused.name)
+            why, is_passing = explained(refused)
             raise Lost(why) if is_passing else DiscFailed(f"{shown(device)}: {why}") from refused
 
     def name(self) -> str:
@@ -124,7 +106,7 @@ class DiscConnection(LibraryConnection):
             raise self._told(refused) from refused
 
     def _told(self, refused: Refused) -> Exception:
-        return Lost(self.disc.explained(refused.name))
+        return Lost(explained(refused)[0])
 
 
 def format_disc(library: Library, device: str, label: str, moment: int) -> None:
@@ -133,8 +115,8 @@ def format_disc(library: Library, device: str, label: str, moment: int) -> None:
     try:
         library.require(library.calls.udfburn_format_mmc(os.fsencode(device), label.encode(), moment))
     except Refused as refused:
-        why, is_passing = explained(library, None, refused.name)
-        if refused.name == "UDFBURN_VOLUME" and not reason_of(library, None)[0]:
+        why, is_passing = explained(refused)
+        if refused.name == "UDFBURN_VOLUME" and not refused.call:
             why = "holds something already, and stays as it is: put a blank disc in; or repeat a format that was cut short with its own --label and --moment"
         elif refused.name == "UDFBURN_DEVICE" and is_passing:
             why += f". The same command may finish it, with --moment {moment}"
