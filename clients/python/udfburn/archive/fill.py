@@ -3,10 +3,10 @@
 from __future__ import annotations
 
 from contextlib import suppress
-from typing import Callable, Dict, Iterator, List, Sequence
+from typing import Callable, Dict, Iterator, List, Optional, Sequence
 
 from ..errors import Full, UdfburnError
-from ..operations import Operation, Outcome
+from ..operations import Operation, Outcome, clamped, now
 from ..protocol import Code, MakeDir, Path, limits
 from .catalogue import FULL, Catalogue, is_whole
 from .claims import Claims
@@ -48,6 +48,7 @@ class Filler:
         """The volumes that this run does not use, and why."""
         self.after = 0
         """The run counts as begun after this moment, even where the clock is slow."""
+        self._began: Optional[int] = None
         for volume in own_volumes(config, catalogue, claims, batches, self.refused):
             self.open.append(volume)
 
@@ -121,7 +122,10 @@ class Filler:
     def _mark(self, volume: OpenVolume) -> None:
         """Plans the text that notes the run, before the first file."""
         if volume.marker is None:
-            volume.plan_marker(self.text, self.after)
+            # One for all volumes of the run: whoever asks for the archive as it was at a moment gets all of the run, or nothing.
+            if self._began is None:
+                self._began = clamped(max(now(), self.after + 1))
+            volume.plan_marker(self.text, self._began)
 
     def _is_enough(self, volume: OpenVolume) -> bool:
         return len(self.planned[volume.row.number]) >= BATCH_FILES or self.weights[volume.row.number] >= BATCH_BYTES

@@ -14,7 +14,7 @@ from ..digests import Files
 from ..errors import ConnectionFailed, Damaged, DiskFull, DriveFailed, Full, NumberUsedElsewhere, OutOfMemory, ProgramFailed, UsageError, WrongVolume
 from ..ledger import Ledger, MemoryLedger, Volume as Known
 from ..manifest import PAYLOAD
-from ..operations import Operation, Outcome, clamped, now
+from ..operations import Operation, Outcome, now
 from ..own_files import move, new as new_file, remove
 from ..protocol import Code, Create, MakeDir, Path, Remove, limits
 from ..reader import Kind
@@ -280,9 +280,9 @@ class OpenVolume:
         ledger, known = self._in_ledger()
         return {} if known is None else {commit: file.sha256 for commit, file in Files(ledger, known).by_commit.items()}
 
-    def plan_marker(self, text: str, after: int) -> None:
-        """Plans the text that notes a run before its first file. The run counts as begun after the moment `after`."""
-        self.began = clamped(max(now(), after + 1))
+    def plan_marker(self, text: str, began: int) -> None:
+        """Plans the text that notes a run before its first file. Its moment is when the run began."""
+        self.began = began
         path: Path = (RUNS, f"{self.runs + 1:05}.txt")
         self.tree.small(path, len(text))
         self.runs += 1
