@@ -5,18 +5,17 @@ from __future__ import annotations
 import os
 import stat
 from hashlib import sha256
-from typing import Dict, Iterable, Iterator, List, NamedTuple, Optional, Sequence, Tuple
+from typing import Dict, Iterable, Iterator, List, NamedTuple, Optional, Sequence
 
 from ..beneath import Names, Root, folder_mode, mode_for, status_given
 from ..errors import DiskFull, SourceError, UdfburnError
 from ..protocol import Path
 from ..saving import Saver
 from ..sources import shown
-from .catalogue import RETIRED, Catalogue, Held, VolumeRow, as_of, is_whole, versions
+from .catalogue import Catalogue, Held, as_of, versions
 from .config import Config
-from .contents import Contents, File
 from .errors import Lacking, VolumeDiffers
-from .places import readable
+from .reach import Reach, Way
 from .remotes import Print, print_of
 from .tell import Tell, shown_path
 
@@ -26,10 +25,6 @@ class Wanted(NamedTuple):
 
     rows: List[Held]
     names: Names
-
-
-Way = List[Tuple[Held, str]]
-"""The rows of a version, each with the image that its bytes come from."""
 
 
 class Summary:
@@ -89,9 +84,7 @@ class Getter:
         self.config, self.catalogue, self.tell = config, catalogue, tell
         self.summary = Summary()
         self._force = force
-        self._rows: Dict[int, VolumeRow] = {row.number: row for row in catalogue.volumes()}
-        self._at: Dict[int, List[str]] = {}
-        self._open: Dict[str, Tuple[Contents, Dict[int, File]]] = {}
+        self._reach = Reach(config, catalogue)
 
     def run(self, files: Sequence[Wanted], folder: str) -> Summary:
         """Copies versions into a folder, volume by volume."""
@@ -102,15 +95,14 @@ class Getter:
                     self._one(want, saver)
                 saver.finish()
             finally:
-                for contents, _ in self._open.values():
-                    contents.close()
+                self._reach.close()
         self.summary.failures += saver.failures
         return self.summary
 
     def _mode(self, files: Sequence[Wanted]) -> int:
         """The mode of the copies: nobody may read them who may not read the images."""
         numbers = {row.volume for want in files for row in want.rows}
-        return mode_for(*(status_given(image) for number in numbers for image in self._images(number)))
+        return mode_for(*(status_given(image) for number in numbers for image in self._reach.images(number)))
 
     def _one(self, want: Wanted, saver: Saver) -> None:
         held = want.rows[0]
@@ -120,10 +112,10 @@ class Getter:
             saver.folder(want.names[:-1])
             self.tell.step("same", held.path, held.size)
             return
-        ways = self._ways(want.rows)
+        ways = self._reach.ways(want.rows)
         if not ways:
-            for number in sorted({row.volume for row in want.rows if not self._images(row.volume)}):
-                label = self._rows[number].label if number in self._rows else f"volume {number}"
+            for number in sorted({row.volume for row in want.rows if not self._reach.images(row.volume)}):
+                label = self._reach.label(number)
                 self.summary.lacking[label] = self.summary.lacking.get(label, 0) + 1
             return
         why = ""
@@ -142,41 +134,11 @@ class Getter:
                 break
         self.summary.failures.append(f"{shown_path(held.path)}: {why}")
 
-    def _ways(self, rows: Sequence[Held]) -> List[Way]:
-        """From which images the bytes of a version may come, the likeliest first. A file that is whole on a volume comes from any that has
-        it; one in parts from all of them together."""
-        at_hand = [row for row in rows if self._images(row.volume)]
-        sound = [row for row in at_hand if self._rows[row.volume].trouble is None and self._rows[row.volume].state != RETIRED]
-        if rows[0].parts is None:
-            return [[(row, image)] for row in dict.fromkeys(sound + at_hand) for image in self._images(row.volume)]
-        ways: List[Way] = []
-        for group in (sound, at_hand):
-            if group and is_whole(group):
-                for index in range(max(len(self._images(row.volume)) for row in group)):
-                    ways.append([(row, self._images(row.volume)[: index + 1][-1]) for row in group])
-        return ways
-
     def _got(self, held: Held, count: int) -> None:
         """A file has its name."""
         self.summary.files += 1
         self.summary.bytes += count
-        self.tell.step("got", held.path, count, self._rows[held.volume].label, held.commit)
-
-    def _images(self, number: int) -> List[str]:
-        """Where a volume can be read now: its image, then its copies in folders."""
-        if number not in self._at and number in self._rows:
-            self._at[number] = readable(self.config, self.catalogue, self._rows[number])
-        return self._at.get(number, [])
-
-    def _volume(self, image: str) -> Tuple[Contents, Dict[int, File]]:
-        """A volume and its files by their commits. A few are kept open."""
-        if image not in self._open:
-            if len(self._open) >= 4:
-                first = next(iter(self._open))
-                self._open.pop(first)[0].close()
-            contents = Contents(image)
-            self._open[image] = contents, {file.commit: file for file in contents.files()}
-        return self._open[image]
+        self.tell.step("got", held.path, count, self._reach.label(held.volume), held.commit)
 
     def _checked(self, way: Way) -> Iterator[bytes]:
         """The bytes of a version. They are compared with their digest before the last of them is given, so no file gets its name
@@ -184,7 +146,7 @@ class Getter:
         whole, count, last = sha256(), 0, b""
         have, held = 0, way[0][0]
         for row, image in way:
-            contents, files = self._volume(image)
+            contents, files = self._reach.volume(image)
             file = files.get(row.commit)
             if file is None or file.path != row.path:
                 raise VolumeDiffers(f"{contents.image}: does not have it as the catalogue says: run 'check' and 'rebuild'")
