@@ -252,7 +252,7 @@ if [ -d clients/python/udfburn ] && [ -f clients/python/udfburn/__main__.py ]; t
             holds 'the installed archive says its words' "$prefix/bin/udfburn-archive" --help
             holds 'an interrupt while the archive loads ends it with 130 and no traceback' interrupted udfburn-archive
             holds 'the archive takes no module from there' sh -c 'cd "$1/modules" && "$2/bin/udfburn-archive" --help' - "$room" "$prefix"
-            for command in init add ls find history where get status close check repair rebuild adopt report; do
+            for command in init add ls find history where get status close check repair rebuild adopt report mount; do
                 "$prefix/bin/udfburn-archive" "$command" --help
             done | grep -o -e '--[a-z][a-z-]*' | sort -u > "$room/wanted"
             sed 's/Fl -\([a-z]\)/\n--\1/g' man/udfburn-archive.1 | grep -o -e '^--[a-z][a-z-]*' | grep -v -x -e --version | sort -u > "$room/page"

@@ -3,11 +3,13 @@
 from __future__ import annotations
 
 import errno
+import hashlib
 import os
 import random
 import signal
 import subprocess
 import sys
+import time
 from typing import Callable, List
 
 from .mounts import Mount, WithMounts, is_mounted, mounted
@@ -156,3 +158,197 @@ class ImageMounts(WithMounts, WithArchive):
             self.assertIn(b"mounting needs pyfuse3 for this Python (Debian: python3-pyfuse3)", done.stdout)
 
 
+class ArchiveMounts(WithMounts, WithArchive):
+    """`udfburn-archive mount`."""
+
+    def setUp(self) -> None:
+        super().setUp()
+        self.folder = self.path("mnt")
+        os.mkdir(self.folder)
+
+    def words(self) -> List[str]:
+        return ["udfburn.archive", "mount", self.folder, "--archive", self.archive]
+
+    def fill(self, *words: str, files: int = 150) -> None:
+        """An archive of three volumes or more, with a file in parts, of which some are on the next volume, and odd names."""
+        make_tree(self.source, files, 1)
+        write(os.path.join(self.source, "long.bin"), random.Random(2).randbytes(4_500_000))
+        write(os.fsdecode(os.fsencode(self.source) + b"/caf\xe9"), b"bytes")
+        write(os.path.join(self.source, "=odd 😀"), b"")
+        self.init("--capacity", "1800", *words)
+        self.add()
+
+    def images(self) -> List[str]:
+        """The images of the archive, by their labels."""
+        found = [os.path.join(self.archive, state, name) for state in ("open", "closed") for name in os.listdir(os.path.join(self.archive, state))]
+        return sorted((name for name in found if name.endswith(".img")), key=os.path.basename)
+
+    def test_as_it_was_stored(self) -> None:
+        self.fill()
+        stored = digests(self.source)
+        labels = [volume["volume"] for volume in self.volumes()]
+        self.assertGreater(len(labels), 2)
+        parts = [row for row in self.rows() if row["path"] == "/s/long.bin"][0]["places"]
+        self.assertGreater(len(parts), 1, "it is on several volumes")
+        with mounted(self.words(), self.folder) as mount:
+            self.assertEqual(sorted(os.listdir(mount.folder)), ["latest", "runs", "volumes"])
+            self.assertEqual(digests(mount.path("latest", "s")), stored)
+            self.assertEqual(subprocess.run(["cp", "-r", mount.path("latest", "s"), self.path("copy")], check=False).returncode, 0)
+            self.assertEqual({path: found[0] for path, found in digests(self.path("copy")).items()}, {path: found[0] for path, found in stored.items()})
+            # Each file is on its volume, and what is in parts on each that has some of them.
+            self.assertEqual(sorted(os.listdir(mount.path("volumes"))), sorted(labels))
+            found = [(path, seen) for label in labels for path, seen in digests(mount.path("volumes", label, "s")).items()]
+            self.assertEqual(sorted(found), sorted([*stored.items()] + [(b"long.bin", stored[b"long.bin"])] * (len(parts) - 1)))
+            with self.assertRaises(OSError) as failed:
+                open(mount.path("latest", "s", "new"), "wb").close()
+            self.assertEqual(failed.exception.errno, errno.EROFS)
+            self.assertFalse(os.path.exists(mount.path("latest", "s", "none")))
+            self.assertFalse(os.path.exists(mount.path("latest", "\U0010ffff")))
+            self.assertEqual(os.stat(mount.path("latest", "s", "long.bin")).st_mode & 0o777, 0o400)
+            self.assertLess(mount.memory(), 100_000_000)
+            self.assertEqual(mount.end(signal.SIGINT), 0, mount.told())
+            self.assertEqual(mount.told(), "")
+        self.assertFalse(is_mounted(self.folder))
+
+    def test_runs(self) -> None:
+        """A run over several volumes is one moment; each run has all that was there after it."""
+        self.fill()
+        first = digests(self.source)
+        write(os.path.join(self.source, "long.bin"), b"short now")
+        write(os.path.join(self.source, "d9", "new"), b"new")
+        self.add()
+        second = digests(self.source)
+        self.do("rebuild")
+        with mounted(self.words(), self.folder) as mount:
+            runs = sorted(os.listdir(mount.path("runs")))
+            self.assertEqual(len(runs), 2)
+            self.assertEqual([digests(mount.path("runs", run, "s")) for run in runs], [first, second])
+            self.assertEqual(os.path.exists(mount.path("runs", runs[0], "s", "d9")), False)
+            self.assertEqual(os.path.exists(mount.path("runs", runs[1], "s", "d9")), True)
+            self.assertFalse(os.path.exists(mount.path("runs", "2026-01-01")))
+        for run, stored in zip(runs, (first, second)):
+            self.do("get", "/s", self.path(run), "--as-of", run)
+            self.assertEqual(digests(self.path(run, "s")), stored)
+        before = runs[0][:-7] + f"{int(runs[0][-7:-1]) - 1:06}Z"
+        if not before.endswith("-00001Z"):
+            self.do("get", "/s", self.path("before"), "--as-of", before, status=1)
+
+    def test_away(self) -> None:
+        """A file of a volume that is away is listed, and there is no medium; it can be read once the image is back."""
+        self.fill()
+        with mounted(self.words(), self.folder) as mount:
+            whole = {path: (os.lstat(path).st_size, os.lstat(path).st_mtime_ns) for path in walked(mount.path("latest"))}
+            image = self.images()[0]
+            os.rename(image, self.path("away"))
+            label = os.path.basename(image)[:-4]
+            away = {row["path"] for row in self.rows() if label in [place["volume"] for place in row["places"]]}
+            time.sleep(1.1)
+            for path, seen in whole.items():
+                self.assertEqual((os.lstat(path).st_size, os.lstat(path).st_mtime_ns), seen)
+                shown = os.fsencode(path[len(mount.path("latest")) :]).decode(errors="backslashreplace")
+                if shown in away:
+                    self.require_error(errno.ENOMEDIUM, path)
+                else:
+                    with open(path, "rb") as file:
+                        self.assertEqual(len(file.read()), seen[0])
+            os.rename(self.path("away"), image)
+            time.sleep(1.1)
+            self.assertEqual(digests(mount.path("latest", "s")), digests(self.source))
+            self.assertEqual(mount.end(), 1)
+            self.assertEqual(mount.told().count("is not at hand"), 1, "once for the volume, and not for each file")
+
+    def damage(self, data: bytes) -> str:
+        """Flips a bit of bytes that one image has; gives the image."""
+        for image in self.images():
+            with open(image, "rb") as file:
+                place = file.read().find(data)
+            if place >= 0:
+                os.chmod(image, 0o600)
+                with open(image, "r+b") as file:
+                    file.seek(place)
+                    file.write(bytes([data[0] ^ 1]))
+                return image
+        raise AssertionError("no image has it")
+
+    def test_a_flipped_bit(self) -> None:
+        """A damaged file gives no byte, however often it is asked for: a small one, and one in parts. It is whole once it was repaired."""
+        os.mkdir(self.path("copies"))
+        self.fill("--copies", self.path("copies"))
+        self.do("close")
+        stored = digests(self.source)
+        with open(os.path.join(self.source, "d0", "e0", "file 3.bin"), "rb") as file:
+            self.damage(file.read()[-100:])
+        with open(os.path.join(self.source, "long.bin"), "rb") as file:
+            file.seek(4_200_000)
+            self.damage(file.read(100))
+        os.rename(self.path("copies"), self.path("elsewhere"))
+        with mounted(self.words(), self.folder) as mount:
+            for names in (("d0", "e0", "file 3.bin"), ("long.bin",)):
+                self.require_error(errno.EIO, mount.path("latest", "s", *names))
+                self.require_error(errno.EIO, mount.path("latest", "s", *names))
+            found = {path: seen for path, seen in stored.items() if path not in (b"d0/e0/file 3.bin", b"long.bin")}
+            for path, seen in found.items():
+                with open(os.path.join(os.fsencode(mount.path("latest", "s")), path), "rb") as file:
+                    self.assertEqual(hashlib.file_digest(file, "sha256").hexdigest(), seen[0])
+            # A copy in a folder has them.
+            os.rename(self.path("elsewhere"), self.path("copies"))
+            time.sleep(1.1)
+            self.assertEqual(digests(mount.path("latest", "s")), stored)
+            os.rename(self.path("copies"), self.path("elsewhere"))
+            time.sleep(1.1)
+            self.assertEqual(mount.end(), 1)
+            self.assertIn("/s/long.bin: is not as it was stored: its SHA-256 differs: run 'check --data', then 'repair'", mount.told())
+
+    def test_grows_meanwhile(self) -> None:
+        """It is shown as at the mount: what is added later is not there, and an older version is given. Volumes may be closed meanwhile."""
+        self.fill()
+        stored = digests(self.source)
+        with mounted(self.words(), self.folder) as mount:
+            listed = walked(mount.path())
+            self.do("add", write(self.path("other", "later"), b"later"), "--at", "/other/later")
+            write(os.path.join(self.source, "d0", "e0", "file 3.bin"), b"another version")
+            make_tree(os.path.join(self.source, "more"), 100, 7)
+            self.add()
+            self.do("close")
+            time.sleep(1.1)
+            subprocess.run(["sh", "-c", "echo 2 > /proc/sys/vm/drop_caches"], stderr=subprocess.DEVNULL, check=False)
+            self.assertEqual(walked(mount.path()), listed)
+            self.assertEqual(digests(mount.path("latest", "s")), stored)
+            self.assertFalse(os.path.exists(mount.path("latest", "other")))
+            self.assertEqual(mount.end(), 0, mount.told())
+        with mounted(self.words(), self.folder) as mount:
+            self.assertEqual(digests(mount.path("latest", "s")), digests(self.source))
+            self.assertEqual(len(os.listdir(mount.path("runs"))), 3)
+
+    def test_a_file_and_a_folder(self) -> None:
+        """A path that was a file's, and later a folder's."""
+        write(os.path.join(self.source, "a"), b"file")
+        self.init("--capacity", "1800")
+        self.add()
+        os.unlink(os.path.join(self.source, "a"))
+        write(os.path.join(self.source, "a", "b"), b"below")
+        self.add()
+        with mounted(self.words(), self.folder) as mount:
+            self.assertEqual(digests(mount.path("latest", "s")), digests(self.source))
+            first = sorted(os.listdir(mount.path("runs")))[0]
+            with open(mount.path("runs", first, "s", "a"), "rb") as file:
+                self.assertEqual(file.read(), b"file")
+            self.assertEqual(mount.end(), 0)
+            self.assertIn("/s/a: is a file and a folder", mount.told())
+
+    def test_misuse(self) -> None:
+        """It is not mounted where it would hide what it reads."""
+        os.mkdir(self.path("copies"))
+        self.init("--copies", self.path("copies"))
+        empty = self.path("empty")
+        os.mkdir(empty)
+        os.rename(self.path("copies"), self.path("elsewhere"))
+        os.mkdir(self.path("copies"))
+        for point, words in ((self.archive, "is not empty"), (self.path("copies"), "would be hidden"), (self.path("none"), "No such file")):
+            self.assertIn(words, self.do("mount", point, status=1).errors)
+        self.assertFalse(is_mounted(empty))
+
+
+def walked(folder: str) -> List[str]:
+    """The files below a folder."""
+    return sorted(os.path.join(at, name) for at, _, names in os.walk(folder) for name in names)

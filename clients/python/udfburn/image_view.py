@@ -288,7 +288,7 @@ class ImageFile(File):
             raise Damaged(f"{self.view.called(self.commit, node.path)}: its entry in block {node.address} is damaged")
         return entry
 
-    def piece(self, index: int) -> bytes:
+    def piece(self, index: int, way: None) -> bytes:
         node, index = (self.nodes[index], 0) if len(self.nodes) > 1 else (self.nodes[0], index)
         if node.data is None:
             return self._entry(node).inside or b""

@@ -163,7 +163,7 @@ class Handlers:
     async def opendir(self, number: int, ctx: Any) -> int:
         folder = self._folder(number)
         try:
-            names = list(folder.names().items())
+            names = [(name, item) for name, item in folder.names().items() if is_name(name)]
         except Exception as error:
             raise self._error(error) from error
         self._handle += 1
@@ -220,6 +220,11 @@ class Handlers:
 
     async def release(self, handle: int) -> None:
         self._readings.pop(handle, None)
+
+
+def is_name(name: bytes) -> bool:
+    """Whether the kernel takes a name. One that it does not take would hide the whole folder."""
+    return name not in (b"", b".", b"..") and b"/" not in name and b"\0" not in name
 
 
 # ---- mounted

@@ -9,7 +9,7 @@ from __future__ import annotations
 
 from collections import OrderedDict
 from hashlib import sha256
-from typing import Callable, Dict, Hashable, Iterator, NamedTuple, Optional, Tuple, Union
+from typing import Any, Callable, Dict, Hashable, Iterator, List, NamedTuple, Optional, Sequence, Tuple, Union
 
 from .errors import Damaged, UdfburnError
 
@@ -41,6 +41,8 @@ class File:
     """A file: its bytes, its moment in microseconds from 1970-01-01 UTC, and how it is called in messages."""
 
     size = moment = 0
+    cure = ""
+    """What is said of a damaged one after that."""
 
     def key(self) -> Hashable:
         """What no other file has that is shown in the same mount."""
@@ -51,11 +53,15 @@ class File:
         raise NotImplementedError
 
     def sums(self) -> Sums:
-        """What its bytes are compared with. Raises where it cannot be read: `NoMedium`, or another error of this package."""
+        """What its bytes are compared with. Raises where it cannot be read."""
         raise NotImplementedError
 
-    def piece(self, index: int) -> bytes:
-        """The bytes of a piece, as they are on the medium."""
+    def ways(self) -> Sequence[Any]:
+        """The places from which its bytes can be had now. Raises `NoMedium` where there is none."""
+        return (None,)
+
+    def piece(self, index: int, way: Any) -> bytes:
+        """The bytes of a piece, as they are at one of these places."""
         raise NotImplementedError
 
     def count(self) -> int:
@@ -145,7 +151,7 @@ class Reading:
 
     def __init__(self, file: File, memory: Memory):
         self.file, self.memory = file, memory
-        self.sums = file.sums()
+        self.sums, self._ways = file.sums(), list(file.ways())
         # What is kept was compared with these sums, and not with those that another commit has of the same bytes.
         self._key = file.key(), self.sums
         self._kept: Optional[bytes] = None
@@ -155,17 +161,27 @@ class Reading:
         if self.file.count() < 2 or not self.sums.whole:
             return
         self._kept = self.memory.digests(self._key)
-        if self._kept is not None:
-            return
-        whole, kept = sha256(), []
+        why: Optional[Exception] = None
+        while self._kept is None:
+            kept: List[bytes] = []
+            try:
+                yield from self._check(self._ways[0], kept)
+                self._kept = b"".join(kept)
+                self.memory.keep(self._key, self._kept)
+            except (UdfburnError, OSError) as error:
+                why = why or error
+                self._ways = self._ways[1:]
+                if not self._ways:
+                    raise why from error
+
+    def _check(self, way: Any, kept: List[bytes]) -> Iterator[None]:
+        whole = sha256()
         for index in range(self.file.count()):
-            data = self._as_it_is(index)
+            data = self._as_it_is(index, way)
             whole.update(data)
             kept.append(sha256(data).digest())
             yield
         self._require(whole.digest(), self.sums.whole)
-        self._kept = b"".join(kept)
-        self.memory.keep(self._key, self._kept)
 
     def read(self, offset: int, size: int) -> bytes:
         """Bytes from an offset on, each of which was compared."""
@@ -178,8 +194,7 @@ class Reading:
         return parts[0] if len(parts) == 1 else b"".join(parts)
 
     def _compared(self, index: int) -> bytes:
-        """A piece, which has the SHA-256 that it must have."""
-        data = self._as_it_is(index)
+        """A piece, which has the SHA-256 that it must have: from the place that the file was compared at, or from another one."""
         wanted = self.sums.of_pieces[index] if self.sums.of_pieces else ()
         if self.file.count() < 2:
             wanted += self.sums.whole
@@ -187,19 +202,34 @@ class Reading:
             wanted += (self._kept[DIGEST * index : DIGEST * (index + 1)],)
         elif self.sums.whole:
             raise RuntimeError("a file is read before it was compared")
-        if wanted:
-            self._require(sha256(data).digest(), wanted)
-        return data
+        try:
+            return self._from_any(index, wanted)
+        except (UdfburnError, OSError):
+            # The bytes may be elsewhere by now, as those of a volume that was closed.
+            self._ways = list(self.file.ways())
+            return self._from_any(index, wanted)
 
-    def _as_it_is(self, index: int) -> bytes:
-        data = self.file.piece(index)
+    def _from_any(self, index: int, wanted: Tuple[bytes, ...]) -> bytes:
+        why: Optional[Exception] = None
+        for way in self._ways:
+            try:
+                data = self._as_it_is(index, way)
+                if wanted:
+                    self._require(sha256(data).digest(), wanted)
+                return data
+            except (UdfburnError, OSError) as error:
+                why = why or error
+        raise why or NoMedium(f"{self.file.name()}: is not at hand")
+
+    def _as_it_is(self, index: int, way: Any) -> bytes:
+        data = self.file.piece(index, way)
         if len(data) != min(PIECE, self.file.size - PIECE * index):
             raise Damaged(f"{self.file.name()}: bytes are missing")
         return data
 
     def _require(self, found: bytes, wanted: Tuple[bytes, ...]) -> None:
         if any(one != found for one in wanted):
-            raise Damaged(f"{self.file.name()}: is not as it was stored: its SHA-256 differs")
+            raise Damaged(f"{self.file.name()}: is not as it was stored: its SHA-256 differs{self.file.cure}")
 
 
 __all__ = ["Broken", "BrokenFolder", "File", "Folder", "Item", "Memory", "NoMedium", "PIECE", "Reading", "Sums"]

@@ -168,13 +168,16 @@ def add_readers(subs: "Subs") -> None:
     report = command(subs, "report", "write a static HTML page: the volumes, a map of each by commit, and a search by path")
     report.add_argument("out", metavar="OUT.html", help="the page; an earlier one is replaced")
 
+    mount = command(subs, "mount", "show the archive as a file tree, read only, until Ctrl-C or 'fusermount3 -u DIR'")
+    mount.add_argument("dir", metavar="DIR", help="an empty folder, where 'latest', 'volumes/LABEL' and 'runs/TIME' are shown; this takes pyfuse3 (Debian: python3-pyfuse3)")
+
     command(subs, "status", "show how full each volume is, its copies, and what needs attention")
 
 
 COMMANDS: Dict[str, str] = {
     "init": "commands", "add": "commands", "diff": "commands", "rebuild": "commands", "ls": "lookups", "find": "lookups", "history": "lookups", "where": "lookups",
     "get": "queries", "status": "queries", "report": "queries", "adopt": "closing", "close": "closing", "burn": "discs", "check": "closing", "repair": "closing",
-    "remote": "remote_command", "put-away": "closing", "retire": "closing",
+    "remote": "remote_command", "put-away": "closing", "retire": "closing", "mount": "mount",
 }
 
 

@@ -1,0 +1,268 @@
+"""What the mount of an archive shows: `latest`, `volumes/LABEL`, and `runs/TIME`, the archive as it was after a run of `add`.
+
+It is the archive as it was at the mount: what volumes got since is left out, by the last commit that the catalogue had of each then.
+"""
+
+from __future__ import annotations
+
+import os
+import time
+from collections import OrderedDict
+from typing import Dict, Hashable, Iterable, Iterator, List, Optional
+
+from ..errors import Damaged, UdfburnError
+from ..protocol import Path
+from ..reader import Node
+from ..reader.basics import PARTITION, blocks_of
+from ..shown_tree import File, Folder, Item, NoMedium, Sums
+from .catalogue import NEW, Catalogue, Held, as_of, below, folder_text, versions
+from .config import Config
+from .contents import Contents
+from .errors import CannotStore, CatalogueLost, VolumeDiffers
+from .names import kept_name
+from .reach import Reach, Way
+from .schema import COMMITS
+from .tell import Tell, printed_path, shown_path
+
+LATEST, VOLUMES, RUNS = b"latest", b"volumes", b"runs"
+
+PATIENCE = 1.0
+"""Seconds after which it is looked again where volumes are."""
+
+TREES = 4
+"""The volumes of which the paths are kept."""
+
+
+def run_name(moment: int) -> str:
+    """The name of a run: when it began, to the microsecond. `get --as-of` takes it too."""
+    seconds, rest = divmod(moment, 1_000_000)
+    return time.strftime("%Y-%m-%dT%H:%M:%S", time.gmtime(seconds)) + f".{rest:06}Z"
+
+
+class ArchiveView(Folder):
+    """The top folder of an archive that is mounted."""
+
+    def __init__(self, config: Config, tell: Tell):
+        self.config, self.tell = config, tell
+        self._open()
+        rows = [row for row in self.catalogue.volumes() if row.state != NEW]
+        self.labels = {os.fsencode(row.label): row.number for row in rows}
+        self._limits = {row.number: row.last_commit for row in rows}
+        self.moment = int(time.time() * 1_000_000)
+        self._runs: Optional[Dict[bytes, int]] = None
+        self._trees: "OrderedDict[int, Tree]" = OrderedDict()
+        self._twice: Dict[Path, None] = {}
+
+    def _open(self) -> None:
+        self.catalogue = Catalogue(self.config)
+        self.reach = Reach(self.config, self.catalogue)
+        self._looked = 0.0
+
+    def close(self) -> None:
+        """Closes the catalogue and the volumes."""
+        self.reach.close()
+        self.catalogue.base.close()
+
+    def base(self) -> Catalogue:
+        """The catalogue. Where its server was lost, it is asked for again."""
+        if time.monotonic() - self._looked > PATIENCE:
+            self._looked = time.monotonic()
+            self.reach.look_again()
+            try:
+                self.catalogue.base.run("SELECT 1")
+            except CatalogueLost:
+                self.close()
+                self._open()
+        return self.catalogue
+
+    def names(self) -> Dict[bytes, Item]:
+        return {LATEST: State(self, None, ()), VOLUMES: Volumes(self), RUNS: Runs(self)}
+
+    def shown(self, rows: Iterable[Held]) -> List[List[Held]]:
+        """The versions that were there at the mount, the newest first."""
+        return versions(row for row in rows if self.was_there(row.volume, row.commit))
+
+    def was_there(self, volume: int, commit: int) -> bool:
+        """Whether a commit of a volume was there at the mount."""
+        return commit <= self._limits.get(volume, -1)
+
+    def runs(self) -> Dict[bytes, int]:
+        """The moments of all runs, by their names."""
+        if self._runs is None:
+            statement = f"SELECT added, min(id) FROM file GROUP BY added, id / {COMMITS}"
+            moments = {int(added) for added, id in self.base().base.run(statement) if self.was_there(*divmod(int(id), COMMITS))}
+            self._runs = {run_name(moment).encode(): moment for moment in sorted(moments)}
+        return self._runs
+
+    def has_below(self, path: Path, moment: Optional[int]) -> bool:
+        """Whether a folder or what is below it had a file at a moment, or has one."""
+        statement = """SELECT file.id FROM folder JOIN file ON file.folder = folder.id
+        WHERE (folder.path = ? OR (folder.path >= ? AND folder.path < ?)) AND file.added <= ?"""
+        values = (folder_text(path), *below(path), moment if moment is not None else (1 << 63) - 1)
+        return any(self.was_there(*divmod(int(id), COMMITS)) for (id,) in self.base().base.stream(statement, values))
+
+    def tree(self, number: int) -> "Tree":
+        """The paths of a volume. A few are kept."""
+        if number not in self._trees:
+            if len(self._trees) >= TREES:
+                self._trees.popitem(last=False)
+            self._trees[number] = Tree(self, number)
+        self._trees.move_to_end(number)
+        return self._trees[number]
+
+    def without_doubles(self, path: Path, files: Dict[str, List[Held]], folders: Iterable[str]) -> Iterator[str]:
+        """The names of files that no folder has. A path may have been a file's, and later a folder's."""
+        taken = set(folders)
+        for name in files:
+            if name not in taken:
+                yield name
+            elif path + (name,) not in self._twice:
+                self._twice[path + (name,)] = None
+                self.tell.note(f"{printed_path(path + (name,))}: is a file and a folder: the folder is shown, and 'get' has both", did="twice", path=shown_path(path + (name,)))
+
+
+class State(Folder):
+    """A folder of the archive as it is, or as it was at a moment."""
+
+    def __init__(self, view: ArchiveView, at: Optional[int], path: Path):
+        self.view, self.at, self.path = view, at, path
+        self.moment = view.moment if at is None else at
+
+    def names(self) -> Dict[bytes, Item]:
+        catalogue = self.view.base()
+        folders = [name for name in catalogue.children(self.path) if self.view.has_below(self.path + (name,), self.at)]
+        found: Dict[bytes, Item] = {os.fsencode(name): State(self.view, self.at, self.path + (name,)) for name in folders}
+        groups = {name: as_of(self.view.shown(rows), self.at) for name, rows in catalogue.in_folder(self.path).items()}
+        files = {name: group for name, group in groups.items() if group is not None}
+        found.update((os.fsencode(name), ArchiveFile(self.view, files[name])) for name in self.view.without_doubles(self.path, files, folders))
+        return found
+
+    def find(self, name: bytes) -> Optional[Item]:
+        path = self.path + (os.fsdecode(name),)
+        try:
+            kept_name(path[-1])
+        except CannotStore:
+            return None
+        if self.view.has_below(path, self.at):
+            return State(self.view, self.at, path)
+        group = as_of(self.view.shown(self.view.base().of_path(path)), self.at)
+        return None if group is None else ArchiveFile(self.view, group)
+
+
+class Runs(Folder):
+    """The archive as it was after each run."""
+
+    def __init__(self, view: ArchiveView):
+        self.view, self.moment = view, view.moment
+
+    def names(self) -> Dict[bytes, Item]:
+        return {name: State(self.view, moment, ()) for name, moment in self.view.runs().items()}
+
+    def find(self, name: bytes) -> Optional[Item]:
+        moment = self.view.runs().get(name)
+        return None if moment is None else State(self.view, moment, ())
+
+
+class Volumes(Folder):
+    """The files of each volume, under their paths in the archive."""
+
+    def __init__(self, view: ArchiveView):
+        self.view, self.moment = view, view.moment
+
+    def names(self) -> Dict[bytes, Item]:
+        return {name: OnVolume(self.view, number, ()) for name, number in self.view.labels.items()}
+
+
+class Tree:
+    """The newest versions of paths that have bytes on a volume, by their folders."""
+
+    def __init__(self, view: ArchiveView, number: int):
+        self.files: Dict[Path, Dict[str, List[Held]]] = {(): {}}
+        self.folders: Dict[Path, Dict[str, None]] = {(): {}}
+        for row in view.base().of_volume(number):
+            group = self._group(view, row) if view.was_there(number, row.commit) else None
+            if group is None:
+                continue
+            for depth in range(1, len(row.path)):
+                self.folders.setdefault(row.path[:depth], {})
+                self.folders[row.path[: depth - 1]][row.path[depth - 1]] = None
+            # In order of their commits: the last one is the newest of the volume.
+            self.files.setdefault(row.path[:-1], {})[row.path[-1]] = group
+
+    def _group(self, view: ArchiveView, row: Held) -> Optional[List[Held]]:
+        """The rows of a version that has one here: parts of it may be on other volumes."""
+        if row.parts is None:
+            return [row]
+        return next((group for group in view.shown(view.base().of_path(row.path)) if group[0].version() == row.version()), None)
+
+
+class OnVolume(Folder):
+    """A folder of a volume."""
+
+    def __init__(self, view: ArchiveView, number: int, path: Path):
+        self.view, self.number, self.path, self.moment = view, number, path, view.moment
+
+    def names(self) -> Dict[bytes, Item]:
+        tree = self.view.tree(self.number)
+        folders, files = tree.folders.get(self.path, {}), tree.files.get(self.path, {})
+        found: Dict[bytes, Item] = {os.fsencode(name): OnVolume(self.view, self.number, self.path + (name,)) for name in folders}
+        found.update((os.fsencode(name), ArchiveFile(self.view, files[name])) for name in self.view.without_doubles(self.path, files, folders))
+        return found
+
+
+class ArchiveFile(File):
+    """A version of a file."""
+
+    cure = ": run 'check --data', then 'repair'"
+
+    def __init__(self, view: ArchiveView, rows: List[Held]):
+        self.view, self.rows = view, rows
+        self.size, self.moment = rows[0].size, rows[0].moment
+
+    def key(self) -> Hashable:
+        return self.rows[0].sha256, self.size
+
+    def name(self) -> str:
+        return printed_path(self.rows[0].path)
+
+    def sums(self) -> Sums:
+        return Sums((self.rows[0].sha256,))
+
+    def ways(self) -> List[Way]:
+        self.view.base()
+        found = self.view.reach.ways(self.rows)
+        if not found:
+            away = dict.fromkeys(row.volume for row in self.rows if not self.view.reach.images(row.volume))
+            raise NoMedium(f"{', '.join(map(self.view.reach.label, away))}: is not at hand, and files on it cannot be read")
+        return found
+
+    def piece(self, index: int, way: Way) -> bytes:
+        row, image = next((row, image) for row, image in way if row.parts is None or 0 <= index - (row.first or 0) < row.parts)
+        try:
+            contents, files = self.view.reach.volume(image)
+            file = files.get(row.commit)
+            if file is None or file.path != row.path:
+                raise VolumeDiffers(f"{contents.image}: does not have {self.name()} as the catalogue says: run 'check' and 'rebuild'")
+            if row.parts is None:
+                return bytes_at(contents, file.nodes[0], index)
+            return contents.bytes_of(file.nodes[index - (row.first or 0)])
+        except (UdfburnError, OSError):
+            # By the next time it may be repaired.
+            self.view.reach.drop(image)
+            raise
+
+
+def bytes_at(contents: Contents, node: Node, index: int) -> bytes:
+    """A piece of a file that is in extents; the whole of one that is inside its entry."""
+    if node.data is None:
+        return contents.bytes_of(node)
+    if index >= len(node.extents):
+        raise Damaged(f"{contents.image}: a file has fewer bytes than the catalogue says: run 'check --data', then 'repair'")
+    extent = node.extents[index]
+    run = contents.medium.run(extent.first + PARTITION, blocks_of(extent.size))
+    if run.missing:
+        raise Damaged(f"{contents.image}: block {run.missing[0]} cannot be read")
+    return run.data[: extent.size]
+
+
+__all__ = ["ArchiveView", "run_name"]
