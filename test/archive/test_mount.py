@@ -311,7 +311,6 @@ class ArchiveMounts(WithMounts, WithArchive):
             self.add()
             self.do("close")
             time.sleep(1.1)
-            subprocess.run(["sh", "-c", "echo 2 > /proc/sys/vm/drop_caches"], stderr=subprocess.DEVNULL, check=False)
             self.assertEqual(walked(mount.path()), listed)
             self.assertEqual(digests(mount.path("latest", "s")), stored)
             self.assertFalse(os.path.exists(mount.path("latest", "other")))
