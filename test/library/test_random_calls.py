@@ -5,13 +5,13 @@ from __future__ import annotations
 import ctypes
 import random
 import struct
-from ctypes import POINTER, byref, c_size_t, c_void_p
+from ctypes import POINTER, byref, c_size_t, c_uint64, c_void_p
 from typing import Any, Iterator, List, Set, Tuple
 
 from library.building import Case
 from library.test_ctypes import AskedRequest, Name, Node, load
 from library.test_streams import Clients, a_path
-from protocol import (A_DIRECTORY, CREATE, DATA, DONE, GAP, GET, LIST, MALFORMED, NAMES, NO_DIRECTORY, NO_NODE, NODE, RENAME, REPLACE, STALE,
+from protocol import (A_DIRECTORY, APPEND, CREATE, DATA, DONE, GAP, GET, LIST, MALFORMED, NAMES, NO_DIRECTORY, NO_NODE, NODE, RENAME, REPLACE, STALE,
                       STAT, Answer, Request, answers_of, encode, query)
 
 SEED = 20261129
@@ -34,8 +34,10 @@ def request_of(frame: bytes) -> Request:
             names.append(frame[at + 2:at + 2 + length].decode())
             at += 2 + length
         paths.append("/" + "/".join(names))
-    data = frame[at + 4:] if kind in (1, 2) else b""
-    return Request({1: CREATE, 2: REPLACE, 3: "mkdir", 4: RENAME, 5: "remove"}[kind], client, number, paths[0], data, paths[-1], moment)
+    offset = int.from_bytes(frame[at:at + 8], "little") if kind == 6 else 0
+    data = frame[at + 4:] if kind in (1, 2) else frame[at + 12:] if kind == 6 else b""
+    name = {1: CREATE, 2: REPLACE, 3: "mkdir", 4: RENAME, 5: "remove", 6: APPEND}[kind]
+    return Request(name, client, number, paths[0], data, paths[-1], moment, offset)
 
 
 class RandomCalls(Case):
@@ -66,6 +68,8 @@ class RandomCalls(Case):
         words: Tuple[Any, ...] = ()
         if request.kind in (CREATE, REPLACE):
             words = (request.data, c_size_t(len(request.data)))
+        elif request.kind == APPEND:
+            words = (c_uint64(request.offset), request.data, c_size_t(len(request.data)))
         elif request.kind == RENAME:
             words = (request.to.encode(),)
         status = getattr(self.library, "udfburn_" + request.kind)(handle, byref(asked), request.path.encode(), *words)

@@ -7,9 +7,9 @@ from typing import List, Set
 
 from library.building import Case
 import protocol
-from protocol import (A_DIRECTORY, CREATE, DATA, DONE, EXISTS, GAP, GET, INTO_ITSELF, IS_DIRECTORY, LIST, MAKE_DIRECTORY, MALFORMED,
-                      NO_DIRECTORY, NO_NODE, NO_PARENT, NODE, NOT_EMPTY, NOT_FOUND, REMOVE, RENAME, REPLACE, ROOT, STALE, STAT, Request,
-                      answers_of, encode, frame, query)
+from protocol import (A_DIRECTORY, APPEND, CREATE, DATA, DONE, EXISTS, GAP, GET, INTO_ITSELF, IS_DIRECTORY, LIST, MAKE_DIRECTORY, MALFORMED,
+                      NO_DIRECTORY, NO_NODE, NO_PARENT, NODE, NOT_EMPTY, NOT_FOUND, PIECE, REMOVE, RENAME, REPLACE, ROOT, STALE, STAT, Request,
+                      answers_of, encode, frame, query, read_query)
 
 SEED = 20261127
 STREAMS = 200
@@ -42,9 +42,10 @@ class Clients:
         moment = chance.choice(MOMENTS)
         if number == self.last[client] + 1 and moment < MOMENTS[-1]:
             self.last[client] = number
-        kind = chance.choice((CREATE, CREATE, CREATE, REPLACE, MAKE_DIRECTORY, MAKE_DIRECTORY, RENAME, RENAME, REMOVE))
-        data = chance.randbytes(chance.choice(LENGTHS)) if kind in (CREATE, REPLACE) else b""
-        return encode(Request(kind, client, number, a_path(chance), data, a_path(chance), moment))
+        kind = chance.choice((CREATE, CREATE, CREATE, REPLACE, APPEND, APPEND, MAKE_DIRECTORY, MAKE_DIRECTORY, RENAME, RENAME, REMOVE))
+        data = chance.randbytes(chance.choice(LENGTHS)) if kind in (CREATE, REPLACE, APPEND) else b""
+        offset = chance.choice((0, 0, 5, PIECE)) if kind == APPEND else 0
+        return encode(Request(kind, client, number, a_path(chance), data or b"x" if kind == APPEND else data, a_path(chance), moment, offset))
 
 
 def damaged(chance: random.Random, message: bytes) -> bytes:
@@ -65,7 +66,9 @@ def a_stream(chance: random.Random) -> bytes:
         if kind < 0.7:
             messages.append(clients.request())
         elif kind < 0.9:
-            messages.append(query(chance.choice((GET, LIST, STAT)), a_path(chance)))
+            path = a_path(chance)
+            piece = read_query(path, chance.choice((0, 1, 5, PIECE)), chance.choice((0, 1, PIECE)))
+            messages.append(chance.choice((piece, *(query(asked, path) for asked in (GET, LIST, STAT)))))
         else:
             messages.append(damaged(chance, messages[-1] if messages else frame(b"")))
     if chance.random() < 0.1:
