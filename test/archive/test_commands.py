@@ -193,7 +193,7 @@ class Commands(WithArchive):
         make_tree(self.source, 20, 2)
         expected = {
             ("add", self.source): r"stored: 1 file, [0-9]+", ("close",): "closing T-000001.*copying T-000001 to .*remote", ("check", "--remotes"): "reading T-000001.*reading T-000001 on",
-            ("rebuild",): "read 1 volume, 20 files", ("get", "/", self.path("back")): r"[0-9]+%.* 1 of 20 files.*([0-9]+:[0-9]{2} left|<[0-9?]+)",
+            ("rebuild",): "read 1 volume, 20 files", ("get", "/", self.path("back")): r"[0-9]+%.*(<[0-9?:]+.* 1 of 20 files| 1 of 20 files.*[0-9]+:[0-9]{2} left)",
         }
         for words, shown in expected.items():
             ours, theirs = os.openpty()

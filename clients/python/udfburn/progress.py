@@ -138,8 +138,8 @@ class Progress:
 
     def _draw(self, count: int) -> None:
         if self.tqdm is not None:
-            self.tqdm.update(count)
             self.tqdm.set_postfix_str(f"{self.done_files} of {self.files} files" if self.files else self.what, refresh=False)
+            self.tqdm.update(count)
             return
         now = time.monotonic()
         if now - self.shown < 0.1:

@@ -66,6 +66,8 @@ class Tell(Progress):
         elif self.bar:
             self.shown = 0.0
             self._draw(0)
+            if self.tqdm is not None:
+                self.tqdm.refresh()
 
     # ---- a whole of bytes
 
