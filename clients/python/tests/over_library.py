@@ -20,7 +20,7 @@ from udfburn.connection import Lost
 from udfburn.identity import opened_path
 from udfburn.operations import Operation
 
-from . import test_kills
+from . import test_growing_kills, test_kills
 from .programs import PACKAGE, PATIENCE, UDFBURN, WithPrograms
 
 assert os.environ.get("UDFBURN_LIBRARY"), "UDFBURN_LIBRARY names the library"
@@ -236,6 +236,24 @@ class Killed(test_kills.ClientKilled):
         with Client(self.way, ledger=self.ledger, patience=0.0) as client:
             self.assertEqual(client.create("/b", b""), 2)
             self.assertEqual(client.get("/a"), b"a")
+
+
+class Large(test_growing_kills.AtEachCall, WithLibrary):
+    """Files above a mebibyte, by the library in a client that is killed before each call."""
+
+    def anew(self, number: int) -> None:
+        os.unlink(self.image)
+        self.ledger = os.path.join(self.room, f"{number}.sqlite")
+        self.format(self.capacity)
+        self.way = f"library:{self.image}"
+
+    def count(self) -> int:
+        test_growing_kills.require_bytes(self.image)
+        return self.commits()
+
+
+class LargeKnown(test_growing_kills.Known):
+    where = "library"
 
 
 for name in [name for name in dir(test_kills.ClientKilled) if name.startswith("test_")]:

@@ -82,12 +82,13 @@ class Preflight(Local):
         self.assertEqual(list(self.volume.files()), [("x", "good")])
 
     def test_sizes_depths_and_counts(self) -> None:
-        self.write("big", bytes(p.limits.FILE + 1))
+        with open(self.write("big"), "r+b") as file:
+            file.truncate(p.limits.GREATEST_FILE + 1)
         self.write("/".join("d" * 15) + "/deep")
         for index in range(513):
             self.write(f"many/{index}", b"")
         told = self.refused()
-        self.assertIn(f"big: has {p.limits.FILE + 1} bytes", told)
+        self.assertIn(f"big: has {p.limits.GREATEST_FILE + 1} bytes", told)
         self.assertIn("has 17 names", told)
         self.assertIn("513 names", told)
 

@@ -50,7 +50,7 @@ class Ahead:
         waiting: Deque[Read] = deque()
         for job in jobs:
             try:
-                for part, (_, data) in enumerate(zip(job.paths, read_parts(job.source))):
+                for part, data in zip(range(job.count), read_parts(job.source)):
                     waiting.append(Read(job, part, data, self._taken(job, data)))
                     if len(waiting) > PARTS:
                         yield waiting.popleft()

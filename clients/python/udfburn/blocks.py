@@ -4,7 +4,7 @@ from __future__ import annotations
 
 import os
 import struct
-from typing import Dict, Iterable, Optional, Set
+from typing import Dict, Iterable, List, Optional, Set
 
 from .beneath import open_medium
 from .connection import run_program
@@ -76,11 +76,12 @@ class Reckoner:
         self.end = space.next
         """The address up to which the program asks for room: beyond the last block that is written."""
         self.layouts: Dict[Path, Layout] = {}
+        self.names: Dict[Path, List[str]] = {}
 
     def directory(self, path: Path, names: Iterable[str]) -> None:
         """A directory that is there, with its names in stored order."""
-        self.layouts[path] = Layout()
-        for name in names:
+        self.layouts[path], self.names[path] = Layout(), list(names)
+        for name in self.names[path]:
             self.layouts[path].add(name)
 
     def replace(self, size: int) -> bool:
@@ -91,6 +92,27 @@ class Reckoner:
         """A new file. Whether it fits."""
         parent = self._named(path)
         return self._write(2 * data_blocks(size) + 1 + parent.most(), data_blocks(size) + 1 + parent.blocks())
+
+    def append(self, size: int) -> bool:
+        """A piece at the end of a file, which is never inside its entry."""
+        return self._write(2 * blocks_for(size) + 1, blocks_for(size) + 1)
+
+    def remove(self, path: Path) -> bool:
+        """A file that goes."""
+        parent = self._left(path)
+        return self._write(parent.most(), parent.blocks())
+
+    def rename(self, path: Path, to: Path) -> bool:
+        """A file's other path."""
+        parents = {path[:-1]: self._left(path), to[:-1]: self._named(to)}
+        return self._write(sum(parent.most() for parent in parents.values()), sum(parent.blocks() for parent in parents.values()))
+
+    def grow(self, path: Path, size: int, kept: int, unfinished: Path, replaces: bool) -> bool:
+        """A file above a mebibyte, of which so many pieces are there: its others, and its name."""
+        fits = [] if kept else [self.create(unfinished, limits.FILE)]
+        fits += [self.append(min(size - at, limits.FILE)) for at in range(max(kept, 1) * limits.FILE, size, limits.FILE)]
+        fits += [self.remove(path)] if replaces else []
+        return all([*fits, self.rename(unfinished, path)])
 
     def make(self, path: Path) -> bool:
         """A new directory."""
@@ -103,7 +125,13 @@ class Reckoner:
         self.space.entries = max(self.space.entries, self.space.nodes + 1)
         parent = self.layouts.setdefault(path[:-1], Layout())
         parent.add(path[-1])
+        self.names.setdefault(path[:-1], []).append(path[-1])
         return parent
+
+    def _left(self, path: Path) -> Layout:
+        self.space.nodes -= 1
+        self.directory(path[:-1], [name for name in self.names.get(path[:-1], ()) if name != path[-1]])
+        return self.layouts[path[:-1]]
 
     def _write(self, most: int, blocks: int) -> bool:
         """Goes on by a commit; whether the program has room for the most that it may need."""

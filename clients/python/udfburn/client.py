@@ -13,7 +13,7 @@ from .operations import Operation, Outcome, now
 from .pieces import data_of, queries_of
 from .protocol import (
     Answer, AnyRequest, Code, Create, Data, Get, List as ListQuery, MakeDir, Name, Names, Node, NodeKind, Path, PathLike, Query,
-    Read, Remove, Rename, Replace, Stat, path_of, show, shown,
+    Read, Remove, Rename, Replace, Stat, limits, path_of, show, shown,
 )
 from .refusals import Answered, commit_of, expected, met
 
@@ -139,7 +139,12 @@ class Client:
         return self.do(Remove, path, moment)
 
     def put(self, path: PathLike, data: bytes, moment: Optional[int] = None) -> int:
-        """Stores a file: makes it, or replaces it where it is there."""
+        """Stores a file: makes it, or replaces it where it is there. One above a mebibyte, of at most 122,683,392 bytes, takes a request
+        for each mebibyte, and is there whole or not at all."""
+        if len(data) > limits.FILE:
+            from .growing import put_bytes
+
+            return put_bytes(self, path_of(path), data, moment)
         with self.held():
             while True:
                 node = self.find(path)

@@ -69,6 +69,8 @@ class Files:
             self._drop(deed.path)
         elif deed.kind in (Kind.CREATE, Kind.REPLACE):
             self._store(sent)
+        elif deed.kind is Kind.APPEND:
+            self._append(sent)
 
     def _store(self, sent: Sent) -> None:
         if sent.facts is None or sent.facts.sha256 is None or sent.commit is None:
@@ -79,6 +81,16 @@ class Files:
         if whole is not None:
             parts = tuple(stored_paths(whole.path, whole.size, True))
             self._wholes[whole.path] = KnownWhole(whole.path, whole.size, whole.sha256, parts, sent.commit, sent.number)
+
+    def _append(self, sent: Sent) -> None:
+        """Of a file that is appended to, the request of the last piece has the digest of all its bytes. Until then none is known."""
+        if sent.facts is None or sent.commit is None:
+            raise ValueError(f"request {sent.number} stored a piece, and its commit is not known")
+        deed, whole = sent.facts.deed, sent.facts.whole
+        self._drop(deed.path)
+        if whole is not None and whole.size == deed.size:
+            known = Known(deed.path, deed.size, deed.moment, whole.sha256, sent.commit, sent.number)
+            self.now[deed.path] = self.by_commit[sent.commit] = known
 
     def _move(self, old: Path, new: Path) -> None:
         for path in below(self.now, old):

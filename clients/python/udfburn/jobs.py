@@ -2,12 +2,14 @@
 
 from __future__ import annotations
 
+from contextlib import closing
 from hashlib import sha256
 from typing import Dict, Iterator, List, NamedTuple, Optional, Sequence
 
 from .errors import SourceError
 from .operations import Whole
-from .protocol import Data, Path, limits
+from .pieces import queries_of
+from .protocol import Data, Path, Query, limits
 from .sources import Source, read_parts
 
 
@@ -47,11 +49,15 @@ class Summary:
 
 class Job:
     """A file on its way: the paths of its parts, the SHA-256 of those that the volume has already, by their numbers, the SHA-256 of each that was read
-    and of all so far, what became of it, and the moment that the volume has of an earlier one."""
+    and of all so far, what became of it, and the moment that the volume has of an earlier one. One above a mebibyte with one path
+    grows by appends, and is `named` once it has this path: its parts are its pieces."""
 
     def __init__(self, source: Source, paths: List[Path], same: Optional[Dict[int, bytes]] = None):
         self.source = source
         self.paths = paths
+        self.grows = len(paths) == 1 and source.identity.size > limits.FILE
+        self.count = -(-source.identity.size // limits.FILE) if self.grows else len(paths)
+        self.named = not self.grows
         self.same: Dict[int, bytes] = same or {}
         self.digests: List[bytes] = []
         self.whole = sha256()
@@ -67,19 +73,27 @@ class Job:
     def take(self, part: bytes) -> Optional[Whole]:
         """Takes a part that was read and is to be sent. With the last of several parts: the whole file."""
         self.digests.append(digest(part))
-        if len(self.paths) == 1:
+        if self.count == 1:
             return None
         self.whole.update(part)
-        last = len(self.digests) == len(self.paths)
-        return Whole(self.source.path, self.source.identity.size, self.whole.digest()) if last else None
+        last = len(self.digests) == self.count
+        return self.of_whole() if last else None
 
     def fail(self, why: str) -> None:
         """Keeps the first reason why it was not stored."""
         self.failure = self.failure or why
 
     def stored(self) -> bool:
-        """Whether all of its parts are stored."""
-        return self.failure is None and self.done == len(self.paths)
+        """Whether all of its parts are stored, under its own path."""
+        return self.failure is None and self.done == self.count and self.named
+
+    def queries(self) -> List[Query]:
+        """The queries that give its parts."""
+        return queries_of(self.paths, self.source.identity.size)
+
+    def of_whole(self) -> Whole:
+        """The whole file, once all of its parts were read."""
+        return Whole(self.source.path, self.source.identity.size, self.whole.digest())
 
 
 def digest(data: bytes) -> bytes:
@@ -88,20 +102,20 @@ def digest(data: bytes) -> bytes:
 
 
 def same_parts(source: Source, count: int, indexes: Sequence[int], answers: Iterator[object]) -> Dict[int, bytes]:
-    """The parts of a file whose bytes answers have, by their numbers, and the SHA-256 of each. There is an answer for each of these
-    numbers, and all are taken. Raises where the file cannot be read, or changed meanwhile."""
-    parts = read_parts(source)
+    """The first parts of a file, so many, whose bytes answers have, by their numbers, and the SHA-256 of each. There is an answer for each
+    of these numbers, and all are taken. Raises where the file cannot be read, or changed meanwhile."""
     asked = set(indexes)
     same: Dict[int, bytes] = {}
     error: Optional[SourceError] = None
-    for index in range(count):
-        answer = next(answers) if index in asked else None
-        try:
-            part = None if error else next(parts, None)
-        except SourceError as failed:
-            error = failed
-        if error is None and isinstance(answer, Data) and answer.data == part:
-            same[index] = digest(answer.data)
+    with closing(read_parts(source)) as parts:
+        for index in range(count):
+            answer = next(answers) if index in asked else None
+            try:
+                part = None if error else next(parts, None)
+            except SourceError as failed:
+                error = failed
+            if error is None and isinstance(answer, Data) and answer.data == part:
+                same[index] = digest(answer.data)
     if error is not None:
         raise error
     return same

@@ -6,7 +6,7 @@ import os
 from typing import NamedTuple, Optional, Union
 
 from .operations import Deed, Origin, Whole, deed_of
-from .protocol import AnyRequest, Create, Kind, Replace, path_of, show
+from .protocol import AnyRequest, Append, Create, Kind, Replace, path_of, show
 
 
 class Identity(NamedTuple):
@@ -50,7 +50,7 @@ class Volume(NamedTuple):
 
 
 class Facts(NamedTuple):
-    """What a request asks for: a deed, the SHA-256 of its data where it has some, and the whole file whose last part it is."""
+    """What a request asks for: a deed, the SHA-256 of its data where it has some, and the whole file whose last part or piece it is."""
 
     deed: Deed
     sha256: Optional[bytes] = None
@@ -97,7 +97,7 @@ class Sent(NamedTuple):
 def facts_of(request: AnyRequest, sha256: Optional[bytes] = None, whole: Optional[Whole] = None) -> Facts:
     """The facts of a request. The SHA-256 of its data is computed where it is not given."""
     deed = deed_of(request)
-    if not isinstance(request, (Create, Replace)):
+    if not isinstance(request, (Create, Replace, Append)):
         return Facts(deed)
     return Facts(deed, sha256 or digest(request.data), whole)
 

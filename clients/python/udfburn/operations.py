@@ -3,11 +3,11 @@
 from __future__ import annotations
 
 import time
-from typing import Any, Dict, List, Mapping, NamedTuple, Optional, Sequence, Tuple, Type
+from typing import Any, Dict, List, Mapping, NamedTuple, Optional, Sequence, Tuple, Type, Union
 
 from .errors import TooLarge
 from .protocol import (
-    NOT_FOUND, Answer, AnyRequest, Code, Create, Kind, MakeDir, Node, NodeKind, Path, Rename, Replace, encode_answer, limits, printed,
+    NOT_FOUND, Answer, AnyRequest, Append, Code, Create, Kind, MakeDir, Node, NodeKind, Path, Rename, Replace, encode_answer, limits, printed,
 )
 
 
@@ -22,7 +22,7 @@ def clamped(moment: int) -> int:
 
 
 class Whole(NamedTuple):
-    """A file that is stored in parts, as its last part has it: its own path, its bytes, and the SHA-256 of all of them."""
+    """A file that takes several requests, as the last of its data has it: its own path, its bytes, and the SHA-256 of all of them."""
 
     path: Path
     size: int
@@ -43,8 +43,8 @@ class Operation(NamedTuple):
     """What a request is to do. `tag` is for whoever made it.
 
     `sha256` is that of the data, where whoever made it has computed it already; else it is computed when the request is made. `whole`
-    is given with the last part of a file in parts. `origin` is given where the data came from a local file: then the ledger keeps large
-    data by its digest alone.
+    is given with the last part of a file in parts, and with the last piece of one that is appended to. `origin` is given where the data
+    came from a local file: then the ledger keeps large data by its digest alone. `offset` is that of an append.
     """
 
     kind: Type[AnyRequest]
@@ -56,14 +56,17 @@ class Operation(NamedTuple):
     sha256: Optional[bytes] = None
     whole: Optional[Whole] = None
     origin: Optional[Origin] = None
+    offset: int = 0
 
     def request(self, client: int, number: int) -> AnyRequest:
         """The request of a client under a number."""
         if len(self.data) > limits.FILE:
-            raise TooLarge(f"{printed(self.path)}: {len(self.data)} bytes, and a file has at most {limits.FILE}")
+            raise TooLarge(f"{printed(self.path)}: {len(self.data)} bytes, and a request has at most {limits.FILE}")
         kind: Any = self.kind
         if kind is Create or kind is Replace:
             return kind(client, number, self.moment, self.path, self.data)  # type: ignore[no-any-return]
+        if kind is Append:
+            return Append(client, number, self.moment, self.path, self.offset, self.data)
         if kind is Rename:
             return Rename(client, number, self.moment, self.path, self.to)
         return kind(client, number, self.moment, self.path)  # type: ignore[no-any-return]
@@ -120,8 +123,8 @@ def paths_of(request: AnyRequest) -> Tuple[Path, ...]:
 
 def after(request: AnyRequest) -> Dict[Path, Expected]:
     """What the tree has right after a request that was done."""
-    if isinstance(request, (Create, Replace)):
-        return {request.path: Expected(True, NodeKind.FILE, len(request.data), request.moment)}
+    if isinstance(request, (Create, Replace, Append)):
+        return {request.path: Expected(True, NodeKind.FILE, size_after(request), request.moment)}
     if isinstance(request, MakeDir):
         return {request.path: Expected(True, NodeKind.DIRECTORY, 0, request.moment)}
     if isinstance(request, Rename):
@@ -151,15 +154,15 @@ def confirmed(request: AnyRequest, code: Code, answers: Sequence[Answer]) -> boo
 
 def surely(request: AnyRequest) -> Optional[bytes]:
     """The payload by which Stat of the request's path agrees with its being done, where it has one path: there is no other."""
-    if isinstance(request, (Create, Replace)):
-        return encode_answer(Node(NodeKind.FILE, request.moment, len(request.data)))
+    if isinstance(request, (Create, Replace, Append)):
+        return encode_answer(Node(NodeKind.FILE, request.moment, size_after(request)))
     if isinstance(request, MakeDir):
         return encode_answer(Node(NodeKind.DIRECTORY, request.moment, 0))
     return None if isinstance(request, Rename) else encode_answer(NOT_FOUND)
 
 
 class Deed(NamedTuple):
-    """What a request does, without its data: its kind, its path, where to, the bytes of its data, and its moment."""
+    """What a request does, without its data: its kind, its path, where to, the bytes that its file has then, and its moment."""
 
     kind: Kind
     path: Path
@@ -167,11 +170,20 @@ class Deed(NamedTuple):
     size: int
     moment: int
 
+    def data_size(self) -> int:
+        """The bytes of its data. Of a file that is appended to each piece but the last has a mebibyte, so the size says where it began."""
+        return (self.size - 1) % limits.FILE + 1 if self.kind is Kind.APPEND else self.size
+
+
+def size_after(request: Union[Create, Replace, Append]) -> int:
+    """The bytes that the file has once this was done."""
+    return len(request.data) + (request.offset if isinstance(request, Append) else 0)
+
 
 def deed_of(request: AnyRequest) -> Deed:
     """The deed of a request."""
     to = request.to if isinstance(request, Rename) else ()
-    size = len(request.data) if isinstance(request, (Create, Replace)) else 0
+    size = size_after(request) if isinstance(request, (Create, Replace, Append)) else 0
     return Deed(request.kind, request.path, to, size, request.moment)
 
 

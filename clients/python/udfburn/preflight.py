@@ -8,6 +8,7 @@ from typing import TYPE_CHECKING, Dict, List, Optional, Set, Tuple
 from .protocol import NodeKind, Path, limits, printed
 from .sources import Folder, Scan, Source, shown, why_not
 from .split import base_of, has_form, next_part, own_paths, part_count, part_folders, stored_paths
+from .unfinished import PREFIX, UNDER_WAY, grows, is_unfinished, unfinished_path
 
 if TYPE_CHECKING:
     from .blocks import Space
@@ -27,7 +28,7 @@ class Present:
 
 class Plan:
     """What an import does: directories that are made, those for parts among them, files with the paths of their parts, the
-    parts that stay as they are, and what goes."""
+    parts and pieces that stay as they are, and what goes: after a file is stored, or, of `unfinished`, before."""
 
     def __init__(self, faults: List[str]):
         self.folders: List[Folder] = []
@@ -35,6 +36,7 @@ class Plan:
         self.files: List[Tuple[Source, List[Path]]] = []
         self.kept: Dict[Path, Dict[int, bytes]] = {}
         self.stale: Dict[Path, List[Path]] = {}
+        self.unfinished: List[Path] = []
         self.faults = faults
         self.blocks: Optional[int] = None
         self.left: Optional[int] = None
@@ -43,7 +45,7 @@ class Plan:
 def plan(scan: Scan, present: Present, split: bool, space: Optional[Space], stale: Optional[Dict[Path, List[Path]]] = None) -> Plan:
     """Plans an import, with all that speaks against it. `stale` is what goes with it."""
     planned = Plan(list(scan.faults))
-    planned.kept, planned.stale = scan.kept, stale or {}
+    planned.kept, planned.stale, planned.unfinished = scan.kept, stale or {}, scan.unfinished
     for folder in scan.folders:
         if present.kinds.get(folder.path) is NodeKind.FILE:
             planned.faults.append(f"{printed(folder.path)}: is a file, and is to be a directory")
@@ -73,8 +75,10 @@ def refuse_sizes(scan: Scan, split: bool) -> None:
 def fault_of(source: Source, split: bool) -> Optional[str]:
     """Why a file cannot be stored by its size and its name, if it cannot."""
     size = source.identity.size
-    if size > limits.FILE and not split:
-        return f"has {size} bytes, and a file has at most {limits.FILE} (--split stores it in parts)"
+    if is_unfinished(source.path):
+        return f"would have a path that begins with /{PREFIX}: such files are not whole, and clients remove them"
+    if grows(size, split):
+        return f"has {size} bytes, and a file has at most {limits.GREATEST_FILE} (--split stores it in parts)" if size > limits.GREATEST_FILE else None
     if part_count(size) > limits.NODES:
         return f"takes {part_count(size):,} parts, and a volume has at most {limits.NODES:,} files and directories"
     # All parts have names of one length. What is whole has a name that was looked at where it was found.
@@ -128,6 +132,8 @@ def check_paths(planned: Plan, present: Present) -> None:
             if present.kinds.get(path) is NodeKind.DIRECTORY:
                 planned.faults.append(f"{printed(path)}: is a directory, and {shown(source.local)} is a file")
     for path in targets + sorted(made):
+        if is_unfinished(path):
+            planned.faults.append(f"{printed(path)}: begins with /{PREFIX}, as the names of files do that clients have not finished")
         if len(path) > limits.DEPTH:
             planned.faults.append(f"{printed(path)}: has {len(path)} names, and a path has at most {limits.DEPTH}")
         parent = path[:-1]
@@ -143,13 +149,20 @@ def new_paths(planned: Plan, present: Present) -> List[Path]:
 
 
 def check_counts(planned: Plan, present: Present) -> None:
-    """Names a directory, and nodes of the volume."""
+    """Names in a directory, and nodes of the volume."""
     added = new_paths(planned, present)
-    for parent, count in Counter(path[:-1] for path in added if path).items():
+    counts = Counter(path[:-1] for path in added if path)
+    growing = [path for source, (path, *more) in planned.files if not more and source.identity.size > limits.FILE]
+    elsewhere = min(UNDER_WAY, sum(path[:-1] != () or path in present.kinds for path in growing))
+    if elsewhere:
+        counts[()] += elsewhere
+    for parent, count in counts.items():
         names = len(present.names.get(parent, ())) + count
         if names > limits.NAMES:
             planned.faults.append(f"{printed(parent)}: would have {names} names, and a directory has at most {limits.NAMES}")
-    nodes = 1 + sum(len(names) for names in present.names.values()) + len(added)
+    # An unfinished file is a node beside the one that it replaces.
+    beside = min(UNDER_WAY, sum(path in present.kinds for path in growing))
+    nodes = 1 + sum(len(names) for names in present.names.values()) + len(added) + beside
     if present.whole and nodes > limits.NODES:
         planned.faults.append(f"the volume would have {nodes} files and directories, and has at most {limits.NODES}")
 
@@ -165,8 +178,12 @@ def reckon(planned: Plan, present: Present, space: Optional[Space]) -> None:
     for path, names in present.names.items():
         reckoner.directory(path, names)
     fits = [reckoner.make(folder.path) for folder in planned.folders + planned.part_folders]
+    fits += [reckoner.remove(path) for path in planned.unfinished]
     for source, paths in planned.files:
         left, kept = source.identity.size, planned.kept.get(source.path, ())
+        if len(paths) == 1 and left > limits.FILE:
+            fits.append(reckoner.grow(source.path, left, len(kept), unfinished_path(0, source.path), source.path in present.kinds))
+            continue
         for index, path in enumerate(paths):
             size = min(left, limits.FILE)
             left -= size

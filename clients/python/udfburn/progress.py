@@ -121,18 +121,21 @@ class Progress:
         """A file or a part was stored; programs get its SHA-256, and with a last part that of the whole file."""
         operation = outcome.operation
         job, index = operation.tag
-        # The last part of a file is stored whatever parts of it were there.
-        last = index + 1 == len(job.paths)
+        # The last part of a file is stored whatever parts of it were there. One that got its name is all there.
+        named = operation.whole if job.grows else None
+        last = named is not None or index + 1 == len(job.paths)
+        path, count = (named.path, named.size) if named is not None else (operation.path, len(operation.data))
         self.done_files += last - 1
         if not self.as_json or self.quiet:
-            self.told("stored", operation.path, len(operation.data), outcome.commit)
+            self.told("stored", path, count, outcome.commit)
             return
         self.done_files += 1
-        self.done_bytes += len(operation.data)
-        step: Dict[str, object] = {"did": "stored", "path": show(operation.path), "bytes": len(operation.data), "commit": outcome.commit}
-        if operation.sha256 is not None:
-            step["sha256"] = operation.sha256.hex()
-        if operation.whole is not None:
+        self.done_bytes += count
+        step: Dict[str, object] = {"did": "stored", "path": show(path), "bytes": count, "commit": outcome.commit}
+        sha256 = named.sha256 if named is not None else operation.sha256
+        if sha256 is not None:
+            step["sha256"] = sha256.hex()
+        if operation.whole is not None and named is None:
             step["whole"] = {"path": show(operation.whole.path), "bytes": operation.whole.size, "sha256": operation.whole.sha256.hex()}
         self._print_json(step)
 

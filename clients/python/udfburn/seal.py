@@ -19,6 +19,7 @@ from .operations import Operation, now
 from .pieces import data_of, queries_of
 from .protocol import AnyRequest, Code, Create, Node, NodeKind, Path, Replace, Stat, limits, printed, show
 from .refusals import expected, refusal
+from .unfinished import is_unfinished
 from .walk import Told, quiet, walk
 
 AGENT = "udfburn-client"
@@ -87,8 +88,9 @@ def require_directory(client: Client, path: Path, top: Path) -> None:
 
 
 def files_below(client: Client, top: Path) -> List[Path]:
-    """The paths of all files below a directory."""
-    return [at + (name.name,) for at, names in walk(client, top) for name in names if name.kind is NodeKind.FILE]
+    """The paths of all files below a directory, but those that a client has not finished."""
+    found = [at + (name.name,) for at, names in walk(client, top) for name in names if name.kind is NodeKind.FILE]
+    return [path for path in found if not is_unfinished(path)]
 
 
 # ---- read back

@@ -260,7 +260,7 @@ class Session:
         sent = self._payloads.get(waiting.number, b"")
         if sent.startswith(waiting.payload) and digest(sent[len(waiting.payload) :]) == facts.sha256:
             return sent
-        data = data_again(waiting.origin, facts.deed.size, facts.sha256) if waiting.origin != GIVEN_UP else None
+        data = data_again(waiting.origin, facts.deed.data_size(), facts.sha256) if waiting.origin != GIVEN_UP else None
         return None if data is None else waiting.payload + data
 
     def _give_up(self, waiting: Pending) -> None:

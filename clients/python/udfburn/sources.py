@@ -8,7 +8,7 @@ from __future__ import annotations
 import os
 import stat
 import time
-from typing import Dict, Iterator, List, NamedTuple, Optional, Tuple
+from typing import Dict, Generator, Iterator, List, NamedTuple, Optional, Tuple
 
 from .beneath import Place, Root, open_from_top, place_of
 from .errors import SourceChanged, SourceError
@@ -73,7 +73,7 @@ class Folder(NamedTuple):
 
 class Scan:
     """What was found: folders before what is in them, files, those that the volume has already, the parts that it has of others, by
-    their paths and numbers, each with its SHA-256, and what cannot be stored, each with why."""
+    their paths and numbers, each with its SHA-256, unfinished files that go, and what cannot be stored, each with why."""
 
     def __init__(self) -> None:
         self.folders: List[Folder] = []
@@ -81,6 +81,7 @@ class Scan:
         self.files: List[Source] = []
         self.same: List[Source] = []
         self.kept: Dict[Path, Dict[int, bytes]] = {}
+        self.unfinished: List[Path] = []
         self.faults: List[str] = []
         self.skipped: List[str] = []
         self.not_kept = NotKept()
@@ -212,7 +213,7 @@ def open_source(source: Source) -> int:
     return source.place.root.open_file(source.place.names, keep_access_time=True)
 
 
-def read_parts(source: Source) -> Iterator[bytes]:
+def read_parts(source: Source) -> Generator[bytes, None, None]:
     """The bytes of a file in parts of a mebibyte; the last is given only where the file did not change meanwhile."""
     left = source.identity.size
     try:

@@ -9,6 +9,7 @@ from .errors import IsDirectory
 from .protocol import Name, Node, NodeKind, Path, Stat, show
 from .refusals import expected
 from .split import SUFFIX, base_of, joined, joined_folder
+from .unfinished import is_unfinished
 from .walk import walk
 
 if TYPE_CHECKING:
@@ -34,9 +35,9 @@ class Tree:
         self.nodes: Dict[Path, Node] = {}
 
     def walk(self, client: Client, path: Path) -> "Tree":
-        """Adds a directory with all below it."""
+        """Adds a directory with all below it, but files that a client has not finished."""
         for at, names in walk(client, path):
-            self.add(client, at, names)
+            self.add(client, at, [name for name in names if not is_unfinished(at + (name.name,))])
         return self
 
     def add(self, client: Client, at: Path, names: Sequence[Name]) -> None:

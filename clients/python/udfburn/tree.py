@@ -9,14 +9,16 @@ from typing import TYPE_CHECKING, Callable, Deque, Iterable, Iterator, List, Opt
 from .ahead import Ahead
 from .connection import find_program
 from .errors import Differs, DoesNotFit, SourceError, UsageError
+from .growing import find_begun
 from .jobs import Job, Options, Summary, reads_back, same_parts
 from .operations import Operation, Outcome, now
 from .preflight import Plan, Present, plan, refuse_sizes
-from .protocol import AnyRequest, Code, Create, Get, MakeDir, Node, NodeKind, Path, Replace, Stat, limits, printed
+from .protocol import AnyRequest, Append, Code, Create, Get, MakeDir, Node, NodeKind, Path, Query, Remove, Rename, Replace, Stat, limits, printed
 from .refusals import refusal
 from .sources import Folder, Scan, delete, origin_of, scan, shown
 from .split import stored_paths
 from .stale import Stale, find_stale
+from .unfinished import grows, unfinished_path
 from .walk import Told, look, quiet, remove_paths, remove_tree, walk
 
 if TYPE_CHECKING:
@@ -48,6 +50,8 @@ class Importer:
         self.same: List[Job] = []
         self._kept: List[Job] = []
         self._ahead = Ahead()
+        # Files whose pieces are all there, and which have not their own names yet.
+        self._whole: Deque[Job] = deque()
 
     def plan(self, jobs: Iterable[Tuple[str, Path]]) -> Plan:
         """Looks at what is to be stored and at what is there, and raises `DoesNotFit` with all that speaks against it."""
@@ -68,6 +72,8 @@ class Importer:
             stale = self._stale(found)
             if not options.rewrite:
                 self._leave_same(found)
+            if not options.dry_run:
+                self._find_begun(found)
         if options.parents:
             self._add_parents(found, [path for _, path in wanted])
         planned = plan(found, self.present, options.split, self._space(), stale)
@@ -84,6 +90,18 @@ class Importer:
         stale, doubtful = find_stale(self.client, found, self.present)
         self.summary.skipped += doubtful
         return stale
+
+    def _find_begun(self, found: Scan) -> None:
+        """Looks for what an earlier run began of files that are stored piece by piece."""
+        growing = [source for source in found.files if grows(source.identity.size, self.options.split)]
+        if growing:
+            begun = find_begun(self.client, self._number(), growing)
+            found.kept.update(begun.kept)
+            found.unfinished, found.faults = begun.others, found.faults + begun.faults
+
+    def _number(self) -> int:
+        """The number of this client."""
+        return self.client.session().ledger.client
 
     def _add_parents(self, found: Scan, paths: List[Path]) -> None:
         """Plans the directories above that are missing."""
@@ -113,6 +131,8 @@ class Importer:
             with self.client.held():
                 self._make(planned)
                 self._finish_same(planned)
+                if planned.unfinished:
+                    remove_paths(self.client, planned.unfinished, self.told)
                 for chunk in self._chunks(Job(source, paths, planned.kept.get(source.path)) for source, paths in planned.files):
                     self._chunk(chunk, planned)
         finally:
@@ -143,7 +163,7 @@ class Importer:
             kept = planned.kept.get(source.path, ())
             for index, path in enumerate(paths):
                 if index not in kept:
-                    size = min(source.identity.size - index * limits.FILE, limits.FILE)
+                    size = Job(source, paths).size_of(index)
                     self.told("would replace" if path in self.present.kinds else "would store", path, size, 0)
         for source in [job.source for job in self.same] + [source for source, _ in planned.files]:
             for path in planned.stale.get(source.path, []):
@@ -184,36 +204,70 @@ class Importer:
     # ---- one chunk
 
     def _operations(self, jobs: List[Job]) -> Iterator[Operation]:
-        """The requests of files, which are read as they are sent. One that cannot be read is left out."""
+        """The requests of files, which are read as they are sent. One that cannot be read is left out. Those that rename files come
+        once all pieces of these are acknowledged."""
         for job, index, data, taken in self._ahead.parts(jobs):
             whole = taken()
-            sha256, path = job.digests[index], job.paths[index]
+            sha256 = job.digests[index]
+            yield from self._renames()
             if job.same.get(index) == sha256:
-                job.done += 1
+                self._count(job)
                 continue
-            kind: Type[AnyRequest] = Replace if path in self.present.kinds else Create
+            kind, path = self._request_of(job, index)
+            if job.grows and (job.failure or index in job.same):
+                # What follows would be another file's: it is one whole, or it does not get its name.
+                job.fail(f"{shown(job.source.local)}: changed after it was first seen: store it again")
+                continue
             yield Operation(
                 kind, path, self._moment(job.source.moment()), data, tag=(job, index), sha256=sha256, whole=whole,
-                origin=origin_of(job.source, index * limits.FILE),
+                origin=origin_of(job.source, index * limits.FILE), offset=index * limits.FILE if kind is Append else 0,
             )
+
+    def _request_of(self, job: Job, index: int) -> Tuple[Type[AnyRequest], Path]:
+        """The request that stores a part, and its path."""
+        if job.grows:
+            return (Append if index else Create), unfinished_path(self._number(), job.source.path)
+        path = job.paths[index]
+        return (Replace if path in self.present.kinds else Create), path
+
+    def _count(self, job: Job) -> None:
+        """Counts a part that is there."""
+        job.done += 1
+        if job.grows and job.done == job.count and job.failure is None:
+            self._whole.append(job)
+
+    def _renames(self) -> Iterator[Operation]:
+        """The requests by which files get their names whose pieces are all there."""
+        while self._whole:
+            yield from self._rename(self._whole.popleft())
+
+    def _rename(self, job: Job) -> List[Operation]:
+        """The requests by which a file gets its name: a file that is there goes right before."""
+        moment, path = self._moment(job.source.moment()), job.source.path
+        named = Operation(Rename, unfinished_path(self._number(), path), moment, to=path, tag=(job, job.count), whole=job.of_whole())
+        there = self.present.kinds.get(path) is NodeKind.FILE
+        return [Operation(Remove, path, moment, tag=(job, job.count)), named] if there else [named]
 
     def _store(self, jobs: List[Job], outcomes: Iterator[Outcome]) -> None:
         """Takes the outcomes. A path that another client made or removed meanwhile is tried the other way, a few times."""
         again: Deque[Operation] = deque()
-        for _ in range(4):
+        for _ in range(5):
             again.clear()
             for outcome in outcomes:
                 self._take(outcome, again)
-            if not again:
+            once_more = [operation for refused in again for operation in self._once_more(refused)] + list(self._renames())
+            if not once_more:
                 return
-            outcomes = self.client.run(list(again))
+            outcomes = self.client.run(once_more)
         for operation in again:
             operation.tag[0].fail(f"{printed(operation.path)}: another client makes and removes it all the time")
 
     def _take(self, outcome: Outcome, again: Deque[Operation]) -> None:
         operation = outcome.operation
         job: Job = operation.tag[0]
-        if outcome.code is Code.DONE:
+        if job.grows:
+            self._take_growing(job, outcome, again)
+        elif outcome.code is Code.DONE:
             job.done += 1
             self.present.add(operation.path, NodeKind.FILE)
             if self.stored is not None:
@@ -226,19 +280,54 @@ class Importer:
         else:
             job.fail(str(refusal(outcome)))
 
+    def _once_more(self, operation: Operation) -> List[Operation]:
+        """The requests that do what was refused since another client made or removed the path."""
+        if operation.kind is not Rename:
+            return [operation]
+        job: Job = operation.tag[0]
+        node = self.client.find(operation.to)
+        self.present.kinds.pop(operation.to, None)
+        if node is not None:
+            self.present.add(operation.to, node.kind)
+        if node is not None and node.kind is NodeKind.DIRECTORY:
+            job.fail(f"{printed(operation.to)}: is a directory, and {shown(job.source.local)} is a file")
+            return []
+        return self._rename(job)
+
+    def _take_growing(self, job: Job, outcome: Outcome, again: Deque[Operation]) -> None:
+        """Takes an outcome of a file that is stored piece by piece."""
+        operation = outcome.operation
+        if operation.kind is Remove and outcome.code in (Code.DONE, Code.NOT_FOUND):
+            self.present.kinds.pop(operation.path, None)
+        elif operation.kind is Rename and outcome.code is Code.EXISTS:
+            again.append(operation)
+        elif outcome.code is not Code.DONE:
+            job.fail(why_refused(outcome))
+        elif operation.kind is Rename:
+            job.named = True
+            self.present.add(operation.to, NodeKind.FILE)
+            if self.stored is not None:
+                self.stored(outcome)
+            else:
+                self.told("stored", operation.to, job.source.identity.size, outcome.commit)
+        else:
+            self._count(job)
+
     def _leave_same(self, found: Scan) -> None:
         """Takes the files out of which the volume has all bytes already; of others in parts it keeps which parts these are."""
         jobs = [Job(source, stored_paths(source.path, source.identity.size, self.options.split)) for source in found.files]
         there = self._sized(jobs)
-        with closing(self.client.ask_all(Get(job.paths[index]) for job, indexes in there for index in indexes)) as answers:
+        asked: List[List[Query]] = [job.queries() if job.grows else [Get(job.paths[index]) for index in indexes] for job, indexes in there]
+        with closing(self.client.ask_all(query for queries in asked for query in queries)) as answers:
             for job, indexes in there:
+                indexes = list(range(job.count)) if job.grows else indexes
                 # One that cannot be read is reported when it is stored.
                 with suppress(SourceError):
-                    job.same = same_parts(job.source, len(job.paths), indexes, answers)
-        self.same = [job for job, _ in there if len(job.same) == len(job.paths)]
+                    job.same = same_parts(job.source, job.count, indexes, answers)
+        self.same = [job for job, _ in there if len(job.same) == job.count]
         found.same = [job.source for job in self.same]
         # The last part is stored with each change: it has the moment of the file, and with it the digest of the whole file is kept.
-        found.kept = {job.source.path: {index: sha256 for index, sha256 in job.same.items() if index + 1 < len(job.paths)} for job, _ in there}
+        found.kept = {job.source.path: {index: sha256 for index, sha256 in job.same.items() if index + 1 < len(job.paths)} for job, _ in there if not job.grows}
         if self.options.moment == "mtime":
             found.not_kept.newer = sum(job.moment != job.source.moment() for job in self.same)
         left = set(map(id, found.same))
@@ -276,7 +365,7 @@ class Importer:
     def _read_back(self, jobs: List[Job]) -> List[Job]:
         """The files whose bytes are on the volume as they were sent."""
         verified = []
-        with closing(self.client.ask_all(Get(path) for job in jobs for path in job.paths)) as answers:
+        with closing(self.client.ask_all(query for job in jobs for query in job.queries())) as answers:
             for job in jobs:
                 if reads_back(job, answers):
                     verified.append(job)
@@ -308,6 +397,15 @@ class Importer:
                 self.summary.deleted += 1
             except SourceError as error:
                 self.summary.failures.append(f"{error} (it was stored, and is not deleted)")
+
+
+def why_refused(outcome: Outcome) -> str:
+    """Why a file that is stored piece by piece was refused."""
+    operation = outcome.operation
+    if operation.kind is Rename and outcome.code is not Code.NOT_FOUND:
+        return str(refusal(outcome))
+    job: Job = operation.tag[0]
+    return f"{printed(job.source.path)}: was not stored ({refusal(outcome)}): run the same command again"
 
 
 def put_all(client: Client, jobs: Iterable[Tuple[str, Path]], options: Options, told: Told = quiet) -> Summary:

@@ -59,7 +59,7 @@ def add_put(subs: Subs) -> None:
     words.add_argument("path", metavar="PATH", help="the path of LOCAL on the volume; with a slash at its end, or with several LOCALs, the directory to put them into; a single folder put to / becomes the root")
     words.add_argument("-r", "--recursive", action="store_true", help="store folders with everything in them")
     words.add_argument("-p", "--parents", action="store_true", help="make missing parent directories")
-    words.add_argument("--split", action="store_true", help="store files above a mebibyte in parts: NAME.000, NAME.001, ..; above 400 MiB NAME.parts/00/000, ..")
+    words.add_argument("--split", action="store_true", help="store files above a mebibyte in parts: NAME.000, NAME.001, ..; above 400 MiB NAME.parts/00/000, ..; without it, files of up to 117 MiB are stored as one")
     words.add_argument("--rewrite", action="store_true", help="store files again even if their bytes are already there")
     words.add_argument("--skip-same", action="store_true", help="leave files alone whose bytes are already there (the default)")
     words.add_argument("--skip-odd", action="store_true", help="leave out what cannot be stored, and name it: symbolic links, pipes, sockets, devices, and names that UDF cannot encode")
