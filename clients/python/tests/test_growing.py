@@ -305,6 +305,30 @@ class Interrupted(Growing):
         self.assertEqual(self.put(delete_source=True).deleted, 1)
         self.assertEqual(self.files(), {"/x/photo": content(1)})
 
+    def test_a_piece_that_is_refused(self) -> None:
+        """Somebody changes the file between two pieces: it does not get its name, its source stays, and the same command begins anew."""
+        for refused in (MEBIBYTE, 2 * MEBIBYTE):
+            self.server.volume = Volume()
+            self.ledger = os.path.join(self.room, f"refused{refused}.sqlite")
+            local = self.write("photo", content(1))
+
+            def before(payload: bytes) -> Optional[p.Answer]:
+                request = request_of(payload)
+                if isinstance(request, p.Append) and request.offset == refused:
+                    node = self.volume.nodes[request.path]
+                    assert isinstance(node, File)
+                    node.data = node.data[:-1]
+                return None
+
+            self.server.before = before
+            summary = self.put(delete_source=True)
+            self.assertIn("run the same command again", summary.failures[0])
+            self.assertEqual((list(self.files()), os.path.exists(local)), (self.unfinished(), True))
+            self.server.before = lambda payload: None
+            with Client(f"unix:{self.server.path}", ledger=self.ledger, shared=True) as client:
+                self.assertEqual(self.put_with(client, delete_source=True).deleted, 1)
+            self.assertEqual(self.files(), {"/x/photo": content(1)})
+
     def test_another_client_makes_the_file(self) -> None:
         """One that another client made meanwhile is replaced, as a small one is."""
         self.write("photo", content(1))
