@@ -97,7 +97,7 @@ class AtEachCall:
     def check(self, killed: bool) -> None:
         """A file has its path only whole, and a source is gone only if it has."""
         found = self.stored()
-        whole = {("x", name): data for name, data in PHOTOS.items()}
+        whole: Dict[p.Path, bytes] = {("x", name): data for name, data in PHOTOS.items()}
         for path, data in found.items():
             assert is_unfinished(path) or whole[path] == data, path
         for name in PHOTOS:
