@@ -6,7 +6,6 @@ import hashlib
 import os
 import random
 import unittest
-from contextlib import closing
 from typing import Any, Callable, Dict, List, Optional, Tuple
 
 from udfburn import Client, errors as e
