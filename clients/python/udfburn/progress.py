@@ -143,6 +143,9 @@ class Progress:
         if self.tqdm is not None:
             self.tqdm.set_postfix_str(f"{self.done_files} of {self.files} files" if self.files else self.what, refresh=False)
             self.tqdm.update(count)
+            if self.done_files == 1:
+                # However soon all is done, the count is seen.
+                self.tqdm.refresh()
             return
         now = time.monotonic()
         if now - self.shown < 0.1:
