@@ -1,5 +1,5 @@
 #!/bin/sh
-# Installs the programs, their manual pages, the unit of systemd, the documents and, where they are there, the Python client and the
+# Installs the programs, their manual pages, the units of systemd, the documents and, where they are there, the Python client and the
 # C library.
 #
 # usage: ./install.sh PREFIX
@@ -165,8 +165,11 @@ put_programs() {
             put 644 "clients/python/$file" "$python_dir/$file"
         done < "$list.python"
         rm -f "$list.python"
-        put_starter udfburn-client udfburn
+        put_starter udfburn-client udfburn.commands
         put_starter udfburn-archive udfburn.archive
+        for unit in packaging/systemd/udfburn-archive-*; do
+            sed "s|@bindir@|$prefix/bin|g" "$unit" | put 644 - "$prefix/lib/systemd/system/$(basename "$unit")"
+        done
         # bash looks for a file of the command's name. One of zsh says itself which commands it completes.
         for name in udfburn-client udfburn-archive; do
             put 644 packaging/completion/udfburn.bash "$prefix/share/bash-completion/completions/$name"

@@ -109,6 +109,16 @@ size_t udfburn_take_in(udfburn *handle, void *into, size_t room);
 void udfburn_close_in(udfburn *handle);
 int32_t udfburn_look_at(udfburn *handle, const char *path, struct udfburn_node *node);
 int32_t udfburn_list_in(udfburn *handle, const char *path, struct udfburn_name **names, size_t *count);
+int32_t udfburn_read_in(udfburn *handle, const char *path, uint64_t offset, void *into, size_t room, size_t *length);
+int32_t udfburn_room_in(udfburn *handle, const char *path, uint64_t size);
+int32_t udfburn_create_in(udfburn *handle, struct udfburn_request *request, const char *path, const void *data, size_t length);
+int32_t udfburn_append_in(udfburn *handle, struct udfburn_request *request, const char *path, uint64_t offset, const void *data,
+                          size_t length);
+int32_t udfburn_rename_in(udfburn *handle, struct udfburn_request *request, const char *from, const char *to);
+int32_t udfburn_remove_in(udfburn *handle, struct udfburn_request *request, const char *path);
+
+/* Whether a file has these bytes at an offset: UDFBURN_OK, UDFBURN_USED, or why it is not known. */
+int32_t udfburn_has_bytes(udfburn *handle, const char *path, uint64_t offset, const void *data, size_t length);
 
 /* Has the identity of a handle known. */
 int32_t udfburn_identify(udfburn *handle);

@@ -332,8 +332,7 @@ static int32_t read_piece(udfburn *handle, const char *path, uint64_t offset, vo
     return status;
 }
 
-/* Reads up to `room` bytes of a file, one piece after the other. */
-static int32_t read_in(udfburn *handle, const char *path, uint64_t offset, void *into, size_t room, size_t *length) {
+int32_t udfburn_read_in(udfburn *handle, const char *path, uint64_t offset, void *into, size_t room, size_t *length) {
     uint8_t *at = into;
     size_t taken = 0, piece, count;
     if (!path || (!into && room > 0) || !length) {
@@ -356,7 +355,7 @@ static int32_t read_in(udfburn *handle, const char *path, uint64_t offset, void 
 int32_t udfburn_read(udfburn *handle, const char *path, uint64_t offset, void *into, size_t room, size_t *length) {
     struct udfburn_call call;
     int32_t status = udfburn_enter(&call, handle);
-    return status == UDFBURN_OK ? udfburn_leave(&call, read_in(handle, path, offset, into, room, length)) : status;
+    return status == UDFBURN_OK ? udfburn_leave(&call, udfburn_read_in(handle, path, offset, into, room, length)) : status;
 }
 
 /* The bytes of all names in an answer to List, with a NUL after each. 0 if the names do not end with the answer. */
@@ -456,6 +455,11 @@ static int32_t same_bytes(udfburn *handle, const struct message *message) {
     }
     end_answer(&answer);
     return status;
+}
+
+int32_t udfburn_has_bytes(udfburn *handle, const char *path, uint64_t offset, const void *data, size_t length) {
+    struct message message = {APPEND, NULL, path, NULL, data, length, offset};
+    return same_bytes(handle, &message);
 }
 
 /* Whether a file has the bytes of the message, and may have got no others but by appends since. */
@@ -610,6 +614,29 @@ int32_t udfburn_rename(udfburn *handle, struct udfburn_request *request, const c
     return run(handle, request, &message, from && to);
 }
 
+/* ---- requests from within another call */
+
+int32_t udfburn_create_in(udfburn *handle, struct udfburn_request *request, const char *path, const void *data, size_t length) {
+    struct message message = {CREATE, NULL, path, NULL, data, length, 0};
+    return run_in(handle, request, &message);
+}
+
+int32_t udfburn_append_in(udfburn *handle, struct udfburn_request *request, const char *path, uint64_t offset, const void *data,
+                          size_t length) {
+    struct message message = {APPEND, NULL, path, NULL, data, length, offset};
+    return run_in(handle, request, &message);
+}
+
+int32_t udfburn_rename_in(udfburn *handle, struct udfburn_request *request, const char *from, const char *to) {
+    struct message message = {RENAME, NULL, from, to, NULL, 0, 0};
+    return run_in(handle, request, &message);
+}
+
+int32_t udfburn_remove_in(udfburn *handle, struct udfburn_request *request, const char *path) {
+    struct message message = {REMOVE, NULL, path, NULL, NULL, 0, 0};
+    return run_in(handle, request, &message);
+}
+
 /* ---- names of statuses */
 
 #define STATUS(status) case status: return #status
@@ -630,6 +657,7 @@ const char *udfburn_error_name(int32_t status) {
     STATUS(UDFBURN_NO_SPACE);
     STATUS(UDFBURN_READ_ONLY);
     STATUS(UDFBURN_OLDER);
+    STATUS(UDFBURN_READER);
     STATUS(UDFBURN_NO_PARENT);
     STATUS(UDFBURN_NOT_FOUND);
     STATUS(UDFBURN_EXISTS);

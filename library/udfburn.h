@@ -75,6 +75,9 @@ extern "C" {
 #define UDFBURN_CLIENTS_LINUX 38                      /* clients with which Linux mounts it: with more it never does again */
 #define UDFBURN_MOMENT_LIMIT 4102444800000000u        /* the first moment that a volume cannot record */
 
+/* How the name of a file in the root begins that is not whole yet: see udfburn_put(). */
+#define UDFBURN_UNFINISHED ".udfburn-unfinished-"
+
 /* ---- Statuses ------------------------------------------------------------------------------------------------------ */
 
 /* All are int32_t, which the calls return: the first one is no status, and makes generators of bindings see a signed type. */
@@ -87,7 +90,8 @@ enum udfburn_code {
     UDFBURN_MEMORY = 1,         /* not enough memory */
     UDFBURN_DEVICE = 2,         /* the file or the drive cannot be opened, or failed: udfburn_reason() says why */
     UDFBURN_TOO_LONG = 3,       /* a frame is longer than a frame may be: nothing after it is read. To udfburn_get: the
-                                 * file has more than UDFBURN_FILE_LIMIT bytes */
+                                 * file has more than UDFBURN_FILE_LIMIT bytes; to udfburn_put: the stream has more
+                                 * than UDFBURN_GREATEST_FILE */
     UDFBURN_TEXT = 4,           /* a label or a path is not valid */
     UDFBURN_VOLUME = 5,         /* no volume, a damaged one, or one that cannot be made with this moment or capacity */
     UDFBURN_ARGUMENT = 6,       /* NULL, or another argument that the call does not accept */
@@ -99,6 +103,7 @@ enum udfburn_code {
     UDFBURN_READ_ONLY = 12,     /* the file may not be written, or its file system; else as UDFBURN_DEVICE. Or the handle
                                  * only reads: nothing was done */
     UDFBURN_OLDER = 13,         /* the volume has fewer commits than udfburn_expect() was told */
+    UDFBURN_READER = 14,        /* the reader of udfburn_put() failed */
 
     /* The request is committed, but the tree stays as it was. A repeat gets the same status. Queries return
      * UDFBURN_NOT_FOUND, UDFBURN_IS_DIRECTORY and UDFBURN_NOT_DIRECTORY too, and commit nothing. */
@@ -137,8 +142,8 @@ typedef struct udfburn udfburn;
 struct udfburn_reason {
     size_t size;                /* set it to sizeof(struct udfburn_reason) */
     int32_t status;             /* what the call returned */
-    int32_t error;              /* errno of what failed below it, or the number that a function of your drive returned; or 0 */
-    char call[32];              /* that failed, such as "fsync" or "drive.write"; "" if nothing below it failed */
+    int32_t error;              /* errno of what failed below it, or the number that a function of yours returned; or 0 */
+    char call[32];              /* that failed, such as "fsync", "drive.write" or "reader"; "" if nothing below it failed */
     char path[256];             /* of the file that was opened or made by its path: its last 255 bytes; else "" */
 };
 
@@ -248,6 +253,26 @@ int32_t udfburn_replace(udfburn *handle, struct udfburn_request *request, const 
 int32_t udfburn_append(udfburn *handle, struct udfburn_request *request, const char *path, uint64_t offset,
                        const void *data, size_t length);
 
+/* A function that gives a stream. It copies at least one byte and at most `room`, those from `offset` on, to `into`, and returns how
+ * many. 0 ends the stream, and a number below 0 says that it failed. In each call of udfburn_put() the offsets come in order, from 0
+ * on: pread() fits, and read() for a stream that need not be given again. It may do what a drive's functions may: see there. */
+typedef int64_t (*udfburn_reader)(void *context, uint64_t offset, void *into, size_t room);
+
+/* Create a file of up to UDFBURN_GREATEST_FILE bytes from a stream. It gets its path when it is whole. From UDFBURN_FILE_LIMIT bytes
+ * on it grows in the root before that, under a name of UDFBURN_UNFINISHED and the client. So it takes several requests, which have
+ * the client's next numbers: `number` is not read.
+ *   After a failure or a crash call it again, with the stream from its beginning. What is on the volume is read and compared with
+ * the stream. A file at `path` that has all of its bytes is UDFBURN_OK, with `repeated` 1. An unfinished file keeps the pieces with
+ * which the stream begins, and gets the others. A client has one: a stream that begins otherwise takes its place. No other file is
+ * changed.
+ *   At UDFBURN_OK `number` is that of the last request, or 0 if none was needed, and `commit` is one with which the file is there.
+ * UDFBURN_EXISTS: `path` is a directory, or a file of other bytes. UDFBURN_READER: the reader failed, or returned more than `room`;
+ * udfburn_reason() has its number, or EOVERFLOW. UDFBURN_TOO_LONG. UDFBURN_FULL: udfburn_room() tells before. After these two the
+ * unfinished file is removed; after others it stays. UDFBURN_ARGUMENT: also a volume in memory, or a path that begins as that of
+ * an unfinished file. UDFBURN_MISUSE: also in a child that the reader made. Others as udfburn_create(). */
+int32_t udfburn_put(udfburn *handle, struct udfburn_request *request, const char *path, udfburn_reader reader,
+                    void *context);
+
 /* Make a directory. */
 int32_t udfburn_mkdir(udfburn *handle, struct udfburn_request *request, const char *path);
 
@@ -339,7 +364,8 @@ int32_t udfburn_describe(udfburn *handle, struct udfburn_volume *volume);
 
 /* Whether a file of `size` bytes can be created at `path` now, or replaced where it is there. UDFBURN_OK: there is room, also
  * for a new client. UDFBURN_FULL: there may be none. Other statuses are those that the request would return, such as
- * UDFBURN_NO_PARENT and UDFBURN_DIRECTORY_FULL. UDFBURN_ARGUMENT: more than UDFBURN_FILE_LIMIT bytes. Nothing is written. */
+ * UDFBURN_NO_PARENT and UDFBURN_DIRECTORY_FULL. Above UDFBURN_FILE_LIMIT it is whether udfburn_put() can store it; bytes of
+ * another volume may need more room. UDFBURN_ARGUMENT: more than UDFBURN_GREATEST_FILE bytes. Nothing is written. */
 int32_t udfburn_room(udfburn *handle, const char *path, uint64_t size);
 
 /* A commit of a volume. */

@@ -11,9 +11,9 @@ home=$(cd "$(dirname "$0")" && pwd)
 suite=archive
 # shellcheck source=test/shell.sh
 . "$home/shell.sh"
-large=
 if [ "${1:-}" = --large ]; then
-    large=--large
+    LARGE=1
+    export LARGE
     shift
 fi
 UDFBURN=${1:-$home/../crates/udfburn/out/udfburn}
@@ -29,7 +29,7 @@ PATH=$PATH:/usr/sbin:/sbin
 
 # Volumes are made in memory where there is room: what is tested is what happens to processes, not to disks.
 free=$(df -Pk /dev/shm 2> /dev/null | awk 'NR == 2 { print $4 }')
-if [ -z "${TMPDIR:-}" ] && [ -z "$large" ] && [ -w /dev/shm ] && [ "${free:-0}" -gt 4000000 ]; then
+if [ -z "${TMPDIR:-}" ] && [ -z "${LARGE:-}" ] && [ -w /dev/shm ] && [ "${free:-0}" -gt 4000000 ]; then
     TMPDIR=/dev/shm
     export TMPDIR
 fi
@@ -74,5 +74,5 @@ case "${1:-test_remotes}" in
         ;;
 esac
 status=0
-PYTHONDONTWRITEBYTECODE=1 PYTHONUTF8=1 "$python" -m archive $large "$@" > "$output" 2>&1 || status=$?
+PYTHONDONTWRITEBYTECODE=1 PYTHONUTF8=1 "$python" -m archive "$@" > "$output" 2>&1 || status=$?
 counted_in "$output" "$status"

@@ -32,7 +32,7 @@ done
 
 # Volumes are made in memory where there is room: what is tested is what happens to processes, not to disks.
 free=$(df -Pk /dev/shm 2> /dev/null | awk 'NR == 2 { print $4 }')
-if [ -z "${TMPDIR:-}" ] && [ -w /dev/shm ] && [ "${free:-0}" -gt 1000000 ]; then
+if [ -z "${TMPDIR:-}" ] && [ -w /dev/shm ] && [ "${free:-0}" -gt 3000000 ]; then
     TMPDIR=/dev/shm
     export TMPDIR
 fi
@@ -45,7 +45,7 @@ command -v xorriso > "$output" || "$here/test/packages.sh" xorriso > "$output" 2
 # Where no compiled files are kept, each command compiles the client anew. From a copy that is compiled once it takes half the
 # processor time, and the folder of the client stays as it is. Most commands take less again: see tests/forked.py there.
 mkdir "$room/clients" && cp -R "$here/clients/python" "$room/clients/python" || exit 1
-ln -s "$here/crates" "$here/docs" "$room" || exit 1
+ln -s "$here/crates" "$here/docs" "$here/test" "$room" || exit 1
 cd "$room/clients/python" || exit 1
 "${PYTHON:-python3}" -m compileall -q . || exit 1
 # A user's own ledger and compiled files are left alone.

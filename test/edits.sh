@@ -5,6 +5,7 @@
 #        test/edits.sh --since COMMIT
 #        test/edits.sh --slice NUMBER
 #        test/edits.sh --behind
+#        test/edits.sh --next NUMBER
 #        test/edits.sh --count
 #        test/edits.sh --outdated
 #        test/edits.sh --list [CRATE..]
@@ -13,9 +14,9 @@
 # --slice, so many that follow one another, from a place on that the hash of the last commit chooses: of the crates that --behind
 # names, if there are any, else of all. The last line is then 'edits: N passed, M failed'. A crate of which all edits were refused is
 # noted in test/edits/tried with a sum of its contracts: its specs/, and the signatures in its src/. --behind names the crates whose
-# contracts are others by now. It and the options after it try no edit. --count prints how many edits each crate has in
-# must-fail/ and here. --outdated names those of both whose text is not in its file exactly once, and its status is 1 if there is
-# one. --list prints them all, each with the promise that it breaks, the clause that refuses it, and the test that refuses it too;
+# contracts are others by now. It and the options after it try no edit. --next prints what --slice would try, which .ci/run has rt ci
+# try. --count prints how many edits each crate has in must-fail/ and here. --outdated names those of both whose text is not in its
+# file exactly once, and its status is 1 if there is one. --list prints them all, each with the promise that it breaks, the clause that refuses it, and the test that refuses it too;
 # 'gate' is at those of must-fail/. --promises prints each law by its comment, and each promise that edits name, with its clause and
 # how many edits break it. It takes a POSIX shell, the tools of a base system, and to try edits the Rattle kit.
 #
@@ -187,6 +188,11 @@ case ${1:-} in
         ;;
     --behind)
         behind
+        exit 0
+        ;;
+    --next)
+        case ${2:-} in '' | *[!0-9]*) refuse 'usage: test/edits.sh --next NUMBER' ;; esac
+        slice "$2"
         exit 0
         ;;
     --list | --promises)

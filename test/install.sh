@@ -1,5 +1,5 @@
 #!/bin/sh
-# The installation and the Debian packages, each in an empty root; the manual pages, and the unit of systemd.
+# The installation and the Debian packages, each in an empty root; the manual pages, and the units of systemd.
 #
 # usage: test/install.sh [UDFBURN [UDFBURND [LIBRARY]]]
 # LIBRARY is the folder in which packaging/library/build.sh built the C library; without it what concerns it is left out.
@@ -71,6 +71,7 @@ expected() {
             echo "755 $1/bin/udfburn-client"
             echo "644 $1/share/man/man1/udfburn-archive.1"
             echo "755 $1/bin/udfburn-archive"
+            for unit in add@.service add@.timer check@.service check@.timer failed@.service; do echo "644 $1/lib/systemd/system/udfburn-archive-$unit"; done
             echo "644 $1/share/bash-completion/completions/udfburn-client"
             echo "644 $1/share/bash-completion/completions/udfburn-archive"
             echo "644 $1/share/zsh/site-functions/_udfburn-client"
@@ -191,7 +192,7 @@ completes() {
 
 # completed_by_zsh: whether zsh completes a line, and a second one in the same shell.
 completed_by_zsh() {
-    PATH=$prefix/bin:/usr/bin:/bin timeout 120 zsh -f -c '
+    PATH=$prefix/bin:/usr/bin:/bin timeout 600 zsh -f -c '
         zmodload zsh/zpty
         zpty shell "TERM=dumb zsh -f -i"
         zpty -w shell "fpath=($1/share/zsh/site-functions \$fpath); autoload -Uz compinit; compinit -D -u; print READY\${:-.}"
@@ -507,6 +508,60 @@ if command -v systemd-analyze > "$room/which"; then
         while read -r call; do
             holds "$call is within the filter" sh -c 'grep -qx "$2" "$1/filter" && ! grep -qx "$2" "$1/filter~"' - "$room" "$call"
         done < "$room/called"
+    fi
+fi
+
+# The units of the archive: their commands, as systemd gives them to the shell.
+# scheduled UNIT SETTING..: what a unit starts, with these settings of its configuration after its own.
+scheduled() {
+    unit=$prefix/lib/systemd/system/udfburn-archive-$1
+    shift
+    sed -n 's/^ExecStart=//p' "$unit" | sed -e 's/[$][$]/$/g' -e 's/%i/some.service/g' > "$room/command"
+    sed -n 's/^Environment=//p' "$unit" | xargs -n 1 > "$room/settings"
+    while IFS= read -r setting; do [ -z "$setting" ] || set -- "$setting" "$@"; done < "$room/settings"
+    env "$@" sh "$room/command"
+}
+
+# ends STATUS COMMAND..: whether the command ends with this status.
+ends() {
+    wanted=$1
+    shift
+    status=0
+    "$@" || status=$?
+    echo "status $status"
+    [ "$status" -eq "$wanted" ]
+}
+
+# mailed: what the unit for failures gives to a program that sends mail.
+mailed() {
+    mkdir -p "$room/mailer"
+    printf '#!/bin/sh\ncat > "%s/mail"\n' "$room" > "$room/mailer/sendmail"
+    printf '#!/bin/sh\necho "$@"\n' > "$room/mailer/systemctl"
+    chmod +x "$room/mailer/sendmail" "$room/mailer/systemctl"
+    sed -n 's/^ExecStart=//p' "$prefix/lib/systemd/system/udfburn-archive-failed@.service" |
+        sed -e 's/[$][$]/$/g' -e 's/%i/some.service/g' -e "s|/usr/sbin/sendmail|$room/mailer/sendmail|" > "$room/command"
+    PATH=$room/mailer:$PATH MAILTO=me sh "$room/command"
+    printf 'To: me\nSubject: some.service failed on %s\n\nstatus --full --lines=50 some.service\n' "$(uname -n)" | diff - "$room/mail"
+}
+
+if [ -d clients/python/udfburn ] && python3 -c 'import tomllib' 2> "$room/which"; then
+    mkdir "$room/photos" "$room/copies"
+    echo data > "$room/photos/one"
+    archive=$room/archive
+    holds 'an archive is made' "$prefix/bin/udfburn-archive" init "$archive" --label T --copies "$room/copies" --same-device --capacity 600
+    holds 'a unit adds' silent scheduled add@.service UDFBURN_ARCHIVE="$archive" ADD="--at /photos $room/photos"
+    ln -s one "$room/photos/link"
+    head -c 700000 /dev/urandom > "$room/photos/two"
+    holds 'it fails for what is not stored' ends 1 scheduled add@.service UDFBURN_ARCHIVE="$archive" ADD="--at /photos $room/photos"
+    holds 'full volumes are closed and copied all the same' [ -n "$(find "$room/copies" -name '*.img')" ]
+    holds 'a unit checks' silent scheduled check@.service UDFBURN_ARCHIVE="$archive" STATUS="--prometheus $room/archive.prom"
+    holds 'it writes metrics' grep -q '^udfburn_archive_volumes' "$room/archive.prom"
+    find "$room/copies" -name '*.img' -exec rm {} +
+    holds 'it fails for a copy that is lost' ends 1 scheduled check@.service UDFBURN_ARCHIVE="$archive"
+    holds 'and goes on to do so until that is repaired' ends 1 scheduled check@.service UDFBURN_ARCHIVE="$archive" CHECK=T-000002
+    holds 'what failed is mailed' mailed
+    if command -v systemd-analyze > "$room/which"; then
+        holds 'the units of the archive are well-formed' silent systemd-analyze verify --man=no "$prefix"/lib/systemd/system/udfburn-archive-*
     fi
 fi
 

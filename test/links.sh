@@ -17,7 +17,8 @@
 #   ```antt FILE             a quotation: each line is in the file, in this order; '..' is for lines left out
 #   a paragraph              has 700 characters at most, a line 1,000
 # In an edit that must fail
-#   clause: src/x.rt, name   the file of its crate (or of the crate that is named first) has the name
+#   promise: TEXT            is there
+#   clause: src/x.rt, name   is there; the file of its crate (or of the crate that is named first) has the name
 #   test: WORDS              each file that it names is there
 set -u
 
@@ -280,8 +281,21 @@ done < "$room/named"
 
 # What the edits say of themselves: the clauses that refuse them, and the tests.
 find crates/*/must-fail test/edits -name '*.edit' | sort | xargs awk '
-    FNR == 1 { count = split(FILENAME, names, "/"); crate = names[1] == "crates" ? names[2] : names[count - 1] }
+    function ended() {
+        if (edit != "" && !promised) print edit "\tpromise\t\t"
+        if (edit != "" && !stated) print edit "\tclause\t\t"
+    }
+    FNR == 1 {
+        ended()
+        edit = FILENAME
+        promised = stated = 0
+        count = split(FILENAME, names, "/")
+        crate = names[1] == "crates" ? names[2] : names[count - 1]
+    }
+    END { ended() }
+    /^promise: / { promised = 1 }
     /^clause: / {
+        stated = 1
         count = split(substr($0, 9), words, /[,;] | and /)
         owner = crate
         path = ""
@@ -300,6 +314,10 @@ find crates/*/must-fail test/edits -name '*.edit' | sort | xargs awk '
     }' > "$room/edits"
 while IFS="$tab" read -r edit kind path word; do
     case $path in
+        '')
+            fail "$edit: no line '$kind:'"
+            continue
+            ;;
         *.txt) found=$(ls crates/*/data/"$path" 2> "$room/errors") ;;
         *) found=$(ls -d "$path" 2> "$room/errors") ;;
     esac

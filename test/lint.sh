@@ -39,7 +39,7 @@ apart() {
 
 # all_are_looked_at: whether each Python file is in a folder that mypy looks at below.
 all_are_looked_at() {
-    find . -name '*.py' ! -path '*/out/*' | sed 's|^\./||' | grep -v -E '^(clients/python/(udfburn|tests)/|clients/python/bench(_calls)?\.py$|test/(commands|faults|vectors|archive|library|bad_day|copies|disc|readers|documents)/|test/(protocol|modules)\.py$|bench/[a-z]+/)' > "$room/others"
+    find . -name '*.py' ! -path '*/out/*' | sed 's|^\./||' | grep -v -E '^(clients/python/(udfburn|tests)/|clients/python/bench(_calls)?\.py$|test/(commands|faults|vectors|archive|library|bad_day|copies|disc|readers|documents|mutants)/|test/(protocol|modules|runner)\.py$|bench/[a-z]+/)' > "$room/others"
     cat "$room/others"
     ! [ -s "$room/others" ]
 }
@@ -47,17 +47,18 @@ all_are_looked_at() {
 if have mypy mypy; then
     holds 'no Python file is left out' all_are_looked_at
     holds 'the client is typed' apart clients/python . -p udfburn
-    holds "the client's tests are typed" apart clients/python . -p tests
+    holds "the client's tests are typed" apart clients/python ".:$top/test" -p tests
     holds "the client's measurements are typed" apart clients/python . bench.py bench_calls.py
     holds 'the fault tests are typed' apart test . -p faults -p commands
     holds 'what writes the vectors is typed' apart test/vectors . make.py count.py
     holds 'the tests of the archive are typed' apart test "$top/test:$top/clients/python:$top/test/readers" --config-file ../clients/python/pyproject.toml --python-version 3.11 -p archive
     holds 'the tests of the library are typed' apart test "$top/test:$top/clients/python" --config-file ../clients/python/pyproject.toml -p library
     holds 'the tests of damaged images are typed' apart test/bad_day "$top/clients/python:$top/test" --config-file ../../clients/python/pyproject.toml bad_day.py images.py
-    others=$top/test:$top/test/readers:$top/bench/apply:$top/clients/python
-    holds 'the other tests are typed' apart "$top" "$others" --config-file clients/python/pyproject.toml test/protocol.py test/modules.py test/copies/*.py test/readers/*.py test/documents/*.py
+    others=$top/test:$top/test/readers:$top/bench/apply:$top/bench/beside:$top/clients/python
+    holds 'the other tests are typed' apart "$top" "$others" --config-file clients/python/pyproject.toml test/protocol.py test/modules.py test/runner.py test/copies/*.py test/readers/*.py test/documents/*.py
     holds 'the tests of discs are typed' apart test/disc "$top/test/disc:$top/test/readers:$top/clients/python" --config-file ../../clients/python/pyproject.toml discs.py packets.py real.py
     holds 'what burns discs in the machine is typed' apart test/disc "$top/clients/python" --config-file ../../clients/python/pyproject.toml --python-version 3.11 guest.py
+    holds 'what changes the client is typed' apart test/mutants "$top/test/mutants" --config-file ../../clients/python/pyproject.toml --python-version 3.11 mutants.py changes.py rooms.py traced.py worker.py sitecustomize.py
     # Some of these have the same name, so each folder is looked at apart.
     for folder in bench/*/; do
         set -- "$folder"*.py

@@ -4,9 +4,9 @@
 usage: test/modules.py          prints them
        test/modules.py check    compares the plan in docs/ARCHITECTURE.md with the imports; the status is 1 if they differ
 
-The plan is a table of groups, from the lowest to the highest: name, modules, what they do, and which groups use it. A module named
-with a slash (`reader/`) is a package with all of its modules. Each module is in one group, no group imports from one below it in the
-table, and the last column has the groups that import from this one. Imports for types alone do not count.
+The plan is a table of rooms, from the lowest to the highest: name, modules, what they do, and which rooms use it. A room is a package,
+and `reader/` stands for all modules of the room `reader`. Each module is in one room, no room imports from one below it in the table,
+and the last column has the rooms that import from this one. Imports for types alone do not count.
 """
 
 from __future__ import annotations
@@ -20,10 +20,10 @@ from typing import Dict, Iterator, List, NamedTuple, Set
 TOP = Path(__file__).resolve().parents[1]
 PACKAGE = TOP / "clients/python/udfburn"
 PLAN = TOP / "docs/ARCHITECTURE.md"
-HEAD = "| Group | Modules | What they do | Used by |"
+HEAD = "| Room | Modules | What they do | Used by |"
 
 
-class Group(NamedTuple):
+class Room(NamedTuple):
     """A row of the plan."""
 
     name: str
@@ -59,39 +59,39 @@ def imported(name: str, path: Path, known: Dict[str, Path]) -> Set[str]:
     return found - {name}
 
 
-def plan(text: str) -> List[Group]:
-    """The groups of the table in a document."""
+def plan(text: str) -> List[Room]:
+    """The rooms of the table in a document."""
     rows = [line.strip("| ").split(" | ") for line in text.split(HEAD, 1)[1].splitlines()[2:]] if HEAD in text else []
     table = rows[: next((at for at, row in enumerate(rows) if len(row) < 3), len(rows))]
-    return [Group(row[0], re.findall(r"`([^`]+)`", row[1]), set(re.findall(r"\w+", row[3])) if len(row) > 3 else set()) for row in table]
+    return [Room(row[0], re.findall(r"`([^`]+)`", row[1]), set(re.findall(r"\w+", row[3])) if len(row) > 3 else set()) for row in table]
 
 
-def differences(groups: List[Group], uses: Dict[str, Set[str]]) -> Iterator[str]:
+def differences(rooms: List[Room], uses: Dict[str, Set[str]]) -> Iterator[str]:
     """In what the plan differs from the imports."""
-    if not groups:
+    if not rooms:
         yield "there is no plan"
     place: Dict[str, int] = {}
-    for at, group in enumerate(groups):
-        for word in group.modules:
-            named = [name for name in uses if name.startswith(word)] if word.endswith("/") else [word]
-            for name in named or [word]:
+    for at, room in enumerate(rooms):
+        first = f"{room.name}/__init__"
+        place.update({first: at} if first in uses else {})
+        for word in room.modules:
+            named = [name for name in uses if name.startswith(word)] if word == f"{room.name}/" else [f"{room.name}/{word}"]
+            for name in named:
                 if name not in uses:
-                    yield f"there is no module {name}, which is in {group.name}"
-                elif name in place:
-                    yield f"{name} is in {groups[place[name]].name} and in {group.name}"
+                    yield f"there is no module {name}"
                 place[name] = at
     for name in sorted(set(uses) - set(place)):
-        yield f"{name} is in no group"
-    users: List[Set[str]] = [set() for _ in groups]
+        yield f"{name} is in no room"
+    users: List[Set[str]] = [set() for _ in rooms]
     for name, names in uses.items():
         for other in names & place.keys():
             if name in place and place[name] < place[other]:
-                yield f"{name} of {groups[place[name]].name} imports {other}, of {groups[place[other]].name} above it"
+                yield f"{name} imports {other}, of a room above its own"
             elif name in place and place[name] > place[other]:
-                users[place[other]].add(groups[place[name]].name)
-    for group, found in zip(groups, users):
-        if found != group.users:
-            yield f"{group.name} is used by {', '.join(sorted(found)) or 'none'}, and not by {', '.join(sorted(group.users)) or 'none'}"
+                users[place[other]].add(rooms[place[name]].name)
+    for room, found in zip(rooms, users):
+        if found != room.users:
+            yield f"{room.name} is used by {', '.join(sorted(found)) or 'none'}, and not by {', '.join(sorted(room.users)) or 'none'}"
 
 
 def main(words: List[str]) -> int:

@@ -11,12 +11,12 @@ PATH=$PATH:/usr/sbin:/sbin
 
 # install PACKAGE..: installs them, where none has to go for it. The lock stays with this process alone.
 install() {
-    DEBIAN_FRONTEND=noninteractive apt-get -q -y --no-install-recommends --no-remove -o DPkg::Lock::Timeout=300 install "$@" 9<&-
+    DEBIAN_FRONTEND=noninteractive apt-get -q -y --no-install-recommends --no-remove -o DPkg::Lock::Timeout=3000 install "$@" 9<&-
 }
 
 # update: takes in the lists of packages, after whoever does so just now, as a machine of its own accord.
 update() {
-    tries=60
+    tries=600
     while told=$(LC_ALL=C apt-get -q update 2>&1 9<&-); echo "$told"; do
         case $told in *'Could not get lock'*) tries=$((tries - 1)) ;; *) return ;; esac
         [ "$tries" -gt 0 ] || return

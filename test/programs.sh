@@ -91,9 +91,9 @@ serve() {
     start "$image" "$socket" "$@"
 }
 
-# limit: waits until the file `has_ended` is there, and kills the daemon if it is not there in a minute.
+# limit: waits until the file `has_ended` is there, for longer than any machine takes, and kills the daemon if it does not come.
 limit() {
-    tries=600
+    tries=3000
     until [ -e has_ended ]; do
         tries=$((tries - 1))
         if [ "$tries" -eq 0 ]; then
@@ -105,7 +105,7 @@ limit() {
 }
 
 # ended NAME: whether the daemon ends by itself with status 0 and without a line, and leaves the socket, which is removed here.
-# One that does not end is killed after a minute.
+# One that does not end is killed.
 ended() {
     limit 2> kill.errors &
     watch=$!

@@ -28,13 +28,17 @@ HERE = os.path.dirname(os.path.abspath(__file__))
 sys.path.insert(0, HERE)
 
 from udfburn.protocol import Create, MakeDir, encode_message, frame  # noqa: E402
+from udfburn.protocol.units import Moment
 
 FOLDER_NAMES = 250
 
 IMPORT = """
 import sys, time
 sys.path.insert(0, sys.argv[1])
-from udfburn import Client, ledger, session, tree
+from udfburn import Client
+from udfburn.ledger import ledger
+from udfburn.session import session
+from udfburn.trees import tree
 
 def written():
     with open("/proc/self/io") as file:
@@ -77,12 +81,12 @@ def make_sources(room: str, files: int, size: int) -> Sources:
             if index % FOLDER_NAMES == 0:
                 os.makedirs(os.path.join(local, folder))
                 number += 1
-                sent.write(frame(encode_message(MakeDir(7, number, 0, (folder,)))))
+                sent.write(frame(encode_message(MakeDir(7, number, Moment(0), (folder,)))))
             data = chance.randbytes(size)
             with open(os.path.join(local, folder, name), "wb") as file:
                 file.write(data)
             number += 1
-            sent.write(frame(encode_message(Create(7, number, 0, (folder, name), data))))
+            sent.write(frame(encode_message(Create(7, number, Moment(0), (folder, name), data))))
     # What is still to be written of them would be written while something is timed.
     os.sync()
     return Sources(local, number, frames)

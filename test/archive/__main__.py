@@ -1,76 +1,39 @@
-"""Runs the tests, and ends with `N passed, M failed`: `python3 -m archive [--large] [NAME..]`.
+"""Runs the tests, and ends with `N passed, M failed`: `python3 -m archive [NAME..]`.
 
-A NAME is a module, or a class or a test in one. Without any, all classes are run side by side."""
+A NAME is a module, or a class or a test in one. Without any, all classes are run side by side. LARGE of the environment adds what takes
+long: `support` reads it when it is imported, as this module does."""
 
 from __future__ import annotations
 
 import importlib
 import os
-import re
-import subprocess
 import sys
-import time
 import unittest
-from concurrent.futures import ThreadPoolExecutor
 from typing import List
+
+from runner import Counts, Outcome, added, apart, run, run_for_another, side_by_side
 
 from .mounts import LACKS
 
-class Result(unittest.TextTestResult):
-    """Counts, and prints which tests take long. The client's tests have the same class: they run without this folder."""
-
-    passed = 0
-
-    def startTest(self, test: unittest.TestCase) -> None:  # noqa: N802
-        super().startTest(test)
-        self.began = time.monotonic()
-
-    def addSuccess(self, test: unittest.TestCase) -> None:  # noqa: N802
-        super().addSuccess(test)
-        self.passed += 1
-
-    def stopTest(self, test: unittest.TestCase) -> None:  # noqa: N802
-        seconds = time.monotonic() - self.began
-        if os.environ.get("TIMES") and seconds > 0.5:
-            print(f"{seconds:6.1f} s  {test.id()}", file=sys.stderr)
-        super().stopTest(test)
+LARGE_ALONE = "--large has it"
+"""Why a test is left out that nobody asked for."""
 
 
-def in_turn(names: List[str]) -> int:
-    """Runs modules in this process."""
-    suite = unittest.TestLoader().loadTestsFromNames([f"archive.{name}" for name in names])
-    result = unittest.TextTestRunner(resultclass=Result, verbosity=0).run(suite)
-    assert isinstance(result, Result)
-    # A test that was left out is a failure where all of them are asked for, as in CI.
-    skipped = [(test, why) for test, why in result.skipped if why != "--large has it"]
-    left_out = sum(not why.startswith(LACKS) for _, why in skipped) if os.environ.get("CI") == "true" else 0
-    failed = len(result.failures) + len(result.errors) + len(result.unexpectedSuccesses) + left_out
+def with_missing(counts: Counts) -> Counts:
+    """A test that was left out is a failure where all of them are asked for, as in CI, but for what the machine truly lacks."""
+    skipped = [(test, why) for test, why in counts.skipped if why != LARGE_ALONE]
+    missing = sum(not why.startswith(LACKS) for _, why in skipped) if os.environ.get("CI") == "true" else 0
     for test, why in skipped:
-        print(f"left out: {test.id()}: {why}")
-    print(f"{result.passed} passed, {failed} failed")
-    return 1 if failed or not (result.passed or result.skipped) else 0
+        print(f"left out: {test}: {why}")
+    return Counts(counts.passed, counts.failed + missing, counts.skipped)
 
 
-def side_by_side(names: List[str]) -> int:
-    """Runs each class of tests in a process of its own, some at once: most of their time is the disk's and other programs'."""
-    with ThreadPoolExecutor(max(3, os.cpu_count() or 1)) as pool:
-        done = list(pool.map(run_one, names))
-    passed = failed = 0
-    for name, output in zip(names, done):
-        *lines, last = output.rstrip().split("\n")
-        found = re.fullmatch("([0-9]+) passed, ([0-9]+) failed", last)
-        if found is None or int(found.group(2)) or any(line.startswith("left out") for line in lines) or os.environ.get("TIMES") or os.environ.get("LARGE"):
-            print(f"{name}:\n{output}")
-        passed += int(found.group(1)) if found else 0
-        failed += int(found.group(2)) if found else 1
-    print(f"{passed} passed, {failed} failed")
-    return 1 if failed or not passed else 0
-
-
-def run_one(name: str) -> str:
-    """What the tests of a class print."""
-    done = subprocess.run([sys.executable, "-m", "archive", name], stdout=subprocess.PIPE, stderr=subprocess.STDOUT, check=False)
-    return done.stdout.decode(errors="replace")
+def told(outcome: Outcome) -> Counts:
+    """Prints what is of interest of a class, and gives its counts."""
+    counts = outcome.counts
+    if counts.failed or any(why != LARGE_ALONE for _, why in counts.skipped) or os.environ.get("TIMES") or os.environ.get("LARGE"):
+        print(f"{outcome.name}:\n{outcome.output}")
+    return with_missing(counts)
 
 
 def classes() -> List[str]:
@@ -88,10 +51,17 @@ def classes() -> List[str]:
 
 def main() -> int:
     words = sys.argv[1:]
-    if "--large" in words:
-        os.environ["LARGE"] = "1"
-        words.remove("--large")
-    return in_turn(words) if words else side_by_side(classes())
+    if words[:1] == ["--class"]:
+        return run_for_another([f"archive.{words[1]}"])
+    if words:
+        counts = with_missing(run([f"archive.{name}" for name in words]))
+    else:
+        # Most of their time is the disk's and other programs'.
+        jobs = max(3, os.cpu_count() or 1)
+        outcomes = side_by_side(jobs, classes(), lambda name: apart(name, [sys.executable, "-m", "archive", "--class", name]))
+        counts = added([told(outcome) for outcome in outcomes])
+    print(f"{counts.passed} passed, {counts.failed} failed")
+    return 1 if counts.failed or not (counts.passed or counts.skipped) else 0
 
 
 if __name__ == "__main__":

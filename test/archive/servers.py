@@ -7,16 +7,17 @@ import glob
 import importlib.util
 import os
 import pwd
+import re
 import shutil
 import signal
-import socket
 import subprocess
 import tempfile
 import time
 import unittest
+from contextlib import suppress
 from typing import Any, List, Optional
 
-from .support import COMMANDS, PATIENCE, wait_until
+from .support import COMMANDS, PATIENCE, children_of, state_of, wait_until
 
 _kept: List[str] = []
 """The files of a server as `initdb` made them, once there are some."""
@@ -89,7 +90,7 @@ class Server:
         # Its own group: what is killed is the whole server.
         with open(os.path.join(self.room, "log"), "ab") as log:
             self.process = subprocess.Popen(words, stdout=log, stderr=log, preexec_fn=self._as_user(), cwd="/", start_new_session=True)
-        limit = time.monotonic() + 60
+        limit = time.monotonic() + PATIENCE
         while subprocess.run([os.path.join(self.programs, "pg_isready"), "-h", self.room, "-q"], check=False).returncode:
             if time.monotonic() > limit or self.process.poll() is not None:
                 with open(os.path.join(self.room, "log"), errors="replace") as log_file:
@@ -99,8 +100,14 @@ class Server:
     def kill(self) -> None:
         """Kills it at once, and all its processes."""
         assert self.process
+        # Each has a group of its own. While one is there that still writes, no other server starts on these files.
+        others = children_of(self.process.pid)
         os.killpg(self.process.pid, signal.SIGKILL)
         self.process.wait()
+        for other in others:
+            with suppress(ProcessLookupError):
+                os.kill(other, signal.SIGKILL)
+        wait_until(lambda: all(state_of(other) in "ZX" for other in others))
         pid = os.path.join(self.data, "postmaster.pid")
         if os.path.exists(pid):
             os.unlink(pid)
@@ -128,8 +135,9 @@ class Server:
             wait_until(lambda: connection.execute(statement).fetchall())
 
     def url(self, base: str, *others: "Server") -> str:
+        """What leads to a base. A connection has more than the ten seconds that it gets where a URL does not say it."""
         hosts = ",".join(server.room for server in (self, *others))
-        return f"postgresql://postgres@/{base}?host={hosts}"
+        return f"postgresql://postgres@/{base}?host={hosts}&connect_timeout={PATIENCE:.0f}"
 
     def new_base(self, name: str) -> str:
         """A base of its own, and its URL."""
@@ -141,11 +149,7 @@ class Server:
         standby = Server(test, self)
         self.sql("ALTER SYSTEM SET synchronous_standby_names = '*'")
         self.sql("SELECT pg_reload_conf()")
-        limit = time.monotonic() + 60
-        while not self.sql("SELECT 1 FROM pg_stat_replication WHERE sync_state = 'sync'"):
-            if time.monotonic() > limit:
-                raise AssertionError("the standby does not follow")
-            time.sleep(0.1)
+        wait_until(lambda: self.sql("SELECT 1 FROM pg_stat_replication WHERE sync_state = 'sync'"))
         return standby
 
     def promote(self) -> None:
@@ -156,19 +160,18 @@ def webdav(test: unittest.TestCase, folder: str) -> str:
     """A remote of rclone over HTTP, which `rclone serve webdav` of the test's own serves."""
     if shutil.which("rclone") is None:
         test.skipTest("rclone is not installed")
-    with socket.socket() as probe:
-        probe.bind(("127.0.0.1", 0))
-        port = probe.getsockname()[1]
-    process = subprocess.Popen(["rclone", "serve", "webdav", folder, "--addr", f"127.0.0.1:{port}", "--dir-cache-time", "0"], stdout=subprocess.DEVNULL, stderr=subprocess.DEVNULL)
+    log = tempfile.TemporaryFile()
+    test.addCleanup(log.close)
+    # The system chooses a port that nobody has, and rclone says which.
+    process = subprocess.Popen(["rclone", "serve", "webdav", folder, "--addr", "127.0.0.1:0", "--dir-cache-time", "0"], stdout=subprocess.DEVNULL, stderr=log)
     test.addCleanup(process.wait)
     test.addCleanup(process.kill)
-    limit = time.monotonic() + 30
-    while True:
-        try:
-            socket.create_connection(("127.0.0.1", port), 1).close()
-            break
-        except OSError:
-            if time.monotonic() > limit:
-                raise
-            time.sleep(0.05)
-    return f"http://127.0.0.1:{port}"
+
+    def served() -> "Optional[re.Match[bytes]]":
+        return re.search(rb"started on \[?(http://127\.0\.0\.1:[0-9]+)/", os.pread(log.fileno(), 1 << 16, 0))
+
+    wait_until(lambda: served() or process.poll() is not None)
+    found = served()
+    if found is None:
+        raise AssertionError(f"rclone does not serve: {os.pread(log.fileno(), 1 << 16, 0).decode(errors='replace')}")
+    return found[1].decode()

@@ -11,7 +11,6 @@ import signal
 import subprocess
 import sys
 import tempfile
-import threading
 import time
 import unittest
 from contextlib import contextmanager
@@ -67,30 +66,79 @@ def start(command: str, *words: str, **options: Any) -> "subprocess.Popen[bytes]
     )
 
 
-def kill(process: "subprocess.Popen[bytes]") -> None:
-    """Kills a command at once. The programs that it runs lose their input with it."""
-    process.send_signal(signal.SIGKILL)
-    process.wait()
+STOPS = """
+import os, signal, sys
+left = [int(sys.argv.pop(1))]
+from udfburn.archive.fill import Filler
+take = Filler._take
+def taken(*words):
+    take(*words)
+    left[0] -= 1
+    if not left[0]:
+        os.kill(os.getpid(), signal.SIGSTOP)
+Filler._take = taken
+from udfburn.archive.cli import main
+sys.exit(main(sys.argv[1:]))
+"""
+"""Runs the command, and stops it once a volume has answered so many requests. It has its claims then, and no transaction."""
 
 
 @contextmanager
-def slowed(process: "subprocess.Popen[bytes]") -> Iterator[None]:
-    """Lets a process run for a twenty-fifth of the time, so that others come in between, and it holds no lock for long."""
-    ended = threading.Event()
-
-    def stop_and_continue() -> None:
-        while not ended.wait(0.002):
-            process.send_signal(signal.SIGSTOP)
-            ended.wait(0.05)
-            process.send_signal(signal.SIGCONT)
-
-    thread = threading.Thread(target=stop_and_continue)
-    thread.start()
+def standing_still(count: int, *words: str) -> Iterator["subprocess.Popen[bytes]"]:
+    """An `add` that stands still once a volume has answered so many of its requests, whatever the machine does first. Afterwards it goes
+    on, or whoever failed kills it."""
+    process = subprocess.Popen(
+        [sys.executable, "-c", STOPS, str(count), "add", *words], env=environment(), stdout=subprocess.DEVNULL, stderr=subprocess.DEVNULL,
+        start_new_session=True,
+    )
     try:
-        yield
-    finally:
-        ended.set()
-        thread.join()
+        wait_until(lambda: process.poll() is not None or state_of(process.pid) == "T")
+        if process.poll() is not None:
+            raise AssertionError(f"the command ended with {process.returncode} before it answered {count} requests")
+        yield process
+        process.send_signal(signal.SIGCONT)
+    except BaseException:
+        kill(process)
+        raise
+
+
+def state_of(process: int) -> str:
+    """The state of a process, as /proc has it: T where it stands still, Z where it has ended, and X where there is none."""
+    try:
+        with open(f"/proc/{process}/stat", encoding="ascii", errors="replace") as file:
+            return file.read().rpartition(")")[2].split()[0]
+    except OSError:
+        return "X"
+
+
+def kill(process: "subprocess.Popen[bytes]") -> None:
+    """Kills a command at once. The programs that it runs lose their input with it, and have ended when this returns."""
+    programs = children_of(process.pid)
+    process.send_signal(signal.SIGKILL)
+    process.wait()
+    wait_until(lambda: all(state_of(program) in "ZX" for program in programs))
+
+
+def children_of(process: int) -> List[int]:
+    """The processes that a process has begun."""
+    try:
+        with open(f"/proc/{process}/task/{process}/children", encoding="ascii") as file:
+            return list(map(int, file.read().split()))
+    except OSError:
+        return []
+
+
+def await_programs(room: str) -> None:
+    """Waits until no program names a path below a folder. One whose command killed itself goes on for a moment, and has its image."""
+    def is_there(name: str) -> bool:
+        try:
+            with open(f"/proc/{name}/cmdline", "rb") as file:
+                words = file.read().split(b"\0")
+        except OSError:
+            return False
+        return words[0] == os.fsencode(UDFBURN) and any(word.startswith(os.fsencode(room)) for word in words)
+
+    wait_until(lambda: not any(map(is_there, filter(str.isdigit, os.listdir("/proc")))))
 
 
 def digests(folder: str) -> Digests:
@@ -181,7 +229,12 @@ class WithArchive(unittest.TestCase):
         self.assertEqual(last["failures"], [])
 
 
-def wait_until(condition: Any, seconds: float = 60.0) -> None:
+def unmount(folder: str) -> None:
+    """Unmounts, as soon as no other program looks at it: one that looks through all that is mounted may do so for a moment."""
+    wait_until(lambda: subprocess.run(["umount", folder], capture_output=True, check=False).returncode == 0)
+
+
+def wait_until(condition: Any, seconds: float = PATIENCE) -> None:
     """Waits until something holds."""
     limit = time.monotonic() + seconds
     while not condition():

@@ -71,7 +71,7 @@ class Lost(WithCopies):
 
     def test_an_open_image_that_is_lost(self) -> None:
         write(os.path.join(self.source, "new"), b"new")
-        self.add()
+        self.add("--no-copy")
         self.do("put-away", "T-000002", "here", status=1)
         os.unlink(self.path("archive", "open", "T-000002.img"))
         for command in ("status", "repair"):
@@ -210,7 +210,7 @@ class FullDisk(WithArchive):
         self.addCleanup(subprocess.call, ["umount", "-l", disk])
         self.init("--copies", disk)
         write(os.path.join(self.source, "big"), os.urandom(2_500_000))
-        self.add()
+        self.add("--no-copy")
         done = self.do("close", status=1)
         self.assertIn("make room on it, and run the same command again", done.errors)
         self.assertEqual([name for name in os.listdir(disk) if not name.startswith("udfburn-archive-")], [])

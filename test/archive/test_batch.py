@@ -10,7 +10,7 @@ import subprocess
 import sys
 from typing import List
 
-from .support import LARGE, PATIENCE, WithArchive, digests, environment, make_tree, write
+from .support import LARGE, PATIENCE, WithArchive, await_programs, digests, environment, make_tree, unmount, write
 from .test_crash import STEPS
 
 BLOCK = 2048
@@ -29,7 +29,7 @@ def torn(descriptor, piece):
             os.kill(os.getpid(), 9)
         left -= 1
         os.write(descriptor, piece[at : at + 4096])
-batch.write_whole = torn
+batch.write_all = torn
 from udfburn.archive.cli import main
 sys.exit(main(sys.argv[1:]))
 """
@@ -69,6 +69,7 @@ class Batches(WithArchive):
         """Runs `add`, and kills it right before a call of the system, or after so many pages of a tail."""
         words = ["add", self.source, "--at", "/s", "--archive", self.archive, "--quiet"]
         done = subprocess.run([sys.executable, "-c", program, str(count), *words], env=environment(), capture_output=True, timeout=PATIENCE)
+        await_programs(self.room)
         self.assertIn(done.returncode, (0, -9), done.stderr.decode())
         return done.returncode
 
@@ -232,7 +233,7 @@ class Batches(WithArchive):
         folder = self.path("memory")
         if not self.mounted(folder, "4m"):
             self.skipTest("a file system in memory cannot be mounted here")
-        self.addCleanup(lambda: subprocess.run(["umount", folder], check=True))
+        self.addCleanup(unmount, folder)
         self.init()
         for index in range(120):
             write(os.path.join(self.source, f"f{index}"), os.urandom(50_000))

@@ -16,7 +16,7 @@ import tempfile
 import unittest
 from typing import Callable, Dict, List, Set, Tuple
 
-from .support import HERE, LARGE, PATIENCE, Digests, WithArchive, digests, environment, make_tree, words_of, write
+from .support import HERE, LARGE, PATIENCE, Digests, WithArchive, await_programs, digests, environment, make_tree, words_of, write
 
 SAMPLE = 3
 """Calls that are tried for each kind of failure without `--large`."""
@@ -28,6 +28,7 @@ class Chaos(WithArchive):
     """Commands over a small archive with two copies."""
 
     library = ""
+    capacity = "1700"
     folders: Tuple[str, ...] = ("archive", "source", "one", "two")
     """What each trial begins with, as it was kept."""
 
@@ -46,7 +47,7 @@ class Chaos(WithArchive):
         self.copies = [self.path("one"), self.path("two")]
         for copy in self.copies:
             os.mkdir(copy)
-        self.init("--copies", *self.copies, "--capacity", "1700", "--delete", "acknowledged")
+        self.init("--copies", *self.copies, "--capacity", self.capacity, "--delete", "acknowledged")
         make_tree(self.source, 5, 1)
         self.add()
         # A batch, and parts on two volumes.
@@ -84,6 +85,7 @@ class Chaos(WithArchive):
         finally:
             if done.poll() is None:
                 os.killpg(done.pid, signal.SIGKILL)
+        await_programs(self.room)
         with open(count, "rb") as file:
             (calls,) = struct.unpack("<q", file.read())
         return done.returncode, output, calls
@@ -98,19 +100,21 @@ class Chaos(WithArchive):
         chance = random.Random(62)
         every = range(1, calls + 1)
         tried = [(at, action) for action in ACTIONS for at in (every if LARGE else sorted(chance.sample(every, SAMPLE)))]
-        failed = 0
+        met = failed = 0
         for at, action in tried:
             with self.subTest(command=words[0], at=at, action=errno.errorcode.get(action, "kill")):
                 self.again()
-                status, output, _ = self.run_with(at, action, *words)
+                status, output, calls = self.run_with(at, action, *words)
+                # How many calls a run takes, and which process makes one, depends on who comes first.
+                met += calls >= at
                 failed += status != 0
                 self.assertNotIn("Traceback", output)
                 check(output)
                 self.require_nothing_left()
         # Some calls may fail without harm, and where the program alone is killed it is begun again.
-        self.assertGreater(failed, len(tried) // 4)
+        self.assertGreater(met, len(tried) // 2)
         if LARGE:
-            print(f"{words[0]}: {len(tried)} runs, {failed} failed", flush=True)
+            print(f"{words[0]}: {len(tried)} runs, {met} with a failure, {failed} failed", flush=True)
 
     def require_nothing_left(self) -> None:
         """No temporary file or folder is left in the archive or in a folder for copies, once the same command has run again."""
@@ -152,6 +156,12 @@ class Adding(Chaos):
             self.require_agreed()
 
         self.trials(check, *words)
+
+
+class AddingWhole(Adding):
+    """One volume has room for the file above a mebibyte, which takes several requests."""
+
+    capacity = "6000"
 
 
 class Closing(Chaos):

@@ -30,11 +30,11 @@ class Commands(WithArchive):
             self.assertEqual(volume["state"], "closed")
 
     def test_many_names_in_one_folder(self) -> None:
-        self.init()
+        self.init("--nodes", "4096")
         for index in range(1500):
             write(os.path.join(self.source, "many", f"f{index}"), b"%d" % index)
         for index in range(700):
-            write(os.path.join(self.source, "folders", f"d{index}", "f"), b"%d" % index)
+            write(os.path.join(self.source, "folders", f"d{index}", "f"), b"f%d" % index)
         self.add()
         self.assertEqual(self.get_all(), digests(self.source))
         self.assertEqual(len(self.volumes()), 1)
@@ -225,12 +225,13 @@ class Commands(WithArchive):
         write(os.path.join(self.source, "f"), b"1")
         self.add()
         base = sqlite3.connect(os.path.join(self.archive, "catalogue.sqlite"))
+        own = base.execute("SELECT version FROM archive").fetchone()
         base.execute("UPDATE archive SET version = 99")
         base.commit()
         for command in (["status"], ["add", self.source], ["rebuild"], ["close"]):
             done = self.do(*command, status=1)
             self.assertIn("version 99", done.errors)
-        base.execute("UPDATE archive SET version = 5")
+        base.execute("UPDATE archive SET version = ?", own)
         base.commit()
         other = self.path("other.img")
         subprocess.run([UDFBURN, "format", other, "T-000001", "0", "1000"], check=True, stdout=subprocess.DEVNULL)
@@ -371,7 +372,7 @@ class Deleting(WithArchive):
         self.init("--copies", *remotes)
         make_tree(self.source, 30, 7)
         before = digests(self.source)
-        self.assertEqual(self.add("--delete-source").last()["deleted"], 0)
+        self.assertEqual(self.add("--delete-source", "--no-copy").last()["deleted"], 0)
         os.rename(remotes[1], remotes[1] + ".gone")
         self.do("close", status=1)
         last = self.add("--delete-source").last()

@@ -10,9 +10,9 @@ import shutil
 import subprocess
 import sys
 import time
-from typing import List
+from typing import ContextManager, List
 
-from .support import LARGE, PATIENCE, WithArchive, digests, environment, kill, make_tree, slowed, start, wait_until, write
+from .support import LARGE, PATIENCE, WithArchive, await_programs, digests, environment, kill, make_tree, standing_still, start, wait_until, write
 
 KILLS = 100 if LARGE else 14
 
@@ -83,10 +83,12 @@ class Crashes(WithArchive):
         self.assertEqual(self.get_all(), before)
 
     def steps(self, count: int, *words: str) -> "subprocess.CompletedProcess[bytes]":
-        return subprocess.run(
+        done = subprocess.run(
             [sys.executable, "-c", STEPS, str(count), *words, "--archive", self.archive, "--quiet"], env=environment(), capture_output=True,
             timeout=PATIENCE,
         )
+        await_programs(self.room)
+        return done
 
     def test_each_step_of_close(self) -> None:
         remote = self.path("remote")
@@ -189,8 +191,15 @@ class Crashes(WithArchive):
 class SideBySide(WithArchive):
     """Several processes on one archive with SQLite."""
 
+    def words(self, name: str) -> List[str]:
+        return [os.path.join(self.source, name), "--at", f"/s/{name}", "--archive", self.archive]
+
     def begin(self, name: str) -> "subprocess.Popen[bytes]":
-        return start("add", os.path.join(self.source, name), "--at", f"/s/{name}", "--archive", self.archive)
+        return start("add", *self.words(name))
+
+    def standing_still(self, name: str) -> ContextManager["subprocess.Popen[bytes]"]:
+        """The same, in the middle of its files."""
+        return standing_still(100, *self.words(name))
 
     def has_image(self, number: int) -> bool:
         return os.path.exists(os.path.join(self.archive, "open", f"T-{number:06}.img"))
@@ -199,11 +208,10 @@ class SideBySide(WithArchive):
         self.init()
         for name in ("a", "b"):
             make_tree(os.path.join(self.source, name), 300, ord(name))
-        first = self.begin("a")
-        wait_until(lambda: self.has_image(1))
-        with slowed(first):
+        with self.standing_still("a") as first:
+            self.assertTrue(self.has_image(1))
             second = self.begin("b")
-            wait_until(lambda: self.has_image(2))
+            wait_until(lambda: self.has_image(2) or second.poll() is not None)
             self.assertIsNone(first.poll())
         self.assertEqual([first.wait(), second.wait()], [0, 0])
         self.assertEqual(len(self.volumes()), 2)
@@ -217,15 +225,13 @@ class SideBySide(WithArchive):
     def test_one_path_is_one_process_s(self) -> None:
         self.init()
         make_tree(os.path.join(self.source, "a"), 700, 40)
-        process = self.begin("a")
-        wait_until(lambda: self.has_image(1))
-        with slowed(process):
+        with self.standing_still("a") as process:
             for at in ("/s/a", "/s/a/b", "/s"):
                 done = self.do("add", self.source, "--at", at, status=1)
                 self.assertIn("another process", done.errors)
+            # What another process fills is left open.
+            self.assertEqual(self.do("close").last()["closed"], 0)
             self.assertIsNone(process.poll())
-        # What another process fills is left open.
-        self.do("close")
         self.assertEqual(process.wait(), 0)
         self.require_agreed()
 
@@ -250,8 +256,10 @@ class Disk(WithArchive):
         filler = os.path.join(disk, "filler")
         chance = random.Random(3)
         ended: List[int] = []
-        for _ in range(8):
-            # Another program takes what is left of the disk, at any moment.
+        for turn in range(8):
+            # Another program takes what is left of the disk, at any moment; and once before, so that the disk is full on a fast machine too.
+            if not turn:
+                fill(filler)
             process = start("add", self.source, "--at", "/s", "--archive", self.archive, "--delete-source")
             time.sleep(chance.uniform(0.2, 1.0))
             fill(filler)

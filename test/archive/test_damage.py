@@ -6,6 +6,7 @@ import mmap
 import os
 import shutil
 import sqlite3
+import stat
 import sys
 from contextlib import closing
 from typing import List
@@ -103,6 +104,7 @@ class Damage(WithArchive):
         self.assertIn(f"{self.image(1)}: is damaged, and nothing is written to it", done.errors)
         # No source goes for what is on the damaged one.
         self.assertEqual([done.last()[name] for name in ("files", "same", "deleted", "kept")], [1, 4, 3, 2])
+        self.assertIn("since T-000001 may be damaged", done.output)
         done = self.do("close", status=1)
         self.assertEqual(done.last()["closed"], 1)
         self.assertIn(f"{self.image(1)}: is damaged", done.errors)
@@ -136,6 +138,26 @@ class Damage(WithArchive):
         self.assertEqual(self.get_all(), digests(self.source))
         self.require_agreed()
 
+    def test_a_closed_volume_is_adopted_as_it_was_closed(self) -> None:
+        self.init()
+        write(self.big, self.data[:900_000])
+        self.add()
+        self.do("close")
+        closed, good, changed = self.path("archive", "closed", "T-000001.img"), self.path("good.img"), self.path("changed.img")
+        with open(closed, "rb") as file:
+            data = file.read()
+        write(good, data)
+        place = data.index(self.data[:64])
+        write(changed, data[:place] + bytes([data[place] ^ 1]) + data[place + 1 :])
+        os.unlink(closed)
+        before = digests(self.path("archive", "closed"))
+        self.assertIn("is not T-000001 as it was closed", self.do("adopt", "T-000001", changed, status=1).errors)
+        self.assertEqual(digests(self.path("archive", "closed")), before)
+        self.do("adopt", "T-000001", good)
+        self.assertEqual(stat.S_IMODE(os.stat(closed).st_mode), 0o400)
+        self.assertEqual(self.get_all(), digests(self.source))
+        self.require_agreed()
+
     def test_the_last_commit(self) -> None:
         self.init()
         write(self.big, self.data[:900_000])
@@ -158,7 +180,7 @@ class Damage(WithArchive):
         self.init("--capacity", "4000", "--copies", remote)
         data = os.urandom(12_000_000)
         write(self.big, data)
-        self.add()
+        self.add("--no-copy")
         # A part of the second volume: whatever part that is, the first volume has those before it.
         (row,) = self.rows()
         first = next(place["first"] for place in row["places"] if place["volume"] == "T-000002")
@@ -280,8 +302,8 @@ class Mapped(WithArchive):
         with open(path, "r+b") as file, mmap.mmap(file.fileno(), 0) as mapped:
             mapped[0] = 1
             (source,) = [found.files[0] for found in Walk(self.room).below(self.source, ("s",))]
-            job = Job(source, digest_of(source))
-            self.assertTrue(job.plan(Tree.empty(6000), False))
+            job = Job(source, digest_of(source), in_parts=True)
+            self.assertTrue(job.plan(Tree.empty(6000, 4096), False))
             mapped[0] = 2
             if os.stat(path).st_mtime_ns != source.identity.modified:
                 self.skipTest("the times are others on this file system")

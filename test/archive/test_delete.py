@@ -8,7 +8,7 @@ import subprocess
 import sys
 from typing import Dict, List
 
-from .support import LARGE, PATIENCE, Done, WithArchive, digests, environment, make_tree, write
+from .support import LARGE, PATIENCE, Done, WithArchive, await_programs, digests, environment, make_tree, write
 from .test_crash import STEPS
 from .test_remotes import WithRemotes, change
 
@@ -273,6 +273,16 @@ with open(image, "r+b") as file:
             shutil.rmtree(self.source)
             os.mkdir(self.source)
 
+    def test_what_was_stored_after_a_volume_was_read(self) -> None:
+        """The volume is read for a file that it has, and then gets another one."""
+        self.init("--delete", "acknowledged")
+        write(os.path.join(self.source, "a"), b"first")
+        self.add()
+        write(os.path.join(self.source, "b"), b"second")
+        last = self.add("--delete-source").last()
+        self.assertEqual((last["same"], last["files"], last["deleted"], last["kept"]), (1, 1, 2, 0))
+        self.assertEqual(digests(self.source), {})
+
     def test_an_image_that_is_gone(self) -> None:
         left = self.add_spoilt('os.unlink(os.environ["IMAGE"])')
         self.assertEqual(len(left), 13)
@@ -303,6 +313,7 @@ class OnSeveral(WithArchive):
                 shutil.copytree(self.path(kept), folder)
             words = ["add", self.source, "--at", "/s", "--archive", self.archive, "--delete-source"]
             done = subprocess.run([sys.executable, "-c", STEPS, str(count), *words], env=environment(), capture_output=True, text=True, timeout=PATIENCE)
+            await_programs(self.room)
             self.assertIn(done.returncode, (0, -9), done.stderr)
             if "stored /s/big" in done.stdout or not os.path.exists(self.big):
                 told += 1

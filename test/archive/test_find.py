@@ -25,6 +25,7 @@ from udfburn.archive.errors import CatalogueError  # noqa: E402
 from udfburn.archive.names import kept_name, name_back  # noqa: E402
 from udfburn.archive.patterns import ESCAPE, glob, like, pieces, trigrams  # noqa: E402
 from udfburn.protocol import Path  # noqa: E402
+from udfburn.protocol.units import Commit, Moment, Size
 
 WORDS = ("holi", "day", "a", "b", "ab", "IMG", "img", "2019", ".jpg", "é", "日本", "\U0001f4f7", "[", "]", "!", "-", "*", "?", "%", "_", "\\", "\udcff", "\n", " ")
 WILD = ("*", "*", "*", "?", "[ab]", "[!ab]", "[a-y]", "[]]", "[!]]", "[", "[!", "]", "[[]", "[*]", "[?]")
@@ -90,21 +91,21 @@ class Ways(WithArchive):
     def keep(self, catalogue: Catalogue, number: int, count: int) -> None:
         """More files of a volume."""
         last = max((held.commit for held in self.files.values() if held.volume == number), default=10)
-        volume = VolumeRow(number, f"T-{number:06}", "open", catalogue.config.id, 1000, 1)
+        volume = VolumeRow(number, f"T-{number:06}", "open", catalogue.config.id, 1000, Moment(1))
         rows = []
         for commit in range(last + 1, last + 1 + count):
             path = (*self.chance.choice(self.folders), some_name(self.chance))
             if self.files and self.chance.random() < 0.1:
                 path = self.chance.choice(list(self.files.values())).path
-            rows.append(Held(number, commit, path, 1, commit, bytes(32), 1))
+            rows.append(Held(number, Commit(commit), path, Size(1), Moment(commit), bytes(32), Moment(1)))
         catalogue.add(volume, rows)
         self.files.update({row.id(): row for row in rows})
 
     def forget(self, catalogue: Catalogue, number: int, share: float) -> None:
         """Some files of a volume are on it no more, and others are there as well."""
         rows = [held for held in self.files.values() if held.volume == number and self.chance.random() > share]
-        rows += [Held(number, 9000 + index, ("late", some_name(self.chance) + "late"), 1, 1, bytes(32), 1) for index in range(20)]
-        catalogue.replace(VolumeRow(number, f"T-{number:06}", "open", catalogue.config.id, 1000, 1), rows)
+        rows += [Held(number, Commit(9000 + index), ("late", some_name(self.chance) + "late"), Size(1), Moment(1), bytes(32), Moment(1)) for index in range(20)]
+        catalogue.replace(VolumeRow(number, f"T-{number:06}", "open", catalogue.config.id, 1000, Moment(1)), rows)
         self.files = {id: held for id, held in self.files.items() if held.volume != number}
         self.files.update({row.id(): row for row in rows})
 
@@ -164,8 +165,8 @@ class WaysInFile(Ways):
     def test_very_many_names(self) -> None:
         """More files of one pattern than a statement of SQLite has values, and each name in several folders."""
         with Catalogue(read(self.archive)) as catalogue:
-            volume = VolumeRow(2, "T-000002", "open", catalogue.config.id, 1000, 1)
-            rows = [Held(2, 10 + i, (f"d{i % 3}", f"a holiday of {i // 3}"), 1, 1, bytes(32), 1) for i in range(36_000)]
+            volume = VolumeRow(2, "T-000002", "open", catalogue.config.id, 1000, Moment(1))
+            rows = [Held(2, Commit(10 + i), (f"d{i % 3}", f"a holiday of {i // 3}"), Size(1), Moment(1), bytes(32), Moment(1)) for i in range(36_000)]
             catalogue.add(volume, rows)
             self.assertEqual(sum(1 for _ in find.find(catalogue, "*holiday*")), 36_000)
             self.assertEqual(list(find.find(catalogue, "*day of 777")), [("d0", "a holiday of 777"), ("d1", "a holiday of 777"), ("d2", "a holiday of 777")])
@@ -206,8 +207,8 @@ class WaysOnServer(WaysInFile):
 
     def test_the_index_is_used(self) -> None:
         with Catalogue(read(self.archive)) as catalogue:
-            volume = VolumeRow(2, "T-000002", "open", catalogue.config.id, 1000, 1)
-            catalogue.add(volume, [Held(2, 10 + i, ("d", f"name {i * 7919 % 10007} of it"), 1, 1, bytes(32), 1) for i in range(20_000)])
+            volume = VolumeRow(2, "T-000002", "open", catalogue.config.id, 1000, Moment(1))
+            catalogue.add(volume, [Held(2, Commit(10 + i), ("d", f"name {i * 7919 % 10007} of it"), Size(1), Moment(1), bytes(32), Moment(1)) for i in range(20_000)])
             catalogue.base.run("SET enable_seqscan = off")
             wanted = catalogue.base.matching("*e 7919*it")
             plan = catalogue.base.run(f"EXPLAIN SELECT path, name FROM by_name WHERE {wanted.where}", wanted.values)

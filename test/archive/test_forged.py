@@ -11,9 +11,10 @@ from .support import PACKAGE, UDFBURN, WithArchive, digests, make_tree, write
 
 sys.path.insert(0, PACKAGE)
 
-from udfburn.client import Client  # noqa: E402
-from udfburn.operations import Operation  # noqa: E402
+from udfburn.trees.client import Client  # noqa: E402
+from udfburn.wire.operations import Operation  # noqa: E402
 from udfburn.protocol import Create, MakeDir  # noqa: E402
+from udfburn.protocol.units import Moment
 
 
 class Forged(WithArchive):
@@ -37,14 +38,14 @@ class Forged(WithArchive):
         image = self.path("archive", folder, name)
         subprocess.run([UDFBURN, "format", image, label, "1700000000000000", "3000"], check=True, stdout=subprocess.DEVNULL)
         made: "Set[Tuple[str, ...]]" = {("runs",), ("data",)}
-        wanted = [Operation(Create, ("volume.txt",), 1, about.encode()), Operation(MakeDir, ("runs",), 1), Operation(MakeDir, ("data",), 1)]
+        wanted = [Operation(Create, ("volume.txt",), Moment(1), about.encode()), Operation(MakeDir, ("runs",), Moment(1)), Operation(MakeDir, ("data",), Moment(1))]
         for path, data in files.items():
             names = tuple(path.split("/"))
             for depth in range(1, len(names)):
                 if names[:depth] not in made:
                     made.add(names[:depth])
-                    wanted.append(Operation(MakeDir, names[:depth], 1))
-            wanted.append(Operation(Create, names, 1, data))
+                    wanted.append(Operation(MakeDir, names[:depth], Moment(1)))
+            wanted.append(Operation(Create, names, Moment(1), data))
         with Client(f"image:{image}", ledger=self.path(f"{name}.ledger"), program=UDFBURN) as client:
             for outcome in client.run(wanted):
                 self.assertEqual(outcome.code.name, "DONE", outcome.operation.path)
@@ -53,8 +54,8 @@ class Forged(WithArchive):
     def about(self, number: object = 2, archive: str = "", label: str = "T") -> str:
         return f"udfburn-archive 1\narchive: {archive or self.archive_id}\nlabel: {label}\nvolume: {number}\nopened: x\n"
 
-    def described(self, size: object = 2_000_000, first: object = 0, digest: str = "00" * 32) -> bytes:
-        return f"size: {size}\nmodified: 1\nsha256: {digest}\nparts: 2\nfirst part: {first}\n".encode()
+    def described(self, size: object = 2_000_000, first: object = 0, digest: str = "00" * 32, what: str = "first part") -> bytes:
+        return f"size: {size}\nmodified: 1\nsha256: {digest}\n{what}: {first}\n".encode()
 
     def require_left_out(self, images: List[str]) -> None:
         """Each is named, once or more, and nothing else changed."""
@@ -89,6 +90,7 @@ class Forged(WithArchive):
         texts = [
             self.described(size=-5), self.described(size=10**30), self.described(first=10**30), self.described(first=-1), self.described(first=3),
             self.described(digest="00"), self.described(digest="zz" * 32), b"\xff\xfe", b"",
+            *(self.described(first=byte, what="first byte") for byte in (1, -1, 2_000_001, 3 << 20, 10**30, "")), self.described(what="first"),
         ]
         images = []
         for index, text in enumerate(texts):

@@ -9,7 +9,7 @@ import time
 import unittest
 from typing import Dict, Set
 
-from .support import LARGE, PACKAGE, WithArchive, digests, make_tree, start
+from .support import LARGE, PACKAGE, WithArchive, digests, kill, make_tree, start, wait_until
 from .test_report import fill_catalogue, made_name
 
 sys.path.insert(0, PACKAGE)
@@ -31,10 +31,11 @@ class Many(WithArchive):
         self.assertEqual(self.get_all(), before)
         self.require_agreed()
         self.assertGreaterEqual(len(self.volumes()), 13)
-        # The files of one folder are on one volume.
+        # The files of one folder are on one volume, but those whose bytes the archive had.
         homes: Dict[str, Set[str]] = {}
         for row in self.rows():
-            homes.setdefault(os.path.dirname(row["path"]), set()).add(row["places"][0]["volume"])
+            if "noted" not in row["places"][0]:
+                homes.setdefault(os.path.dirname(row["path"]), set()).add(row["places"][0]["volume"])
         self.assertEqual({len(volumes) for volumes in homes.values()}, {1})
 
 
@@ -59,6 +60,28 @@ class Large(WithArchive):
         places = {row["path"]: len(row["places"]) for row in self.rows()}
         # Only what is too large for one volume is on several.
         self.assertEqual(places, {"/s/half": 2, "/s/a": 1, "/s/b": 1, "/s/c": 1})
+
+    def test_a_film_and_kills(self) -> None:
+        """Ten kills while 700 MB are stored: what was stored is not stored again."""
+        self.init()
+        chance = random.Random(4)
+        with open(os.path.join(self.source, "film"), "wb") as file:
+            for _ in range(700):
+                file.write(chance.randbytes(1_000_000))
+        before = digests(self.source)
+        image = os.path.join(self.archive, "open", "T-000001.img")
+        for count in range(10):
+            process = start("add", self.source, "--at", "/s", "--archive", self.archive, "--delete-source")
+            size = 60_000_000 * count + chance.randrange(60_000_000)
+            wait_until(lambda: process.poll() is not None or os.path.exists(image) and os.path.getsize(image) > size, 600.0)
+            self.assertIsNone(process.poll())
+            kill(process)
+        self.add("--delete-source")
+        self.assertEqual(digests(self.source), {})
+        self.assertEqual(self.get_all(), before)
+        self.require_agreed()
+        print(f"{os.path.getsize(image) - 700_000_000:,} bytes beside those of the film")
+        self.assertLess(os.path.getsize(image), 720_000_000)
 
     def test_ten_million_rows(self) -> None:
         self.init()

@@ -17,8 +17,8 @@ from tests.swaps import Swap, Turned, picture  # noqa: E402
 from udfburn.archive.cli import main  # noqa: E402
 from udfburn.archive.job import digest_of, parts_from  # noqa: E402
 from udfburn.archive.scan import Walk  # noqa: E402
-from udfburn.errors import SourceError  # noqa: E402
-from udfburn.sources import delete  # noqa: E402
+from udfburn.base.errors import SourceError  # noqa: E402
+from udfburn.local.sources import delete  # noqa: E402
 
 SECRET = b"what nobody may read"
 

@@ -7,7 +7,7 @@ import subprocess
 import tomllib
 from typing import Any, Dict, List
 
-from .support import WithArchive, digests, make_tree, write
+from .support import WithArchive, digests, make_tree, unmount, write
 
 
 class Markers(WithArchive):
@@ -49,7 +49,7 @@ class Markers(WithArchive):
         make_tree(self.source, 12, 1)
         self.add()
         # As it is after the start of a machine whose disk for copies is not there.
-        subprocess.run(["umount", self.copies], check=True)
+        unmount(self.copies)
         done = self.do("close", status=1)
         self.assertIn(f"{self.copies}: its disk is not mounted", done.errors)
         self.assertEqual((os.listdir(self.copies), done.last()["copied"]), ([], 0))
@@ -85,7 +85,7 @@ class Markers(WithArchive):
     def test_an_archive_that_has_no_marker_yet(self) -> None:
         self.make("--same-device")
         write(os.path.join(self.source, "f"), b"1")
-        self.add()
+        self.add("--no-copy")
         os.unlink(self.marker())
         toml = self.path("archive", "archive.toml")
         with open(toml, encoding="utf-8") as file:
@@ -104,7 +104,7 @@ class Markers(WithArchive):
     def test_a_marker_of_another_archive(self) -> None:
         self.make("--same-device")
         write(os.path.join(self.source, "f"), b"1")
-        self.add()
+        self.add("--no-copy")
         marker = self.marker()
         with open(marker, "rb") as file:
             data = file.read()

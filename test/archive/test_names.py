@@ -2,6 +2,7 @@
 
 from __future__ import annotations
 
+import argparse
 import os
 import random
 import re
@@ -12,6 +13,7 @@ from .support import PACKAGE
 
 sys.path.insert(0, PACKAGE)
 
+from udfburn.archive.cli import function, parser  # noqa: E402
 from udfburn.archive.errors import CannotStore  # noqa: E402
 from udfburn.archive.names import DEPTH, kept_name, name_back, part_name, read_back, spelled, stored_folder  # noqa: E402
 from udfburn.protocol.names import name_fault  # noqa: E402
@@ -78,9 +80,11 @@ class Names(unittest.TestCase):
     def test_spread_versions_and_parts(self) -> None:
         found = read_back(("data", "=v3", "a", "=s2", "b", "=s1", "c"))
         self.assertEqual(found, (("a", "b", "c"), 3, None))
-        index = 1234
-        self.assertEqual(part_name(index), ("=p2", "00001234"))
-        self.assertEqual(read_back(("data", "a", "big", *part_name(index))), (("a", "big"), 1, index))
+        start = 1234 << 20
+        self.assertEqual(part_name(start), "=000001293942784")
+        self.assertEqual(read_back(("data", "a", "big", part_name(start))), (("a", "big"), 1, start))
+        # As archives before have them.
+        self.assertEqual(read_back(("data", "a", "big", "=p2", "00001234")), (("a", "big"), 1, start))
         self.assertEqual(read_back(("data", "a", "big", "=file.txt")), (("a", "big"), 1, -1))
         self.assertIsNone(read_back(("runs", "00001.txt")))
 
@@ -97,3 +101,13 @@ class Names(unittest.TestCase):
             self.assertEqual(name_back(kept), name)
         with self.assertRaises(CannotStore):
             kept_name("\U0010ffff")
+
+
+class Functions(unittest.TestCase):
+    def test_each_command_has_its_own(self) -> None:
+        subs = next(action for action in parser()._actions if isinstance(action, argparse._SubParsersAction))
+        names = list(subs.choices)
+        self.assertGreater(len(names), 15)
+        for name in names:
+            self.assertEqual(function(name).__name__, name.replace("-", "_"))
+        self.assertRaises(NotImplementedError, function, "none")

@@ -12,7 +12,7 @@ import subprocess
 import sys
 import time
 from concurrent.futures.process import BrokenProcessPool
-from contextlib import closing, redirect_stderr, redirect_stdout
+from contextlib import closing, redirect_stderr, redirect_stdout, suppress
 from hashlib import sha256
 from io import StringIO
 from pathlib import Path
@@ -30,7 +30,7 @@ from udfburn.archive.cli import main  # noqa: E402
 from udfburn.archive.config import Config, read  # noqa: E402
 from udfburn.archive.tell import Tell  # noqa: E402
 from udfburn.archive.volume import new_row, open_new  # noqa: E402
-from udfburn.operations import now  # noqa: E402
+from udfburn.wire.operations import now  # noqa: E402
 
 
 class WithOlder(WithArchive):
@@ -210,21 +210,21 @@ class Shared(WithOlder):
         for archive, name in ((self.archive, "a"), (other, "b")):
             self.init("--copies", self.copies, archive=archive)
             write(os.path.join(self.source, name), os.urandom(5000))
-            self.run_in(archive, "add", os.path.join(self.source, name), "--at", f"/s/{name}")
+            self.run_in(archive, "add", os.path.join(self.source, name), "--at", f"/s/{name}", "--no-copy")
         self.do("close")
         copy = digests(self.copies)
         failures = self.run_in(other, "close", status=1).last()["failures"]
         self.assertIn("has another volume with this name", failures[0])
         self.assertEqual(digests(self.copies), copy)
         # Each has its own source still, until its own copy is there.
-        deleted = [self.run_in(archive, "add", self.source, "--at", "/s", "--delete-source").last()["deleted"] for archive in (other, self.archive)]
+        deleted = [self.run_in(archive, "add", self.source, "--at", "/s", "--delete-source", "--no-copy").last()["deleted"] for archive in (other, self.archive)]
         self.assertEqual((deleted, os.listdir(self.source)), ([0, 1], ["b"]))
-        self.assertEqual(self.do("check", "--remotes").last()["failures"], [])
+        self.assertEqual(self.do("check", "--remotes", "T-000001").last()["failures"], [])
 
     def test_the_image_itself_is_no_copy(self) -> None:
         self.init("--copies", self.copies)
         self.change_source("a")
-        self.add()
+        self.add("--no-copy")
         os.rename(self.copies, self.copies + ".away")
         self.do("close", status=1)
         os.rename(self.copies + ".away", self.copies)
@@ -283,6 +283,14 @@ class AtOnce(WithOlder):
                 self.assertEqual(volume.row.number, 3)
 
 
+WAITING = b"""
+import os, sys, time
+while any("spawn_main" in word for word in sys.orig_argv) and not os.path.exists(%s):
+    time.sleep(0.01)
+"""
+"""What each Python of a command does first: one that reads volumes for another waits until a file is there."""
+
+
 class Readers(WithArchive):
     """The processes by which `rebuild` reads several volumes at once."""
 
@@ -298,12 +306,16 @@ class Readers(WithArchive):
         self.init("--delete", "acknowledged")
         self.add()
 
-    def rebuild(self, number: int, to_all: bool, interrupts: "signal.Handlers" = signal.SIG_DFL) -> Tuple[int, str]:
-        """Sends a signal to a reader once there is one, or to all processes; gives the status, and what was said. `interrupts` is what
-        becomes of SIGINT when the command begins."""
-        words = words_of("rebuild", "--dry-run", *self.images, "--archive", self.archive)
+    def rebuild(self, number: int, to_all: bool, waits: bool = True, interrupts: "signal.Handlers" = signal.SIG_DFL) -> Tuple[int, str]:
+        """Sends a signal to a reader once there is one, or to all processes; gives the status, and what was said. The readers wait for the
+        signal before they read, or they do not, and may be at their end by then. `interrupts` is what becomes of SIGINT when the command
+        begins."""
+        words, found, go = words_of("rebuild", "--dry-run", *self.images, "--archive", self.archive), environment(), self.path("go")
+        if waits:
+            write(self.path("waiting", "sitecustomize.py"), WAITING % repr(go).encode())
+            found["PYTHONPATH"] = self.path("waiting") + os.pathsep + found["PYTHONPATH"]
         with subprocess.Popen(
-            words, env=environment(), stdout=subprocess.DEVNULL, stderr=subprocess.PIPE, text=True, start_new_session=True,
+            words, env=found, stdout=subprocess.DEVNULL, stderr=subprocess.PIPE, text=True, start_new_session=True,
             preexec_fn=lambda: signal.signal(signal.SIGINT, interrupts),
         ) as process:
             wait_until(lambda: process.poll() is not None or readers(process.pid))
@@ -312,18 +324,28 @@ class Readers(WithArchive):
                 os.killpg(process.pid, number)
             else:
                 os.kill(readers(process.pid)[0], number)
+            write(go, b"")
             _, errors = process.communicate(timeout=PATIENCE)
+        os.unlink(go)
         return process.returncode, errors
 
     def test_an_interrupt(self) -> None:
+        told = "udfburn-archive: interrupted: run the same command again to continue\n"
+        for _ in range(2):
+            self.assertEqual(self.rebuild(signal.SIGINT, True), (130, told))
         for _ in range(4):
-            status, errors = self.rebuild(signal.SIGINT, True)
-            self.assertEqual((status, errors), (130, "udfburn-archive: interrupted: run the same command again to continue\n"))
+            # At any moment, also after the last one is read.
+            status, errors = self.rebuild(signal.SIGINT, True, waits=False)
+            self.assertTrue(status == 130 and errors.endswith(told) or self.has_read_all(errors), (status, errors))
+
+    def has_read_all(self, errors: str) -> bool:
+        """Whether each other archive's volume is named."""
+        return (errors.count("belongs to another archive"), errors.count("\n")) == (3, 3)
 
     def test_an_interrupt_that_is_ignored(self) -> None:
-        """All volumes are read: each other archive's is named."""
-        _, errors = self.rebuild(signal.SIGINT, True, signal.SIG_IGN)
-        self.assertEqual((errors.count("belongs to another archive"), errors.count("\n")), (3, 3), errors)
+        """All volumes are read."""
+        _, errors = self.rebuild(signal.SIGINT, True, interrupts=signal.SIG_IGN)
+        self.assertTrue(self.has_read_all(errors), errors)
 
     def test_one_that_is_killed(self) -> None:
         status, errors = self.rebuild(signal.SIGKILL, False)
@@ -348,4 +370,10 @@ def readers(process: int) -> List[int]:
     """The readers that a process has begun."""
     with open(f"/proc/{process}/task/{process}/children", encoding="ascii") as file:
         children = list(map(int, file.read().split()))
-    return [child for child in children if "spawn_main" in Path(f"/proc/{child}/cmdline").read_text("utf-8")]
+    found = []
+    for child in children:
+        # One may have ended meanwhile.
+        with suppress(FileNotFoundError, ProcessLookupError):
+            if "spawn_main" in Path(f"/proc/{child}/cmdline").read_text("utf-8"):
+                found.append(child)
+    return found

@@ -28,7 +28,7 @@ class Passwords(WithArchive):
         super().setUp()
         self.server = Server(self)
         self.server.sql("CREATE DATABASE one")
-        self.url = f"postgresql://postgres:{SECRET}@/one?host={self.server.room}"
+        self.url = self.server.url("one").replace("//postgres@", f"//postgres:{SECRET}@")
         write(os.path.join(self.source, "f"), b"1")
 
     def require_secret(self, *done: "object") -> None:
@@ -62,8 +62,7 @@ class Passwords(WithArchive):
             self.assertNotEqual(done.status, 0)
             self.require_secret(done)
         self.assertFalse(os.path.exists(self.path("archive", "archive.toml")))
-        plain = f"postgresql://postgres@/one?host={self.server.room}"
-        self.do("init", self.archive, "--label", "T", "--catalogue", plain)
+        self.do("init", self.archive, "--label", "T", "--catalogue", self.server.url("one"))
 
     def test_what_has_one(self) -> None:
         for url in ("postgresql://u:p@h/d", "postgresql://u:p@q@h:5432,i/d", "postgresql:///d?password=p&host=h", "postgresql://:p@h/d"):

@@ -5,16 +5,17 @@ from __future__ import annotations
 import os
 import random
 import shutil
-import signal
 import time
-from typing import Dict, List
+from typing import Dict, Optional
 
 from .servers import Server
-from .support import LARGE, WithArchive, digests, kill, make_tree, start, wait_until, write
+from .support import LARGE, WithArchive, digests, kill, make_tree, standing_still, start, wait_until, write
 
 MACHINES = 4
 KILLS = 100 if LARGE else 12
 SERVER_KILLS = 10 if LARGE else 2
+FULL_BATCH = 512
+"""Files after which the catalogue has some of them, where a run stores more."""
 
 
 class OnServer(WithArchive):
@@ -35,19 +36,14 @@ class OnServer(WithArchive):
 class Machines(OnServer):
     def test_one_path_is_one_machine_s(self) -> None:
         first, second = self.machine(1), self.machine(2)
-        make_tree(self.source, 1400, 1)
-        process = start("add", self.source, "--at", "/s/a", "--archive", first)
-        self.server.await_row("SELECT 1 FROM volume", "archive")
+        make_tree(self.source, 700, 1)
         # It stands still, and has its claims all the same.
-        self.addCleanup(kill, process)
-        process.send_signal(signal.SIGSTOP)
-        self.assertIsNone(process.poll())
-        for at in ("/s/a", "/s/a/b", "/s", ""):
-            done = self.run_in(second, "add", self.source, "--at", at, status=1)
-            self.assertIn("another process", done.errors, at)
-        # Beside it there is room for another.
-        self.run_in(second, "add", self.source, "--at", "/t/a")
-        process.send_signal(signal.SIGCONT)
+        with standing_still(100, self.source, "--at", "/s/a", "--archive", first) as process:
+            for at in ("/s/a", "/s/a/b", "/s", ""):
+                done = self.run_in(second, "add", self.source, "--at", at, status=1)
+                self.assertIn("another process", done.errors, at)
+            # Beside it there is room for another.
+            self.run_in(second, "add", self.source, "--at", "/t/a")
         self.assertEqual(process.wait(), 0)
         holders = {volume["volume"]: volume["holder"] for volume in self.volumes(first)}
         self.assertEqual(len(set(holders.values())), 2)
@@ -120,34 +116,30 @@ class Machines(OnServer):
         first = self.machine(1)
         for index, level in enumerate(("repeatable read", "serializable")):
             self.server.sql(f"ALTER DATABASE archive SET default_transaction_isolation = '{level}'")
-            write(os.path.join(self.source, f"f{index}"), b"1")
+            write(os.path.join(self.source, f"f{index}"), b"%d" % index)
             self.assertEqual(self.run_in(first, "add", self.source, "--at", "/s").last()["files"], 1)
         self.assertEqual(len(self.volumes(first)), 1)
 
     def test_a_volume_in_use_is_not_adopted(self) -> None:
         first, second = self.machine(1), self.machine(2)
-        make_tree(self.source, 1500, 3)
-        process = start("add", self.source, "--at", "/s", "--archive", first)
-        self.server.await_row("SELECT 1 FROM file", "archive")
-        self.addCleanup(kill, process)
-        process.send_signal(signal.SIGSTOP)
-        self.assertIsNone(process.poll())
-        done = self.run_in(second, "adopt", "T-000001", status=1)
-        self.assertIn("another process", done.errors)
-        process.send_signal(signal.SIGCONT)
+        make_tree(self.source, FULL_BATCH + 200, 3)
+        with standing_still(FULL_BATCH + 100, self.source, "--at", "/s", "--archive", first) as process:
+            self.assertTrue(self.server.sql("SELECT 1 FROM file", "archive"))
+            done = self.run_in(second, "adopt", "T-000001", status=1)
+            self.assertIn("another process", done.errors)
         self.assertEqual(process.wait(), 0)
 
     def test_lost_claims_end_a_run(self) -> None:
         first = self.machine(1)
-        make_tree(self.source, 2500, 5)
+        make_tree(self.source, FULL_BATCH + 400, 5)
         before = digests(self.source)
-        process = start("add", self.source, "--at", "/s", "--archive", first, "--delete-source")
-        self.server.await_row("SELECT 1 FROM file", "archive")
-        self.server.sql("SELECT pg_terminate_backend(pid) FROM pg_stat_activity WHERE datname = 'archive' AND state = 'idle in transaction'")
-        kept = {row[0] for row in self.server.sql("SELECT id FROM file", "archive")}
+        with standing_still(FULL_BATCH + 100, self.source, "--at", "/s", "--archive", first, "--delete-source") as process:
+            self.server.sql("SELECT pg_terminate_backend(pid) FROM pg_stat_activity WHERE datname = 'archive' AND state = 'idle in transaction'")
+            kept = self.server.sql("SELECT id FROM file ORDER BY id", "archive")
+            self.assertTrue(kept)
         self.assertEqual(process.wait(), 1)
-        # Not one row came after the claims were lost, but those of the transaction that was under way.
-        self.assertLessEqual(len(self.server.sql("SELECT id FROM file", "archive")), len(kept) + 512)
+        # Not one row came after the claims were lost.
+        self.assertEqual(self.server.sql("SELECT id FROM file ORDER BY id", "archive"), kept)
         self.run_in(first, "add", self.source, "--at", "/s", "--delete-source")
         self.assertEqual(self.get_all(first), before)
         self.require_agreed(first)
@@ -175,8 +167,8 @@ class Machines(OnServer):
 
     def test_a_newer_catalogue_is_refused(self) -> None:
         first = self.machine(1)
-        self.server.sql("UPDATE archive SET version = 7", "archive")
-        self.assertIn("version 7", self.run_in(first, "status", status=1).errors)
+        self.server.sql("UPDATE archive SET version = 8", "archive")
+        self.assertIn("version 8", self.run_in(first, "status", status=1).errors)
 
     def test_a_base_of_another_program_is_left_alone(self) -> None:
         url = self.server.new_base("other")
@@ -241,14 +233,11 @@ class Killed(OnServer):
         return "/s/" + os.fsdecode(path)
 
     def require_once(self, whole: Dict[bytes, str]) -> None:
-        """No two volumes have one file: the catalogue has a row for each part of the volumes that `rebuild` agreed with."""
+        """No two volumes have one file: the catalogue has a row for each file of the volumes that `rebuild` agreed with."""
         rows = self.server_rows()
-        small = [row for row in rows if row[1] is None]
-        self.assertEqual(len(small), len(whole) - MACHINES)
-        parts: List[int] = [row[1] for row in rows if row[1] is not None]
-        self.assertEqual(sum(parts), 4 * MACHINES)
+        self.assertEqual((len(rows), {parts for _, parts in rows}), (len(whole), {None}))
 
-    def server_rows(self) -> "list[tuple[str, int]]":
+    def server_rows(self) -> "list[tuple[str, Optional[int]]]":
         return self.server.sql("SELECT folder.path || '/' || name, part_count FROM file JOIN folder ON folder.id = folder", "archive")
 
     def test_processes_are_killed(self) -> None:

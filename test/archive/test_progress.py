@@ -6,6 +6,8 @@ import os
 import pty
 import re
 import subprocess
+import threading
+from contextlib import suppress
 from typing import List, Tuple
 
 from .support import PATIENCE, WithArchive, environment, words_of, write
@@ -34,18 +36,23 @@ class Bars(WithArchive):
         ours, theirs = pty.openpty()
         found = environment()
         found["PYTHONPATH"] = self.path("none") + os.pathsep + found["PYTHONPATH"]
+        told = bytearray()
+
+        def read() -> None:
+            # The terminal is gone once no process has it.
+            with suppress(OSError):
+                while piece := os.read(ours, 1 << 16):
+                    told.extend(piece)
+
+        # Meanwhile, since a terminal holds no more than some pages, and a slow command shows many lines.
+        reader = threading.Thread(target=read)
+        reader.start()
         try:
             done = subprocess.run([*words_of(*words), "--archive", self.archive], env=found, stdout=subprocess.PIPE, stderr=theirs, timeout=PATIENCE, check=False)
         finally:
             os.close(theirs)
-        told = b""
-        while True:
-            try:
-                piece = os.read(ours, 1 << 16)
-            except OSError:
-                break
-            told += piece
-        os.close(ours)
+            reader.join()
+            os.close(ours)
         self.assertEqual(done.returncode, 0, (done.stdout, told))
         return told.decode()
 

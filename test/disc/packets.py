@@ -24,7 +24,8 @@ sys.path.insert(1, str(TOP / "clients/python"))
 
 from recorder import BLOCK, KINDS, Faults, Recorder  # noqa: E402
 from sg import Line  # noqa: E402
-from udfburn.finish import COPIES, entry_at  # noqa: E402
+from udfburn.discs.finish import COPIES, entry_at  # noqa: E402
+from udfburn.protocol.units import Address
 from udfburn.reader import Medium  # noqa: E402
 
 DEVICE = "/dev/sr0"
@@ -44,7 +45,8 @@ CUTS = 200 if os.environ.get("LARGE") else 15
 WRITES = (0x2A, 0x35)
 """WRITE(10) and SYNCHRONIZE CACHE."""
 
-PATIENCE = 120.0
+PATIENCE = 600.0
+"""Seconds after which a program that did not end hangs."""
 
 
 class Ran(NamedTuple):
@@ -141,7 +143,7 @@ def expect_end(room: Room, recorder: Recorder) -> None:
     expect((last + 1) % recorder.kind.unit == 0, f"the disc ends at {last}")
     with Medium(str(room.image_of(recorder))) as medium:
         for address in range(last - COPIES, last + 1):
-            expect(entry_at(medium, address) is not None, f"{address} is no VAT ICB")
+            expect(entry_at(medium, Address(address)) is not None, f"{address} is no VAT ICB")
 
 
 # ---- good discs

@@ -36,7 +36,7 @@ class Trial:
 
     def step(self, name: str, *words: str) -> bool:
         """Runs a command of the client on the disc."""
-        from udfburn.cli import main
+        from udfburn.commands.cli import main
 
         output, began = io.StringIO(), time.monotonic()
         with redirect_stdout(output), redirect_stderr(output):
@@ -52,7 +52,7 @@ class Trial:
 
     def reload(self) -> None:
         """Has the drive eject the disc and load it."""
-        from udfburn.burning import take_in_again
+        from udfburn.discs.burning import take_in_again
 
         began = time.monotonic()
         try:

@@ -6,8 +6,10 @@ a virtual machine needs to start.
 
 from __future__ import annotations
 
+import select
 import socket
 import struct
+import time
 from threading import Lock, Thread
 from typing import Optional
 
@@ -24,6 +26,7 @@ class Line:
         self.recorder = recorder
         self.commands = 0
         self._held = Lock()
+        self._holder: Optional[socket.socket] = None
         self._socket = socket.socket(socket.AF_UNIX)
         self._socket.bind(path)
         self._socket.listen()
@@ -44,16 +47,27 @@ class Line:
 
     def _serve(self, connection: socket.socket) -> None:
         with connection:
-            free = self._held.acquire(timeout=1)
-            connection.sendall(bytes([not free]))
+            free = self._taken(connection)
             try:
+                connection.sendall(bytes([not free]))
                 while free and self._answer(connection):
                     pass
             except (PowerLost, ConnectionError):
                 pass
             finally:
                 if free:
+                    self._holder = None
                     self._held.release()
+
+    def _taken(self, connection: socket.socket) -> bool:
+        """Whether a program gets the recorder: not while another one has it. One that has ended may have left a command under way."""
+        while not self._held.acquire(blocking=False):
+            holder = self._holder
+            if holder is not None and not has_left(holder):
+                return False
+            time.sleep(0.001)
+        self._holder = connection
+        return True
 
     def _answer(self, connection: socket.socket) -> bool:
         """Answers a command. False where there is none any more."""
@@ -68,6 +82,16 @@ class Line:
         rest = room - goes if goes else room - len(found)
         connection.sendall(TAIL.pack(status, len(sense), len(found), rest) + found + sense)
         return True
+
+
+def has_left(connection: socket.socket) -> bool:
+    """Whether the other end is closed, whatever it sent before."""
+    ready = select.poll()
+    try:
+        ready.register(connection, 0)
+    except ValueError:
+        return True
+    return bool(ready.poll(0))
 
 
 def exactly(connection: socket.socket, count: int) -> Optional[bytes]:

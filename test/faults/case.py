@@ -11,16 +11,24 @@ from pathlib import Path
 from typing import Any, Iterable, Mapping, Optional, Sequence, Union
 
 from faults.log import read_log
-from faults.machine import first_line, lacks, need_root, need_tools
+from faults.machine import first_line, lacks, need_root, need_tools, unmount
 from faults.processes import PATIENCE
 from faults.programs import built
 from faults.running import Ran, environment
-from protocol import BLOCK, Model, answers_of, questions
+from protocol import BLOCK, Answer, Model, answers_of, questions
 
 # A new volume has this many blocks (docs/FORMAT.md: the volume header, then the file set, the root and the first table).
 FORMATTED_BLOCKS = 262
 
 _new_volumes: dict[tuple[str, int], bytes] = {}
+
+
+def differing(answers: Sequence[Answer], wanted: Sequence[Answer]) -> list[str]:
+    """Which answers are others, each with its beginning: long ones take minutes to compare line by line."""
+    if len(answers) != len(wanted):
+        return ["%d answers in place of %d" % (len(answers), len(wanted))]
+    return ["answer %d: %r in place of %r" % (index, (answer.code, answer.rest[:40]), (want.code, want.rest[:40]))
+            for index, (answer, want) in enumerate(zip(answers, wanted)) if answer != want]
 
 
 class Case(unittest.TestCase):
@@ -42,7 +50,7 @@ class Case(unittest.TestCase):
         made = subprocess.run(["mount", *words, str(where)], capture_output=True, text=True)
         if made.returncode:
             lacks("mount %s: %s" % (" ".join(words), first_line(made.stderr)))
-        self.addCleanup(subprocess.check_call, ["umount", str(where)])
+        self.addCleanup(unmount, where)
         return where
 
     def program(self, words: Sequence[str], stdin: bytes = b"", image: str = "d.img",

@@ -1,4 +1,4 @@
-"""Clients of the daemon that stall, reset, flood or are many, and sockets that cannot be had: the next client is served."""
+"""Clients of the daemon that reset, flood or are many, and sockets that cannot be had: the next client is served."""
 from __future__ import annotations
 
 import os
@@ -12,7 +12,7 @@ import threading
 import time
 import unittest
 from pathlib import Path
-from typing import Callable, Optional
+from typing import Callable
 
 from faults.case import need_shim
 from faults.load_support import Case, as_nobody, descriptors_of, memory_of, seconds_of
@@ -21,11 +21,9 @@ from faults.processes import PATIENCE, await_true
 from faults.programs import built
 from faults.running import Client, Daemon, Ran
 from protocol import (
-    MALFORMED, NAMES, NO_NODE, Answer, Model, Request, answers_of, committed, data_answer, encode, frame, paths_of, query,
+    MALFORMED, NAMES, NO_NODE, Answer, Model, Request, answers_of, encode, frame, paths_of, query,
 )
 
-# Seconds without a byte after which a client is let go (docs/OPERATIONS.md).
-SILENCE = 60.0
 EMPTY_ROOT = Answer(NAMES, b"\0\0")
 TOO_LONG = Answer(MALFORMED, struct.pack("<H", 51))
 CUT = Answer(MALFORMED, struct.pack("<H", 53))
@@ -349,9 +347,7 @@ class Descriptors(Serving):
                     self.assertIsNone(daemon.process.poll())
                     self.lines_are(daemon, stretch)
                     resource.prlimit(process, resource.RLIMIT_NOFILE, limits)
-                    begin = time.monotonic()
                     self.assertEqual(client.answer(), self.model.answer(request))
-                    self.assertLess(time.monotonic() - begin, SILENCE)
                 self.lines_are(daemon, stretch)
             # Of six connections five came.
             self.assertIsNone(daemon.process.poll())
@@ -462,115 +458,6 @@ class Rights(Case):
                             self.tell(ran, 0, frame(b"\x41\0\0\0"), b"")
                         else:
                             self.tell(ran, 1, b"", b"udfburn: 94 Socket\n")
-
-
-class Stall:
-    """A daemon with a client that stalls, and another that waits for its turn; looked at when its time has come."""
-
-    def __init__(self, folder: Path, name: str, stall: Callable[[Client], None]) -> None:
-        self.name = name
-        self.daemon = Daemon(folder, name + ".img", socket_name=name)
-        # Not after the client's last byte, since this process may be kept waiting between the two.
-        self.begin = time.monotonic()
-        self.stalling = self.daemon.client()
-        stall(self.stalling)
-        self.waiting = self.daemon.client()
-        self.answer: Optional[Answer] = None
-        self.seconds = 0.0
-        self.thread = threading.Thread(target=self.wait)
-        self.thread.start()
-
-    def wait(self) -> None:
-        try:
-            self.answer = self.waiting.ask(query("list", "/none"))
-        except OSError:
-            pass
-        self.seconds = time.monotonic() - self.begin
-
-    def end(self) -> None:
-        self.daemon.kill()
-        self.thread.join()
-        self.stalling.close()
-        self.waiting.close()
-
-
-class Waiting(Case):
-    """Clients that stall: they are let go after a minute of silence, and then the next is served. All wait at once."""
-
-    def silent(self, client: Client) -> None:
-        pass
-
-    def half(self, client: Client) -> None:
-        client.send(encode(Request("create", 9, 1, "/never", b"x" * 5000))[:700])
-
-    def answered_and_silent(self, client: Client) -> None:
-        request = Request("create", 9, 1, "/kept", b"x" * 5000)
-        self.assertEqual(client.ask(encode(request)), committed(0, 1))
-
-    def never_reads(self, client: Client) -> None:
-        request = Request("create", 9, 1, "/kept", b"x" * 1_000_000)
-        self.assertEqual(client.ask(encode(request)), committed(0, 1))
-        client.send(query("get", "/kept") * 10)
-
-    def never_reads_many(self, client: Client) -> None:
-        request = Request("create", 9, 1, "/kept", b"x" * 100)
-        self.assertEqual(client.ask(encode(request)), committed(0, 1))
-        client.send(query("get", "/kept") * 5000)
-
-    def takes_little(self, client: Client) -> None:
-        """It takes a byte now and then, and no piece of an answer whole."""
-        self.never_reads(client)
-
-        def take() -> None:
-            try:
-                while client.socket.recv(1):
-                    time.sleep(SILENCE / 12)
-            except OSError:
-                pass
-
-        threading.Thread(target=take, daemon=True).start()
-
-    def test_a_minute_of_silence(self) -> None:
-        self.fresh("base.img", capacity=20000)
-        kinds = {"silent": self.silent, "half": self.half, "done": self.answered_and_silent,
-                 "unread": self.never_reads, "many": self.never_reads_many, "little": self.takes_little}
-        stalls: list[Stall] = []
-        try:
-            for name, kind in kinds.items():
-                self.path(name + ".img").write_bytes(self.path("base.img").read_bytes())
-                stalls.append(Stall(self.folder, name, kind))
-            # One that sends a byte now and then is not silent.
-            self.path("slow.img").write_bytes(self.path("base.img").read_bytes())
-            slow = Daemon(self.folder, "slow.img", "--connections", "1", socket_name="slow")
-            self.addCleanup(slow.kill)
-            frames = encode(Request("create", 9, 1, "/slow", b"x" * 5000))
-            with slow.client() as client:
-                for at in range(3):
-                    client.send(frames[at:at + 1])
-                    time.sleep(0.4 * SILENCE)
-                client.send(frames[3:])
-                self.assertEqual(client.answer(), committed(0, 1))
-            self.assertEqual((slow.wait(), slow.errors()), (0, b""))
-            for stall in stalls:
-                with self.subTest(stall=stall.name):
-                    is_unread = stall.name in ("unread", "many", "little")
-                    stall.thread.join(PATIENCE)
-                    self.assertFalse(stall.thread.is_alive(), "the next client was never served")
-                    self.assertEqual(stall.answer, Answer(NO_NODE))
-                    self.assertGreater(stall.seconds, SILENCE - 2.0)
-                    self.assertLess(stall.seconds, 2 * SILENCE)
-                    line = b"udfburnd: 92 Write\n" if is_unread else b"udfburnd: 91 Read\n"
-                    self.assertEqual(stall.daemon.errors(), line)
-                    self.assertIsNone(stall.daemon.process.poll())
-        finally:
-            for stall in stalls:
-                stall.end()
-        # What was committed stays, what was not whole does not.
-        for name, path, size in (("silent", "/never", 0), ("half", "/never", 0), ("done", "/kept", 5000), ("unread", "/kept", 1_000_000),
-                                 ("many", "/kept", 100), ("little", "/kept", 1_000_000), ("slow", "/slow", 5000)):
-            expected = data_answer(b"x" * size) if size else Answer(NO_NODE)
-            ran = self.apply(query("get", path), image=name + ".img")
-            self.assertEqual((ran.status, answers_of(ran.output)), (0, [expected]))
 
 
 if __name__ == "__main__":

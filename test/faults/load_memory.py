@@ -13,7 +13,7 @@ from faults.load_support import Case, connect_or_none, converse, during, expect_
 from faults.machine import lacks
 from faults.programs import built
 from faults.running import Client, Daemon, Ran
-from protocol import MEMORY, Answer, Model, Request, answers_of, paths_of, split_answers
+from protocol import MEMORY, PIECE, Answer, Model, Request, answers_of, committed, paths_of, split_answers
 
 Message = Union[Request, tuple[str, str]]
 
@@ -104,11 +104,13 @@ class Refusing(Case):
 class Reading(Refusing):
     """Commands that write no image."""
 
-    def each(self, words: list[str], expected: bytes) -> None:
+    def each(self, words: list[str], expected: bytes) -> set[int]:
+        """How many bytes were printed where memory was short."""
         image = self.volume("d.img")
         self.tell(self.udfburn(*words), 0, expected, b"")
         count = self.count(*words)
         refused = 0
+        printed: set[int] = set()
 
         def run(rule: dict[str, int]) -> None:
             nonlocal refused
@@ -120,18 +122,30 @@ class Reading(Refusing):
                 else:
                     self.assertEqual(line, b"65 Memory")
                     self.assertTrue(expected.startswith(ran.output))
+                    printed.add(len(ran.output))
                     refused += 1
 
         in_pairs(run, self.rules(count))
         self.assertGreater(refused, count // 2)
         self.assertEqual(image.read_bytes(), self.before)
         self.tell(self.udfburn(*words), 0, expected, b"")
+        return printed
 
     def test_ls(self) -> None:
         self.each(["ls", "d.img", "/"], listing(self.model(), "/"))
 
     def test_get(self) -> None:
-        self.each(["get", "d.img", "/old"], b"o" * 3000)
+        self.assertEqual(self.each(["get", "d.img", "/old"], b"o" * 3000), {0})
+
+    def test_get_of_several_pieces(self) -> None:
+        """What was printed before memory was short is whole pieces."""
+        self.volume("d.img")
+        data = MEBIBYTE + MEBIBYTE[::-1] + b"end"
+        requests = [Request("append" if at else "create", 5, 4 + at // PIECE, "/pieces", data[at:at + PIECE], offset=at)
+                    for at in range(0, len(data), PIECE)]
+        self.tell(self.apply(spell_all(requests)), 0, b"".join(committed(0, 4 + at).framed() for at in range(3)), b"")
+        self.before = self.path("d.img").read_bytes()
+        self.assertEqual(self.each(["get", "d.img", "/pieces"], data), {0, PIECE, 2 * PIECE})
 
     def test_log(self) -> None:
         self.volume("d.img")

@@ -8,6 +8,21 @@ import unittest
 from pathlib import Path
 from typing import NoReturn
 
+from faults.processes import await_true
+
+
+def unmount(where: Path) -> None:
+    """Unmounts, as soon as no other program looks at it: one that looks through all that is mounted may do so for a moment."""
+    tried: list[str] = []
+
+    def is_unmounted() -> bool:
+        done = subprocess.run(["umount", str(where)], capture_output=True, text=True)
+        tried.append(first_line(done.stderr))
+        return done.returncode == 0
+
+    if not await_true(is_unmounted, pause=0.05):
+        raise OSError(tried[-1])
+
 
 def is_ci() -> bool:
     return os.environ.get("CI", "") == "true"

@@ -37,7 +37,7 @@ def _rooms() -> Optional[str]:
         found = os.statvfs(shared)
     except OSError:
         return None
-    if os.access(shared, os.W_OK) and found.f_bavail * found.f_frsize > 1 << 29:
+    if os.access(shared, os.W_OK) and found.f_bavail * found.f_frsize > 1 << 30:
         return shared
     return None
 

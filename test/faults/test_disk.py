@@ -22,7 +22,7 @@ from faults.calls import Discipline
 from faults.case import Case, need_shim
 from faults.fusedisk import Event, FuseDisk, events
 from faults.log import read_log
-from faults.machine import first_line, lacks, need_root, need_tools
+from faults.machine import first_line, lacks, need_root, need_tools, unmount
 from faults.processes import PATIENCE
 from faults.programs import built
 from faults.running import Daemon, Ran
@@ -181,7 +181,7 @@ class WithDisk(Case):
             if pusher.is_alive():
                 pusher.join()
             if is_mounted:
-                run("umount", str(where))
+                unmount(where)
             if device:
                 run("losetup", "--detach", device)
             served.close()
@@ -301,7 +301,7 @@ class WithDisk(Case):
             image = where / "d.img"
             return image.read_bytes() if image.exists() else b""
         finally:
-            run("umount", str(where))
+            unmount(where)
 
     def lose(self, kind: Kind, stream: Sequence[Request] = STREAM, pushes: bool = False, fails: bool = False,
              ends: Optional[Ends] = None) -> None:
@@ -433,7 +433,7 @@ class Room(WithDisk):
             self.mount(kind, str(disk), where, ",loop")
         except OSError as fault:
             lacks("no loop device can be mounted: " + first_line(str(fault)))
-        self.addCleanup(subprocess.check_call, ["umount", str(where)])
+        self.addCleanup(unmount, where)
         return where
 
     def no_room(self, where: Path, free: int) -> Optional[int]:

@@ -6,10 +6,10 @@ image must be a state of the run, and not one before the last acknowledged commi
 from __future__ import annotations
 
 import random
-from typing import Callable, Dict, Optional, Sequence
+from typing import Callable, Dict, Optional, Sequence, Tuple
 
 from faults.calls import told_by
-from faults.case import FORMATTED_BLOCKS, Case, need_shim
+from faults.case import FORMATTED_BLOCKS, Case, differing, need_shim
 from faults.log import Record, read_log
 from faults.pages import Disk, losses
 from faults.running import Client, Daemon, Ran
@@ -31,9 +31,9 @@ STREAM = [
 ]
 
 
-def states_of(requests: Sequence[Request]) -> list[Model]:
+def states_of(requests: Sequence[Request], begin: Model) -> list[Model]:
     """The model before the first commit and after each."""
-    model = Model()
+    model = begin.copy()
     states = [model.copy()]
     for request in requests:
         model.answer(request)
@@ -41,14 +41,25 @@ def states_of(requests: Sequence[Request]) -> list[Model]:
     return states
 
 
-class Power(Case):
+class Losing(Case):
+    """Loses power at each call of a log."""
+
+    PAGES: Tuple[int, ...] = (4096, 2048)
+
     def setUp(self) -> None:
         super().setUp()
         need_shim()
         self.images = 0
-        self.lost = 0
 
-    def looked_at(self, content: bytes, states: Sequence[list[Answer]], paths: Sequence[str], acknowledged: int, how: str) -> None:
+    def asked(self, requests: Sequence[Request]) -> bytes:
+        """What is asked of each image that is left."""
+        return questions(paths_of(requests))
+
+    def told(self, state: Model, requests: Sequence[Request]) -> list[Answer]:
+        """The answers in a state of the run."""
+        return state.told(paths_of(requests))
+
+    def looked_at(self, content: bytes, states: Dict[int, list[Answer]], asked: bytes, acknowledged: int, how: str) -> None:
         """The image is a state of the run that is not before the acknowledged one, by `check` and by what can be asked of it."""
         self.images += 1
         path = self.path("left.img")
@@ -57,27 +68,27 @@ class Power(Case):
         self.assertEqual((checked.status, checked.errors), (0, b""), how)
         commits = int(checked.output.split()[1])
         self.assertGreaterEqual(commits, acknowledged, how + ": an acknowledged commit is lost")
-        self.assertLess(commits, len(states), how)
-        ran = self.apply(questions(paths), "left.img")
+        self.assertIn(commits, states, how)
+        ran = self.apply(asked, "left.img")
         self.assertEqual((ran.status, ran.errors), (0, b""), how)
-        self.assertEqual(answers_of(ran.output), states[commits], how)
+        self.assertEqual(differing(answers_of(ran.output), states[commits]), [], how)
 
     def lose(self, before: bytes, records: Sequence[Record], requests: Sequence[Request], count: int, daemon: bool,
-             seed: int = SEED) -> None:
-        """Loses power at each call of the log, on pages of both sizes."""
-        states = states_of(requests)
-        paths = paths_of(requests)
-        told = [state.told(paths) for state in states]
+             seed: int = SEED, begin: Optional[Model] = None) -> None:
+        """Loses power at each call of the log, on pages of both sizes. The image was in the state `begin` before."""
+        begin = begin or Model()
+        states = {state.commits: self.told(state, requests) for state in states_of(requests, begin)}
+        asked = self.asked(requests)
         said: Dict[int, int] = {}
         for index, answer in told_by(records, daemon):
             if answer.is_commit:
                 said[index] = max(said.get(index, 0), answer.commit)
-        for page in (4096, 2048):
+        for page in self.PAGES:
             chance = random.Random(seed + page)
             # What a failed sync wrote is chosen anew in each of these.
             for on_failure in (None, chance):
                 disk = Disk(before, page, on_failure)
-                acknowledged = 0
+                acknowledged = begin.commits
                 seen: set[bytes] = set()
                 for index, record in enumerate(records):
                     if record.kind in ("pwrite", "fsync", "ftruncate"):
@@ -91,12 +102,14 @@ class Power(Case):
                         if key in seen:
                             continue
                         seen.add(key)
-                        self.looked_at(loss.content, told, paths, acknowledged,
+                        self.looked_at(loss.content, states, asked, acknowledged,
                                        "call %d (%s), pages of %d, %s" % (index, record.kind, page, loss.how))
                 if not any(record.kind == "fsync" and record.error for record in records):
                     break
-        self.assertEqual(acknowledged, len(requests))
+        self.assertEqual(acknowledged, begin.commits + len(requests))
 
+
+class Power(Losing):
     def served(self, requests: Sequence[Request], rules: str = "") -> bytes:
         """The image before a daemon served these requests one by one, each until it was committed."""
         before = self.fresh().read_bytes()

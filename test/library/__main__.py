@@ -7,69 +7,39 @@ from __future__ import annotations
 
 import os
 import shutil
-import subprocess
 import sys
-import time
-import unittest
-from concurrent.futures import ThreadPoolExecutor
 from pathlib import Path
-from typing import Any, NamedTuple
 
-from faults.__main__ import Counting
 from library.building import HERE, SANITIZERS, build_library, make_room
+from runner import Counts, Outcome, added, apart, run_for_another, side_by_side
 
 # These take longest, so that they begin first.
-LONG = ("test_power", "test_kills", "test_killed", "test_failures", "test_watched", "test_calls", "test_guards", "test_memory")
+LONG = ("test_power", "test_kills", "test_killed", "test_failures", "test_watched", "test_calls", "test_puts", "test_guards", "test_memory")
 
 
-class Outcome(NamedTuple):
-    name: str
-    passed: int
-    failed: int
-    skipped: int
-    seconds: float
-    output: str
-
-
-def run_module(name: str) -> int:
-    """In a process of its own: runs a module's tests, with the counts in the last line of the output."""
-    suite = unittest.defaultTestLoader.loadTestsFromName("library." + name)
-    result: Any = unittest.TextTestRunner(stream=sys.stdout, verbosity=2, resultclass=Counting).run(suite)
-    print(result.passed, result.failed(), len(result.skipped))
-    return 0
-
-
-def run_apart(name: str) -> Outcome:
-    start = time.monotonic()
-    done = subprocess.run([sys.executable, "-m", "library", "--module", name], stdout=subprocess.PIPE, stderr=subprocess.STDOUT, text=True,
-                          errors="replace")
-    seconds = time.monotonic() - start
-    output, _, counts = done.stdout.rstrip("\n").rpartition("\n")
-    try:
-        passed, failed, skipped = map(int, counts.split())
-    except ValueError:
-        return Outcome(name, 0, 1, 0, seconds, done.stdout)
-    return Outcome(name, passed, failed, skipped, seconds, output)
+def told(outcome: Outcome) -> Counts:
+    """Prints what a module counted, and gives it."""
+    counts = outcome.counts
+    if counts.failed or counts.skipped:
+        print(outcome.output)
+    print(f"library: {outcome.name}: {counts.passed} passed, {counts.failed} failed, {outcome.seconds:.1f} s", flush=True)
+    return counts
 
 
 def run_all(names: list[str]) -> int:
-    passed = failed = skipped = 0
-    with ThreadPoolExecutor(min(4, os.cpu_count() or 1)) as pool:
-        for outcome in pool.map(run_apart, names):
-            if outcome.failed or outcome.skipped:
-                print(outcome.output)
-            print("library: %s: %d passed, %d failed, %.1f s" % (outcome.name, outcome.passed, outcome.failed, outcome.seconds), flush=True)
-            passed, failed, skipped = passed + outcome.passed, failed + outcome.failed, skipped + outcome.skipped
-    if passed == 0:
-        failed += 1
-    print("library: %d passed, %d failed, %d skipped" % (passed, failed, skipped))
+    outcomes = side_by_side(
+        min(4, os.cpu_count() or 1), names, lambda name: apart(name, [sys.executable, "-m", "library", "--module", name]),
+    )
+    counts = added([told(outcome) for outcome in outcomes])
+    failed = counts.failed if counts.passed else counts.failed + 1
+    print(f"library: {counts.passed} passed, {failed} failed, {len(counts.skipped)} skipped")
     return 1 if failed else 0
 
 
 def main() -> int:
     words = sys.argv[1:]
     if words[:1] == ["--module"]:
-        return run_module(words[1])
+        return run_for_another([f"library.{words[1]}"], verbosity=2)
     if len(words) < 3:
         sys.exit(__doc__)
     core, os.environ["UDFBURN"], os.environ["UDFBURND"] = (os.path.abspath(word) for word in words[:3])

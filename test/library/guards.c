@@ -227,6 +227,12 @@ static struct {
     int forks;                  /* a child closes the handle, and the parent waits for it */
 } disc;
 
+static int64_t give_nothing(void *context, uint64_t offset, void *into, size_t room) {
+    (void)context, (void)offset, (void)into, (void)room;
+    EXPECT(!"a reader is called");
+    return 0;
+}
+
 static void try_all(udfburn *handle) {
     struct udfburn_request request = {9, 0, MOMENT, 0, 0};
     struct udfburn_commit commit = {0, 0, 0, 0, 0};
@@ -244,6 +250,7 @@ static void try_all(udfburn *handle) {
     EXPECT(request.commit == 0 && request.number == 0);
     STATUS(UDFBURN_MISUSE, udfburn_replace(handle, &request, "/again", "x", 1));
     STATUS(UDFBURN_MISUSE, udfburn_append(handle, &request, "/a", 0, "x", 1));
+    STATUS(UDFBURN_MISUSE, udfburn_put(handle, &request, "/again", give_nothing, NULL));
     STATUS(UDFBURN_MISUSE, udfburn_mkdir(handle, &request, "/again"));
     STATUS(UDFBURN_MISUSE, udfburn_rename(handle, &request, "/a", "/again"));
     STATUS(UDFBURN_MISUSE, udfburn_remove(handle, &request, "/a"));

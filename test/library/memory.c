@@ -6,7 +6,7 @@
 #endif
 #include "support.h"
 
-enum { TRIES = 4 };
+enum { TRIES = 4, STREAM = UDFBURN_FILE_LIMIT + 5 };
 
 static const char *image;
 static udfburn *handle;
@@ -53,6 +53,21 @@ static int32_t remove_it(void) {
     return udfburn_remove(handle, &request, "/d");
 }
 
+static int64_t give(void *context, uint64_t offset, void *into, size_t room) {
+    (void)context;
+    size_t count = offset < STREAM ? STREAM - (size_t)offset : 0;
+    if (count > room) count = room;
+    memset(into, 7, count);
+    return (int64_t)count;
+}
+
+/* The same client's other requests keep their numbers. */
+static int32_t put(void) {
+    struct udfburn_request request = request_of(0);
+    request.client = 8;
+    return udfburn_put(handle, &request, "/z", give, NULL);
+}
+
 static int32_t get(void) {
     uint8_t bytes[5];
     size_t count;
@@ -65,7 +80,7 @@ static int32_t list(void) {
     struct udfburn_name *names;
     size_t count;
     int32_t status = udfburn_list(handle, "/", &names, &count);
-    EXPECT(status == UDFBURN_OK ? count == 1 && !strcmp(names[0].name, "y") : !names && count == 0);
+    EXPECT(status == UDFBURN_OK ? count == 2 && !strcmp(names[0].name, "y") && !strcmp(names[1].name, "z") : !names && count == 0);
     udfburn_free(names);
     return status;
 }
@@ -77,7 +92,7 @@ static int32_t look(void) {
     return outcome;
 }
 
-/* The format, and the five requests. */
+/* The format, the five requests, and the three of the stream. */
 static int32_t all_commits(void) {
     struct udfburn_commit commit = {0, 0, 0, 0, 0};
     struct udfburn_status volume;
@@ -85,9 +100,9 @@ static int32_t all_commits(void) {
     uint32_t count = 0;
     while ((outcome = udfburn_log(handle, &commit)) == UDFBURN_OK) count++;
     if (outcome != UDFBURN_NONE) return outcome;
-    EXPECT(count == 6 && commit.number == 0);
+    EXPECT(count == 9 && commit.number == 0);
     outcome = udfburn_status(handle, &volume);
-    EXPECT(outcome != UDFBURN_OK || volume.commits == 5);
+    EXPECT(outcome != UDFBURN_OK || volume.commits == 8);
     return outcome;
 }
 
@@ -117,7 +132,7 @@ static int is_done(step step) {
 }
 
 int main(int argc, char **argv) {
-    static const step steps[] = {format, open_again, make_directory, create, replace, rename_it, remove_it, get, list, look, all_commits,
+    static const step steps[] = {format, open_again, make_directory, create, replace, rename_it, remove_it, put, get, list, look, all_commits,
                                  in_memory};
     if (argc != 2) return EXIT_FAILURE;
     image = argv[1];

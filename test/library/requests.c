@@ -445,7 +445,7 @@ static void test_names_of_statuses(void) {
     for (int32_t status = -1000; status < 1000; status++) {
         known += strcmp(udfburn_error_name(status), "UDFBURN_UNKNOWN") != 0;
     }
-    CHECK(known == 31);
+    CHECK(known == 32);
 #define NAMED(status) CHECK(strcmp(udfburn_error_name(status), #status) == 0)
     NAMED(UDFBURN_OK); NAMED(UDFBURN_MEMORY); NAMED(UDFBURN_DEVICE); NAMED(UDFBURN_TOO_LONG); NAMED(UDFBURN_TEXT);
     NAMED(UDFBURN_VOLUME); NAMED(UDFBURN_ARGUMENT); NAMED(UDFBURN_NONE); NAMED(UDFBURN_MISUSE);

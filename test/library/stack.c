@@ -30,6 +30,14 @@ static const char *path_of_folder(const char *path) {
     return folder;
 }
 
+static int64_t give(void *context, uint64_t offset, void *into, size_t room) {
+    (void)context;
+    size_t count = offset < sizeof data + 5 ? sizeof data + 5 - (size_t)offset : 0;
+    if (count > room) count = room;
+    memset(into, 7, count);
+    return (int64_t)count;
+}
+
 static void *work(void *unused) {
     struct udfburn_request request = {7, 0, MOMENT, 0, 0};
     struct udfburn_commit commit = {0, 0, 0, 0, 0};
@@ -42,7 +50,7 @@ static void *work(void *unused) {
     int32_t outcome;
     size_t count;
     udfburn *handle;
-    STATUS(UDFBURN_OK, udfburn_format("stack.img", "DISC", MOMENT, 3000));
+    STATUS(UDFBURN_OK, udfburn_format("stack.img", "DISC", MOMENT, 6000));
     STATUS(UDFBURN_OK, udfburn_open("stack.img", &handle));
     make_folders(handle, path);
     strcat(strcpy(moved, path), "/moved");
@@ -58,6 +66,8 @@ static void *work(void *unused) {
     STATUS(UDFBURN_OK, udfburn_entries(handle, path_of_folder(path), sizeof *entries, &entries, &count));
     udfburn_free(entries);
     STATUS(UDFBURN_OK, udfburn_room(handle, path, 100000));
+    STATUS(UDFBURN_OK, udfburn_room(handle, path, sizeof data + 5));
+    STATUS(UDFBURN_OK, udfburn_put(handle, &request, path, give, NULL));
     STATUS(UDFBURN_OK, udfburn_describe(handle, &volume));
     STATUS(UDFBURN_OK, udfburn_expect(handle, 18));
     STATUS(UDFBURN_OK, udfburn_status(handle, &status));

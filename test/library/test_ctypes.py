@@ -5,14 +5,14 @@ import ctypes
 import errno
 import os
 import struct
-from ctypes import POINTER, byref, c_char_p, c_int32, c_size_t, c_uint32, c_uint64, c_void_p
+from ctypes import POINTER, byref, c_char_p, c_int32, c_int64, c_size_t, c_uint32, c_uint64, c_void_p
 from typing import Any, List, Tuple
 
 from library.building import Case, built
 from library.test_exports import declared
 from protocol import GET, Request, encode, query
 
-OK, DEVICE, NONE, BUSY, OLDER, EXISTS, NOT_FOUND = 0, 2, 7, 9, 13, 35, 34
+OK, DEVICE, NONE, BUSY, OLDER, READER_FAILED, EXISTS, NOT_FOUND = 0, 2, 7, 9, 13, 14, 35, 34
 BLOCK = 2048
 MOMENT = 1_700_000_000_000_000
 
@@ -54,6 +54,7 @@ class Entry(ctypes.Structure):
 
 CAPACITY = ctypes.CFUNCTYPE(c_int32, c_void_p, POINTER(c_uint32))
 READ = ctypes.CFUNCTYPE(c_int32, c_void_p, c_uint32, c_uint32, c_void_p)
+READER = ctypes.CFUNCTYPE(c_int64, c_void_p, c_uint64, c_void_p, c_size_t)
 
 
 class Drive(ctypes.Structure):
@@ -163,6 +164,26 @@ class FromPython(Case):
         self.assertEqual([(names[i].name, names[i].kind) for i in range(count.value)], [(b"y", 0)])
         self.call("free", names)
 
+    def from_a_reader(self, handle: c_void_p) -> None:
+        """A stream that a function in Python gives, a piece at a time; then one that fails."""
+        data, asked, reason = bytes(range(256)) * 20, AskedRequest(9, 0, MOMENT), Reason(ctypes.sizeof(Reason))
+
+        def read(_: Any, offset: int, into: int, room: int) -> int:
+            piece = data[offset:offset + min(room, 1000)]
+            ctypes.memmove(into, piece, len(piece))
+            return len(piece)
+
+        self.assertEqual(self.call("put", handle, byref(asked), b"/stream", READER(read), None), OK)
+        self.assertEqual((asked.number, asked.repeated), (1, 0))
+        room, length = ctypes.create_string_buffer(len(data) + 1), c_size_t()
+        self.assertEqual(self.call("get", handle, b"/stream", room, c_size_t(len(data) + 1), byref(length)), OK)
+        self.assertEqual(room.raw[:length.value], data)
+        self.assertEqual(self.call("put", handle, byref(asked), b"/stream", READER(read), None), OK)
+        self.assertEqual((asked.number, asked.repeated), (0, 1))
+        self.assertEqual(self.call("put", handle, byref(asked), b"/none", READER(lambda *_: -errno.EIO), None), READER_FAILED)
+        self.assertEqual(self.call("reason", handle, byref(reason)), OK)
+        self.assertEqual((reason.status, reason.error, reason.call), (READER_FAILED, -errno.EIO, b"reader"))
+
     def its_past(self, path: bytes) -> None:
         """The volume as it was after its first commit, beside what is there now."""
         then, volume, entries, count = c_void_p(), Volume(ctypes.sizeof(Volume)), POINTER(Entry)(), c_size_t()
@@ -237,6 +258,7 @@ class FromPython(Case):
         self.what_it_is(handle)
         self.how_it_came(handle)
         self.requests(handle)
+        self.from_a_reader(handle)
         self.its_past(path)
         self.call("close", handle)
         self.by_descriptor(path)

@@ -1,28 +1,31 @@
 """The programs of examples/ on the library: what they do, also when they are killed and when calls of the system fail."""
 from __future__ import annotations
 
-import ctypes
 import os
+import pty
 import random
 import re
 import shutil
 import signal
 import subprocess
 import sys
+import tty
 import unittest
 from pathlib import Path
 from threading import Timer
 from typing import Dict, List, Optional, Tuple
 
 from faults.log import read_log
+from faults.processes import await_true, state_of
 from library.building import PATIENCE, REPOSITORY, Case, built
 
 sys.path.insert(0, str(REPOSITORY / "clients" / "python"))
 
 from udfburn.reader import Kind, Medium, Volume  # noqa: E402
 
-PART = 256 * 1024
-"""Bytes of a part of a recording (examples/record.c)."""
+PIECE = 1 << 20
+"""Bytes by which a recording grows (examples/record.c)."""
+GREATEST_FILE = 117 * PIECE
 PROGRAMS: Dict[str, Tuple[str, ...]] = {"record": (), "author": (), "recorder": ("-lburn",), "packet": ()}
 """The examples, and what each is linked with beside the library. test/disc.sh runs `packet`."""
 SHIM = "shim.so"
@@ -81,17 +84,10 @@ class WithImage(Case):
         )
 
 
-FIRST = bytes.fromhex("26000000" "01" "0700000000000000" "0100000000000000" "0000000000000000" "01010061" "0500000068656C6C6F")
-"""The frame of "An example" in docs/PROTOCOL.md."""
-
-
-def documented_frames() -> List[bytes]:
-    """The frames of the table in "A conversation"."""
-    text = (REPOSITORY / "docs" / "PROTOCOL.md").read_text(encoding="utf-8").split("## A conversation")[1]
-    rows = re.findall(r"^\| .* \| `([0-9A-F ]+)` \| `[0-9A-F ]+` \|$", text, re.MULTILINE)
-    requests = [frame for frame in map(bytes.fromhex, rows) if frame[4] < 16]
-    assert len(requests) > 6
-    return requests
+def bytes_read_by(process: int) -> int:
+    """How many bytes a process has been given by calls that read."""
+    with open(f"/proc/{process}/io", encoding="ascii") as file:
+        return next(int(line.split()[1]) for line in file if line.startswith("rchar:"))
 
 
 def tree_of(image: str) -> Dict[str, Optional[bytes]]:
@@ -102,19 +98,13 @@ def tree_of(image: str) -> Dict[str, Optional[bytes]]:
         return {"/".join(node.path): None if node.kind is Kind.DIRECTORY else volume.read(node).data for node in nodes}
 
 
-def recorded(*streams: bytes) -> Dict[str, Optional[bytes]]:
-    """The tree of a volume with one recording, `talk`, of streams one after another."""
-    parts = [stream[at:at + PART] for stream in streams for at in range(0, len(stream), PART)]
-    return {"talk": None, "talk/00": None, **{f"talk/00/{index:03}": part for index, part in enumerate(parts)}}
-
-
 class Record(WithImage):
-    """Recordings: whatever happens, each byte is on the volume once, and each part by one commit."""
+    """Recordings: whatever happens, each byte is on the volume once, and each piece by one commit."""
 
     def setUp(self) -> None:
         super().setUp()
         self.format()
-        self.stream = random.Random(1).randbytes(3 * PART + 1000)
+        self.stream = random.Random(1).randbytes(2 * PIECE + 1000)
 
     def record(self, stream: bytes, at: int, rules: str = "") -> "subprocess.CompletedProcess[bytes]":
         return self.run_example("record", "disc.img", "talk", data=stream[at:], rules=rules)
@@ -125,14 +115,16 @@ class Record(WithImage):
         self.assertEqual((done.returncode, done.stderr), (0, b""))
         return int(done.stdout)
 
-    def check_recorded(self, wanted: Dict[str, Optional[bytes]], why: str = "") -> None:
-        self.assertEqual(tree_of(self.image), wanted, why)
-        self.assertEqual(self.commits(), len(wanted), why)
+    def check_recorded(self, stream: bytes, why: str = "") -> None:
+        tree = tree_of(self.image)
+        self.assertEqual(list(tree), ["talk"], why)
+        self.assertTrue(tree["talk"] == stream, why)
+        self.assertEqual(self.commits(), -(-len(stream) // PIECE), why)
 
     def test_a_stream(self) -> None:
         done = self.record(self.stream, 0)
-        self.assertEqual(done.stdout.split(), [b"%d" % size for size in (0, PART, 2 * PART, 3 * PART, len(self.stream))])
-        self.check_recorded(recorded(self.stream))
+        self.assertEqual(done.stdout.split(), [b"%d" % size for size in (0, PIECE, 2 * PIECE, len(self.stream))])
+        self.check_recorded(self.stream)
 
     def test_an_output_that_is_full(self) -> None:
         """All is on the volume, and that nobody could read so is a failure."""
@@ -140,27 +132,61 @@ class Record(WithImage):
             done = subprocess.run([str(examples() / "record"), "disc.img", "talk"], cwd=self.folder, input=self.stream, stdout=full,
                                   stderr=subprocess.PIPE, timeout=PATIENCE, env=self.environment())
         self.assertEqual((done.returncode, done.stderr), (1, b"record: the output cannot be written\n"))
-        self.check_recorded(recorded(self.stream))
+        self.check_recorded(self.stream)
 
     def test_it_goes_on(self) -> None:
-        end = 2 * PART + 1000
-        self.record(self.stream[:end], 0)
-        self.assertEqual(self.on_volume(), end)
-        self.record(self.stream, end)
-        self.check_recorded(recorded(self.stream[:end], self.stream[end:]))
+        self.record(self.stream[:PIECE], 0)
+        self.assertEqual(self.on_volume(), PIECE)
+        self.record(self.stream, PIECE)
+        self.check_recorded(self.stream)
+
+    def test_nothing_is_recorded_behind_an_end(self) -> None:
+        """Neither the recording nor the number of commits changes."""
+        self.record(self.stream, 0)
+        for more in (b"more", bytes(PIECE)):
+            done = self.record(more, 0)
+            self.assertEqual((done.returncode, done.stdout, done.stderr),
+                             (1, b"%d\n" % len(self.stream), b"record: /talk takes no more: record the rest under another name\n"))
+            self.check_recorded(self.stream)
+
+    def test_a_stream_that_cannot_be_read(self) -> None:
+        """What comes before the failure is no end: only whole pieces are stored, and the rest is recorded afterwards."""
+        mouth, ear = pty.openpty()
+        tty.setraw(ear)
+        with subprocess.Popen([str(examples() / "record"), "disc.img", "talk"], cwd=self.folder, stdin=ear, stdout=subprocess.PIPE,
+                              stderr=subprocess.PIPE) as process:
+            os.close(ear)
+            assert process.stdout
+            self.assertEqual(process.stdout.readline(), b"0\n")
+            before = bytes_read_by(process.pid)
+            os.write(mouth, self.stream[:1000])
+            # A terminal that is gone gives EIO to who waits for it, and an end to who comes later.
+            self.assertTrue(await_true(lambda: bytes_read_by(process.pid) >= before + 1000 and state_of(process.pid) == "S"))
+            os.close(mouth)
+            output, errors = process.communicate(timeout=PATIENCE)
+        self.assertEqual((process.returncode, output, errors), (1, b"", b"record: the stream: Input/output error\n"))
+        self.assertEqual(self.on_volume(), 0)
+        self.record(self.stream, 0)
+        self.check_recorded(self.stream)
 
     def test_long_names(self) -> None:
-        """The longest name that a volume takes has its parts; a longer one is refused before the stream is read."""
-        for length in (247, 248, 254):
-            name = "n" * length
-            self.start_anew()
-            for at, part in ((0, b"one"), (3, b"two")):
-                done = self.run_example("record", "disc.img", name, data=part)
-                self.assertEqual((done.returncode, done.stdout.split(), done.stderr), (0, [b"%d" % at, b"%d" % (at + 3)], b""))
-            self.assertEqual(tree_of(self.image), {name: None, f"{name}/00": None, f"{name}/00/000": b"one", f"{name}/00/001": b"two"})
+        """The longest name that a volume takes is recorded; a longer one is refused before the stream is read."""
+        name = "n" * 254
+        done = self.run_example("record", "disc.img", name, data=b"one")
+        self.assertEqual((done.returncode, done.stdout.split(), done.stderr), (0, [b"0", b"3"], b""))
+        self.assertEqual(tree_of(self.image), {name: b"one"})
         for name in ("n" * 255, "/n" * 150):
             done = self.run_example("record", "disc.img", name, data=b"one")
             self.assertEqual((done.returncode, done.stdout), (2, b""))
+
+    def test_the_longest_recording(self) -> None:
+        """What is above it is not stored, and is told to be recorded elsewhere."""
+        self.start_anew(70000)
+        stream = random.Random(4).randbytes(1 << 16) * (GREATEST_FILE >> 16)
+        done = self.record(stream + b"more", 0)
+        self.assertEqual((done.returncode, done.stdout.split()[-1]), (1, b"%d" % GREATEST_FILE))
+        self.assertEqual(done.stderr, b"record: /talk takes no more: record the rest under another name\n")
+        self.check_recorded(stream)
 
     def test_killed_at_each_call(self) -> None:
         """The process is killed before and after each write and sync of the image, and what is left is recorded then."""
@@ -183,7 +209,7 @@ class Record(WithImage):
                 self.start_anew()
                 done = self.record(self.stream, 0, f"{call}:{number}:{failing}")
                 self.assertEqual((done.returncode, done.stderr), (0, b""), f"{call} {number}: {failing}")
-                self.check_recorded(recorded(self.stream), f"{call} {number}: {failing}")
+                self.check_recorded(self.stream, f"{call} {number}: {failing}")
 
     def test_a_commit_that_seems_to_fail(self) -> None:
         """The last sync of a part is done, the disk says that it failed, and the part cannot be cut off again."""
@@ -192,7 +218,7 @@ class Record(WithImage):
             self.start_anew()
             done = self.record(self.stream, 0, f"fsync:{number}:A5;ftruncate:{opened + 1}:E5")
             self.assertEqual((done.returncode, done.stderr), (0, b""), number)
-            self.check_recorded(recorded(self.stream), f"sync {number}")
+            self.check_recorded(self.stream, f"sync {number}")
 
     def test_a_disk_that_fails_for_good(self) -> None:
         for first in range(2, self.calls("fsync") + 1):
@@ -202,18 +228,21 @@ class Record(WithImage):
             self.goes_on(done, f"from sync {first} on")
 
     def test_killed_by_the_clock(self) -> None:
-        stream, chance, acknowledged, kills = random.Random(2).randbytes(40 * PART), random.Random(3), 0, 0
+        stream, chance, acknowledged, kills, longest = random.Random(2).randbytes(15 * PIECE + 5), random.Random(3), 0, 0, 0.05
         while acknowledged < len(stream):
             found = self.on_volume()
             self.assertGreaterEqual(found, acknowledged)
             with subprocess.Popen([str(examples() / "record"), "disc.img", "talk"], cwd=self.folder, stdin=subprocess.PIPE, stdout=subprocess.PIPE) as process:
-                timer = Timer(chance.uniform(0.0, 0.03), process.kill)
+                timer = Timer(chance.uniform(0.0, longest), process.kill)
                 timer.start()
                 output, _ = process.communicate(stream[found:])
                 timer.cancel()
             kills += process.returncode == -signal.SIGKILL
-            acknowledged = max([acknowledged, *map(int, output.split(b"\n")[:-1])])
-        self.check_recorded(recorded(stream))
+            came = max([acknowledged, *map(int, output.split(b"\n")[:-1])])
+            # However slow the machine is, there is time for a piece at last.
+            longest *= 1.0 if came > acknowledged else 1.1
+            acknowledged = came
+        self.check_recorded(stream)
         self.assertGreater(kills, 0)
 
     def test_a_held_image(self) -> None:
@@ -224,9 +253,9 @@ class Record(WithImage):
             self.assertEqual((done.returncode, done.stdout, done.stderr), (1, b"", b"record: UDFBURN_BUSY\n"))
             process.communicate(b"")
 
-    def start_anew(self) -> None:
+    def start_anew(self, capacity: int = 10000) -> None:
         os.unlink(self.image)
-        self.format()
+        self.format(capacity)
 
     def calls(self, call: str, stream: Optional[bytes] = None) -> int:
         """How many such calls a recording makes on its image."""
@@ -243,7 +272,7 @@ class Record(WithImage):
         found = self.on_volume()
         self.assertGreaterEqual(found, int((ended.stdout.split() or [b"0"])[-1]), why)
         self.record(self.stream, found)
-        self.check_recorded(recorded(self.stream), why)
+        self.check_recorded(self.stream, why)
 
 
 class Author(WithImage):
@@ -416,71 +445,6 @@ class Document(WithImage):
         Path(self.image).write_bytes(b"something else")
         self.assertEqual(self.shown("/a", b"a"), (1, b"UDFBURN_VOLUME\n"))
         self.assertEqual(Path(self.image).read_bytes(), b"something else")
-
-
-def declared() -> Dict[str, List[str]]:
-    """The calls of udfburn.h, each with the words of its declaration."""
-    text = re.sub(r"/\*.*?\*/", "", (REPOSITORY / "library" / "udfburn.h").read_text(encoding="utf-8"), flags=re.DOTALL)
-    found = re.findall(r"^((?:const )?\w+ \*?)(udfburn_\w+)\(([^)]*)\);", text, re.MULTILINE)
-    return {name: [result.strip(), *(" ".join(word.split()) for word in words.split(","))] for result, name, words in found}
-
-
-class ManualPage(unittest.TestCase):
-    """udfburn(3) has each call and each status of udfburn.h."""
-
-    def setUp(self) -> None:
-        self.page = (REPOSITORY / "man" / "udfburn.3").read_text(encoding="utf-8")
-
-    def test_calls(self) -> None:
-        calls = re.findall(r"^\.Ft (.*)\n\.Fn (\w+) (.*)$", self.page, re.MULTILINE)
-        shown = {name: [result, *(quoted or word for quoted, word in re.findall(r'"([^"]*)"|(\w+)', words))] for result, name, words in calls}
-        self.assertGreater(len(shown), 25)
-        self.assertEqual(shown, declared())
-
-    def test_statuses(self) -> None:
-        header = (REPOSITORY / "library" / "udfburn.h").read_text(encoding="utf-8")
-        statuses = dict(re.findall(r"^    (UDFBURN_\w+) = (\d+),? ", header, re.MULTILINE))
-        self.assertGreater(len(statuses), 20)
-        for name, number in statuses.items():
-            self.assertRegex(self.page, rf"\b{name}\b")
-            if not 33 <= int(number) <= 43:
-                self.assertIn(f".It Dv {name} No ({number})\n", self.page)
-
-
-class RequestOf(ctypes.Structure):
-    """`struct udfburn_request`."""
-
-    _fields_ = [(name, ctypes.c_uint64) for name in ("client", "number", "moment")] + [(name, ctypes.c_uint32) for name in ("commit", "repeated")]
-
-
-class Conversation(WithImage):
-    """The calls of udfburn.h send the very frames of docs/PROTOCOL.md: they leave the same blocks."""
-
-    def test_the_documented_conversation(self) -> None:
-        self.format()
-        documented = str(self.folder / "documented.img")
-        shutil.copy(self.image, documented)
-        frames = [FIRST, *documented_frames()[:6]]
-        subprocess.run([built().udfburn, "apply", documented], input=b"".join(frames), stdout=subprocess.DEVNULL, check=True)
-        before = os.path.getsize(self.image)
-        self.call_all()
-        self.assertEqual(Path(self.image).read_bytes(), Path(documented).read_bytes())
-        self.assertGreater(os.path.getsize(self.image), before)
-
-    def call_all(self) -> None:
-        """What client 7 asks for in "A conversation"."""
-        library = ctypes.CDLL(str(built().plain / "libudfburn.so.0"))
-        disc = ctypes.c_void_p()
-        self.assertEqual(library.udfburn_open(self.image.encode(), ctypes.byref(disc)), 0)
-        calls: List[Tuple[str, Tuple[object, ...], int]] = [
-            ("create", (b"/a", b"hello", ctypes.c_size_t(5)), 0), ("mkdir", (b"/d",), 0), ("rename", (b"/a", b"/d/b"), 0),
-            ("replace", (b"/d/b", b"bye", ctypes.c_size_t(3)), 0), ("remove", (b"/d",), 37), ("remove", (b"/d/b",), 0),
-        ]
-        for number, (name, words, status) in enumerate(calls, 1):
-            request = RequestOf(7, 0, 0)
-            self.assertEqual(getattr(library, f"udfburn_{name}")(disc, ctypes.byref(request), *words), status)
-            self.assertEqual((request.number, request.commit, request.repeated), (number, number, 0))
-        library.udfburn_close(disc)
 
 
 if __name__ == "__main__":

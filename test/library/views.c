@@ -345,7 +345,7 @@ static void rooms(void) {
     STATUS(UDFBURN_OK, udfburn_room(handle, "/d/2", 100000));
     STATUS(UDFBURN_FULL, udfburn_room(handle, "/d/4", UDFBURN_FILE_LIMIT));
     STATUS(UDFBURN_FULL, udfburn_room(handle, "/d/2", UDFBURN_FILE_LIMIT));
-    STATUS(UDFBURN_ARGUMENT, udfburn_room(handle, "/d/4", UDFBURN_FILE_LIMIT + 1));
+    STATUS(UDFBURN_ARGUMENT, udfburn_room(handle, "/d/4", (uint64_t)UDFBURN_GREATEST_FILE + 1));
     STATUS(UDFBURN_IS_DIRECTORY, udfburn_room(handle, "/d", 1));
     STATUS(UDFBURN_IS_DIRECTORY, udfburn_room(handle, "/", 1));
     STATUS(UDFBURN_NO_PARENT, udfburn_room(handle, "/e/4", 1));

@@ -67,7 +67,7 @@ def words_of(text: str) -> Dict[str, str]:
 def told(words: List[str], wanted: Dict[str, str]) -> List[str]:
     """The lines NAME=VALUE of a command."""
     environment = dict(os.environ, LC_ALL="C.UTF-8", TZ="UTC")
-    done = subprocess.run(words, stdout=subprocess.PIPE, stderr=subprocess.PIPE, env=environment, timeout=600)
+    done = subprocess.run(words, stdout=subprocess.PIPE, stderr=subprocess.PIPE, env=environment, timeout=3600)
     if done.returncode != 0:
         return ["status %d: %s" % (done.returncode, done.stderr.decode(errors="replace"))]
     found = words_of(done.stdout.decode())
@@ -96,7 +96,7 @@ def blkid(volume: Volume) -> List[str]:
     })
     # In a list it writes letters otherwise.
     for key in ("LABEL", "VOLUME_ID", "LOGICAL_VOLUME_ID"):
-        done = subprocess.run(["blkid", "-p", "-o", "value", "-s", key, str(volume.image)], stdout=subprocess.PIPE, timeout=600)
+        done = subprocess.run(["blkid", "-p", "-o", "value", "-s", key, str(volume.image)], stdout=subprocess.PIPE, timeout=3600)
         if done.stdout.decode() != script.label + "\n":
             out.append("%s is %r, not %r" % (key, done.stdout, script.label))
     return out
@@ -112,7 +112,7 @@ def udfclient(volume: Volume, room: Path) -> List[str]:
     environment = dict(os.environ, TZ="UTC")
     done = subprocess.run(
         ["udfclient", "-b", "2048", str(volume.image)], input=('get "%s" all\nquit\n' % where).encode(), cwd=folder,
-        stdout=subprocess.PIPE, stderr=subprocess.STDOUT, env=environment, timeout=600)
+        stdout=subprocess.PIPE, stderr=subprocess.STDOUT, env=environment, timeout=3600)
     wanted = shown(volume.tree, naming.udfclient)
     found: Dict[bytes, Path] = {}
     top = folder / "all"

@@ -127,12 +127,12 @@ def mount_here(guest: Path, jobs: List[Job], room: Path) -> List[Mount]:
     assert not any(job.disc for job in jobs)
     where = {job.image: (str(job.image), 0, job.image.stat().st_size) for job in jobs}
     (room / "jobs").write_bytes(job_lines(jobs, where, []))
-    subprocess.run([str(guest), str(room / "jobs"), str(room / "output")], check=True, timeout=3600)
+    subprocess.run([str(guest), str(room / "jobs"), str(room / "output")], check=True, timeout=6 * 3600)
     with open(room / "output", "rb") as stream:
         return read_output(stream)
 
 
-def mount_in_machine(guest: Path, kernel: Path, jobs: List[Job], room: Path, seconds: int = 3600) -> List[Mount]:
+def mount_in_machine(guest: Path, kernel: Path, jobs: List[Job], room: Path, seconds: int = 6 * 3600) -> List[Mount]:
     """The jobs in a virtual machine of the kernel that was unpacked into `kernel`, all of them in one start."""
     archive = member("init", 0o100755, guest.read_bytes())
     archive += member("modules", 0o040755, b"")

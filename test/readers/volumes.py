@@ -190,7 +190,7 @@ class Maker:
         self.room = room
 
     def run(self, *words: str, given: bytes = b"") -> bytes:
-        done = subprocess.run([self.udfburn, *words], input=given, stdout=subprocess.PIPE, stderr=subprocess.PIPE, timeout=600)
+        done = subprocess.run([self.udfburn, *words], input=given, stdout=subprocess.PIPE, stderr=subprocess.PIPE, timeout=3600)
         if done.returncode != 0:
             raise RuntimeError("%s: status %d: %r" % (" ".join(words), done.returncode, done.stderr))
         return done.stdout

@@ -8,13 +8,14 @@ from __future__ import annotations
 import struct
 from typing import Dict, List, Tuple
 
+from udfburn.protocol.units import BlockNumber, Commit, Moment, Size, VirtualAddress
 from udfburn.reader import Kind, Medium, Volume
 from udfburn.reader.basics import BLOCK, FILE_BYTES, PARTITION, entity, write_dstring
 from udfburn.reader.directory import write_identifier
 from udfburn.reader.entry import Entry, write_entry
 from udfburn.reader.table import Client, Reply, write_client
 
-MOMENT = 1_700_000_000_123_456
+MOMENT = Moment(1_700_000_000_123_456)
 
 
 class Appender:
@@ -54,14 +55,14 @@ class Appender:
         self.contents[name] = (0, [])
         self._piece(name, data)
         first = self.number
-        listing = [write_identifier("", 10, 1, 0, 0, first)]
-        listing += [write_identifier(old.name, 2 if old.is_directory else 0, old.virtual, old.unique, 0, first) for old in self.names]
-        listing += [write_identifier(new, 0, at, unique, 0, first) for new, at, unique in self.added]
+        listing = [write_identifier("", 10, VirtualAddress(1), 0, 0, BlockNumber(first))]
+        listing += [write_identifier(old.name, 2 if old.is_directory else 0, old.virtual, old.unique, 0, BlockNumber(first)) for old in self.names]
+        listing += [write_identifier(new, 0, VirtualAddress(at), unique, 0, BlockNumber(first)) for new, at, unique in self.added]
         spelled = b"".join(listing)
         assert len(spelled) <= BLOCK - 32, "the root's listing is one block"
         self.put(spelled)
         links = 1 + sum(old.is_directory for old in self.names)
-        self.words[1] = self.put(write_entry(Entry(Kind.DIRECTORY, MOMENT, links, 0, len(spelled), first, None, 1, 0, True)))
+        self.words[1] = self.put(write_entry(Entry(Kind.DIRECTORY, MOMENT, links, 0, Size(len(spelled)), BlockNumber(first), None, 1, 0, True)))
         self._table()
 
     def append(self, name: str, data: bytes) -> None:
@@ -81,11 +82,11 @@ class Appender:
         firsts = [*firsts, self.put(data)]
         size = old + len(data)
         _, virtual, unique = next(known for known in self.added if known[0] == name)
-        self.words[virtual] = self.put(write_entry(Entry(Kind.FILE, MOMENT, 1, unique, size, firsts[0], None, virtual, 0, True, tuple(firsts[1:]))))
+        self.words[virtual] = self.put(write_entry(Entry(Kind.FILE, MOMENT, 1, unique, Size(size), BlockNumber(firsts[0]), None, virtual, 0, True, tuple(map(BlockNumber, firsts[1:])))))
         self.contents[name] = (size, firsts)
 
     def _table(self) -> None:
-        self.commit += 1
+        self.commit = Commit(self.commit + 1)
         client = next((known for known in self.clients if known.client == 7), None)
         replies = client.replies[:3] if client is not None else ()
         kept = Client(7, client.latest + 1 if client is not None else 1, (Reply(0, self.commit), *replies))
@@ -97,7 +98,7 @@ class Appender:
         head += struct.pack("<III4H", self.previous, files, self.table.directories, 0x201, 0x201, 0x201, 0)
         data = head + use + struct.pack(f"<{len(self.words)}I", *self.words)
         first = self.put(data)
-        self.previous = self.put(write_entry(Entry(Kind.TABLE, MOMENT, 0, 0, len(data), first, None, self.number, 0, True)))
+        self.previous = self.put(write_entry(Entry(Kind.TABLE, MOMENT, 0, 0, Size(len(data)), BlockNumber(first), None, self.number, 0, True)))
 
     def write(self) -> None:
         """Writes the commits after those of the image."""

@@ -5,12 +5,13 @@ from __future__ import annotations
 import struct
 from typing import Callable, Dict, List, NamedTuple, Optional
 
+from udfburn.protocol.units import BlockNumber, Moment, Size, VirtualAddress
 from udfburn.reader.basics import BLOCK, PARTITION, UNUSED, entity, write_dstring
 from udfburn.reader.directory import fits, write_identifier
 from udfburn.reader.entry import Entry, Kind, write_entry, write_file_set
 from udfburn.reader.front import blocks_of_front
 
-LABEL, MOMENT, CAPACITY = "FORGED", 1_600_000_000_000_000, 1_600
+LABEL, MOMENT, CAPACITY = "FORGED", Moment(1_600_000_000_000_000), 1_600
 MEBIBYTE = 1 << 20
 
 
@@ -42,12 +43,13 @@ class Forge:
 
     def node(self, kind: Kind, unique: int, size: int, first: Optional[int], virtual: int, inside: Optional[bytes] = None) -> int:
         """Puts a node's entry."""
-        return self.put(write_entry(Entry(kind, MOMENT, 1, unique, size, first, inside, virtual, 0, True)))
+        number = None if first is None else BlockNumber(first)
+        return self.put(write_entry(Entry(kind, MOMENT, 1, unique, Size(size), number, inside, virtual, 0, True)))
 
     def listing(self, names: "Callable[[int], Name]", size: int = MEBIBYTE) -> int:
         """Puts the data of a directory: the parent, then names by their places, as many as there is room for."""
         first, index, data = self.number, 0, b""
-        block, last = write_identifier("", 10, 1, 0, 0, first), Name("", 1, 10)
+        block, last = write_identifier("", 10, VirtualAddress(1), 0, 0, BlockNumber(first)), Name("", 1, 10)
         while True:
             name = names(index)
             spelled = name.spelled(first + len(data) // BLOCK)
@@ -66,8 +68,8 @@ class Forge:
             spelled = self.table_data(clients, files, directories, words)
             data, size = self.put(spelled), len(spelled)
         at = self.number
-        self.put(write_entry(Entry(Kind.TABLE, MOMENT, 0, 0, size, data, None, at, 0, True)))
-        self.previous, self.commit = at, self.commit + 1
+        self.put(write_entry(Entry(Kind.TABLE, MOMENT, 0, 0, Size(size), BlockNumber(data), None, at, 0, True)))
+        self.previous, self.commit = BlockNumber(at), self.commit + 1
 
     def table_data(self, clients: int, files: int, directories: int, words: Optional[List[int]] = None) -> bytes:
         """The data of a table."""
@@ -79,7 +81,7 @@ class Forge:
 
     def begin(self) -> None:
         """The format: an empty root."""
-        parent = self.put(write_identifier("", 10, 1, 0, 0, self.number))
+        parent = self.put(write_identifier("", 10, VirtualAddress(1), 0, 0, BlockNumber(self.number)))
         self.words[1] = self.node(Kind.DIRECTORY, 0, 40, parent, 1)
         self.table(0, 0, 1)
 
@@ -97,7 +99,7 @@ class Name(NamedTuple):
 
     def spelled(self, number: int, more: int = 0) -> bytes:
         """The identifier in the block of this number, lengthened by so many bytes."""
-        return write_identifier(self.text, self.characteristics, self.virtual, 0 if self.characteristics == 10 else 16, more, number)
+        return write_identifier(self.text, self.characteristics, VirtualAddress(self.virtual), 0 if self.characteristics == 10 else 16, more, BlockNumber(number))
 
 
 def name_of(index: int, virtual: int, is_directory: bool = True, text: str = "") -> Name:
@@ -195,7 +197,7 @@ def wrong_entries() -> bytes:
     forge.begin()
     forge.words += [forge.number + index % 1200 for index in range(4000)]
     while forge.left > 20:
-        block = bytearray(write_entry(Entry(Kind.DIRECTORY, MOMENT, 9, forge.number, 5000, 3, None, forge.number, 0, True)))
+        block = bytearray(write_entry(Entry(Kind.DIRECTORY, MOMENT, 9, forge.number, Size(5000), BlockNumber(3), None, forge.number, 0, True)))
         for at, byte in ((9, 1), (72, 0), (82, 7), (95, 9), (35, 8), (56, 9), (57, 1), (64, 40), (172, 48), (173, 1), (48, 9)):
             block[at] ^= byte
         forge.put(bytes(block))

@@ -7,6 +7,7 @@ from typing import Dict, List, NamedTuple, Set, Tuple
 
 from udfburn import Client
 from udfburn.protocol import Path
+from udfburn.protocol.units import Commit, Moment
 from udfburn.reader import Kind, Medium, Volume
 
 from .programs import UDFBURN
@@ -15,7 +16,7 @@ from .volumes import format_image
 BLOCK = 2048
 SIZES = (40, 700, 1872, 1873, 2048, 5000, 9000, 20_000)
 FOLDERS = ("letters", "photos", "letters/old", "a folder with a long name, so that its identifiers take more room", "日本")
-MOMENT = 1_600_000_000_000_000
+MOMENT = Moment(1_600_000_000_000_000)
 
 
 class File(NamedTuple):
@@ -71,10 +72,10 @@ def write(image: str, ledger: str, seed: int) -> None:
             client.mkdir("/" + folder, MOMENT)
         for number in range(130):
             path = f"/{chance.choice(FOLDERS)}/file {number:03} of the archive.dat"
-            client.create(path, chance.randbytes(chance.choice(SIZES)), MOMENT + number)
+            client.create(path, chance.randbytes(chance.choice(SIZES)), Moment(MOMENT + number))
             known.append(path)
             if number % 9 == 5:
-                client.replace(chance.choice(known), chance.randbytes(chance.choice(SIZES)), MOMENT + 1000 + number)
+                client.replace(chance.choice(known), chance.randbytes(chance.choice(SIZES)), Moment(MOMENT + 1000 + number))
             if number % 17 == 8:
                 old = known.pop(chance.randrange(len(known)))
                 client.rename(old, f"/renamed {number}", MOMENT)
@@ -86,7 +87,7 @@ def write(image: str, ledger: str, seed: int) -> None:
 def files_of(volume: Volume, commit: int) -> Dict[Path, File]:
     """The files after a commit."""
     found = {}
-    for node in volume.state(commit).walk():
+    for node in volume.state(Commit(commit)).walk():
         if node.kind is Kind.FILE:
             blocks = set(range(node.data, node.data + node.blocks)) if node.data is not None else set()
             found[node.path] = File(volume.read(node).data, node.address, blocks | {node.address})

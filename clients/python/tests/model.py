@@ -8,6 +8,7 @@ from udfburn.protocol import (
     CLIENTS_FULL, IS_DIRECTORY, NOT_DIRECTORY, NOT_FOUND, TOO_LONG, Answer, Append, Code, Committed, Create, Data, Fault, Gap, Get, List as ListQuery,
     MakeDir, Malformed, Message, Name, Names, Node, NodeKind, Path, Read, Remove, Rename, Replace, Request, Stale, decode_message, limits,
 )
+from udfburn.protocol.units import Commit, Moment
 
 
 class File:
@@ -48,7 +49,7 @@ class Volume:
         if message.client not in self.clients and len(self.clients) == 64:
             return CLIENTS_FULL
         self.commits += 1
-        reply = Committed(self.operate(message), self.commits)
+        reply = Committed(self.operate(message), Commit(self.commits))
         self.clients[message.client] = (message.number, [reply] + kept[:3])
         return reply
 
@@ -173,9 +174,9 @@ class Volume:
                 return NOT_DIRECTORY
             return Names(tuple(Name(self.kind(message.path + (name,)), name) for name in node.names))
         if isinstance(node, File):
-            return Node(NodeKind.FILE, node.moment, len(node.data))
+            return Node(NodeKind.FILE, Moment(node.moment), len(node.data))
         assert isinstance(node, Directory)
-        return Node(NodeKind.DIRECTORY, node.moment, len(node.names))
+        return Node(NodeKind.DIRECTORY, Moment(node.moment), len(node.names))
 
     def kind(self, path: Path) -> NodeKind:
         return NodeKind.DIRECTORY if isinstance(self.nodes[path], Directory) else NodeKind.FILE

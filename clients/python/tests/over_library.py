@@ -14,11 +14,13 @@ import sys
 import unittest
 from typing import List
 
-from udfburn import Client, errors as e
+from udfburn import Client
+from udfburn.base import errors as e
 from udfburn import protocol as p
-from udfburn.connection import Lost
-from udfburn.identity import opened_path
-from udfburn.operations import Operation
+from udfburn.wire.connection import Lost
+from udfburn.image.identity import opened_path
+from udfburn.protocol.units import Moment
+from udfburn.wire.operations import Operation
 
 from . import test_growing_kills, test_kills
 from .programs import PACKAGE, PATIENCE, UDFBURN, WithPrograms
@@ -43,14 +45,14 @@ class Volumes(WithLibrary):
 
     def test_requests_and_queries(self) -> None:
         with self.by_library() as client:
-            self.assertEqual(client.mkdir("/d", 1), 1)
-            self.assertEqual(client.create("/d/a", b"first", 2), 2)
-            self.assertEqual(client.replace("/d/a", b"second", 3), 3)
-            self.assertEqual(client.rename("/d/a", "/b", 4), 4)
+            self.assertEqual(client.mkdir("/d", Moment(1)), 1)
+            self.assertEqual(client.create("/d/a", b"first", Moment(2)), 2)
+            self.assertEqual(client.replace("/d/a", b"second", Moment(3)), 3)
+            self.assertEqual(client.rename("/d/a", "/b", Moment(4)), 4)
             self.assertEqual(client.get("/b"), b"second")
             self.assertEqual([(name.name, name.kind) for name in client.list("/")], [("d", p.NodeKind.DIRECTORY), ("b", p.NodeKind.FILE)])
-            self.assertEqual(client.stat("/b"), p.Node(p.NodeKind.FILE, 3, 6))
-            self.assertEqual(client.remove("/d", 5), 5)
+            self.assertEqual(client.stat("/b"), p.Node(p.NodeKind.FILE, Moment(3), 6))
+            self.assertEqual(client.remove("/d", Moment(5)), 5)
             with self.assertRaises(e.NotFound):
                 client.get("/d")
         self.assertEqual(self.udfburn("get", self.image, "/b"), b"second")
@@ -59,7 +61,7 @@ class Volumes(WithLibrary):
     def test_the_same_blocks(self) -> None:
         """The library and the program write one image for the same requests, as large and as many as there are."""
         other, ledger = shutil.copy(self.image, f"{self.image}.other"), f"{self.ledger}.other"
-        operations: List[Operation] = [Operation(p.Create, (f"f{index}",), index, bytes([index]) * (index * index * 700)) for index in range(39)]
+        operations: List[Operation] = [Operation(p.Create, (f"f{index}",), Moment(index), bytes([index]) * (index * index * 700)) for index in range(39)]
         with self.by_library() as client, Client(f"image:{other}", client.session().ledger.client, ledger, UDFBURN, PATIENCE) as by_program:
             self.assertEqual([outcome.commit for outcome in client.run(operations)], list(range(1, 40)))
             self.assertEqual([outcome.commit for outcome in by_program.run(operations)], list(range(1, 40)))

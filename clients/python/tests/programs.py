@@ -24,7 +24,7 @@ PATIENCE = 300.0
 """Seconds after which what did not come counts as missing. It is more than any machine takes."""
 
 
-COMMANDS = Commands("udfburn", ["udfburn.cli"])
+COMMANDS = Commands("udfburn", ["udfburn.commands.cli"])
 
 
 def run_client(words: List[str], environment: "dict[str, str]", errors: str = "strict") -> "subprocess.CompletedProcess[str]":

@@ -8,7 +8,7 @@ import socket
 import threading
 from typing import Callable, List, Optional, Tuple
 
-from udfburn.connection import PIECE, Connection
+from udfburn.wire.connection import PIECE, Connection
 from udfburn.protocol import Answer, Frames, Request, decode_message, encode_answer, frame
 
 from .model import Volume

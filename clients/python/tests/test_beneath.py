@@ -11,8 +11,8 @@ import unittest
 from contextlib import suppress
 from typing import Callable, List
 
-from udfburn import errors as e, own_files
-from udfburn.beneath import Names, NotFollowed, Place, Root, folder_mode, mode_for, open_from_top, open_given, open_own, place_of
+from udfburn.base import errors as e, own_files
+from udfburn.base.beneath import Names, NotFollowed, Place, Root, folder_mode, mode_for, open_from_top, open_given, open_own, place_of
 
 from .swaps import Swap, Turned, picture
 

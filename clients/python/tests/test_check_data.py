@@ -17,8 +17,9 @@ from contextlib import closing
 from typing import Any, Dict, List
 from unittest import mock
 
-from udfburn import Client, errors as e
-from udfburn.ledger_reading import ledger_to_read
+from udfburn import Client
+from udfburn.base import errors as e
+from udfburn.ledger.reading import ledger_to_read
 
 from .programs import UDFBURN, WithPrograms, run_client
 
@@ -134,7 +135,7 @@ class Checked(WithPrograms):
     def test_a_copy_of_a_ledger_without_room(self) -> None:
         refused = OSError(errno.EROFS, "Read-only file system")
         full = OSError(errno.ENOSPC, "No space left on device")
-        with mock.patch("udfburn.ledger_reading.Ledger", side_effect=refused), mock.patch("udfburn.ledger_reading.shutil.copyfile", side_effect=full):
+        with mock.patch("udfburn.ledger.reading.Ledger", side_effect=refused), mock.patch("udfburn.ledger.reading.shutil.copyfile", side_effect=full):
             with self.assertRaisesRegex(e.LedgerError, "cannot be copied .*No space left"), ledger_to_read(self.ledger, 0.0):
                 self.fail("it was read")
 
@@ -258,7 +259,7 @@ class Checked(WithPrograms):
         self.assertRegex(done.stdout, "its newest state, after commit [0-9]+, is as it must be; the earlier states were not checked$")
 
     def test_a_ledger_that_is_in_use(self) -> None:
-        from udfburn.ledger import Ledger
+        from udfburn.ledger.ledger import Ledger
 
         with closing(Ledger(self.ledger)):
             told = self.run_command("check", "--data", self.image, where=[])

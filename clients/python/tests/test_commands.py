@@ -10,16 +10,19 @@ from io import StringIO
 from typing import List
 from unittest import mock
 
-from udfburn import Client, cli, errors as e
+from udfburn import Client
+from udfburn.base import errors as e
+from udfburn.commands import cli
+from udfburn.commands.arguments import patience_of
 from udfburn import protocol as p
 from udfburn.archive.tell import Tell
-from udfburn.progress import Progress
+from udfburn.base.progress import Progress
 from udfburn.protocol import escaped
-from udfburn.tree import Importer, Options
+from udfburn.trees.tree import Importer, Options
 
 from .programs import PATIENCE
 from .server import request_of
-from .test_local import Local
+from .with_files import Local
 
 
 class Commands(Local):
@@ -30,6 +33,11 @@ class Commands(Local):
             found = cli.main([words[0], "--socket", self.server.path, "--wait", str(PATIENCE), *ledger, *words[1:]])
         self.assertEqual(found, status, output.getvalue())
         return output.getvalue().splitlines()
+
+    def gives_up(self, *words: str) -> List[str]:
+        """A command that soon gives up, however long each answer takes."""
+        with mock.patch("udfburn.commands.common.patience_of", lambda _: {"patience": 0.1, "timeout": PATIENCE}):
+            return self.words(*words, status=1)
 
     def test_one_byte(self) -> None:
         self.assertEqual(self.words("put", self.write("a", b"1"), "/a"), ["stored /a (1 byte)", "stored 1 file, 1 B"])
@@ -84,7 +92,7 @@ class Commands(Local):
         for total, columns, shown in ((2048, 200, r"50%  1 of 2 files  1.0 KiB of 2.0 KiB  .*/s  \d+:\d\d left$"), (0, 200, "got: 1 file, 1.0 KiB, .*/s$"), (2048, 10, r"\x1b\[K\[########$")):
             terminal = Terminal()
             size = os.terminal_size((columns, 24))
-            with mock.patch.dict("sys.modules", {"tqdm": None}), mock.patch("udfburn.progress.os.get_terminal_size", lambda _, size=size: size):
+            with mock.patch.dict("sys.modules", {"tqdm": None}), mock.patch("udfburn.base.progress.os.get_terminal_size", lambda _, size=size: size):
                 tell = Tell(False, False, StringIO(), terminal)
                 tell.begin(2, total)
                 tell.step("got", ("a",), 1024)
@@ -125,7 +133,7 @@ class Commands(Local):
         with self.client() as client:
             client.put("/a", b"hello")
         synced: List[str] = []
-        with mock.patch("udfburn.disk.os.fsync", lambda descriptor: synced.append(os.readlink(f"/proc/self/fd/{descriptor}"))):
+        with mock.patch("udfburn.base.disk.os.fsync", lambda descriptor: synced.append(os.readlink(f"/proc/self/fd/{descriptor}"))):
             self.assertEqual(self.words("get", "/a", os.path.join(self.room, "a")), ["got /a (5 bytes)"])
         self.assertEqual(synced[1:], [os.path.realpath(self.room)])
 
@@ -187,7 +195,7 @@ class Commands(Local):
                 raise PermissionError(13, "Permission denied")
             return real(path, *rest, **how)
 
-        with mock.patch("udfburn.beneath.os.open", opened), mock.patch("udfburn.tree.CHUNK", 1):
+        with mock.patch("udfburn.base.beneath.os.open", opened), mock.patch("udfburn.trees.tree.CHUNK", 1):
             told = self.words("put", "-r", "--delete-source", self.folder, "/x", status=1)
         self.assertEqual(told[:2], ["made /x", f"udfburn-client: {self.folder}/a\\nb: Permission denied"])
         self.assertRegex(told[2], "no room for /x/c")
@@ -211,7 +219,7 @@ class Commands(Local):
     def test_resume(self) -> None:
         self.server.before = lambda payload: p.FAULT if request_of(payload) else None
         local = self.write("a")
-        self.words("put", local, "/a", "--wait", "0.1", status=1)
+        self.gives_up("put", local, "/a")
         self.server.before = lambda payload: None
         self.assertEqual(self.words("resume", "--dry-run"), ["would send number 1 again: /a"])
         self.assertEqual(self.words("resume"), ["number 1, /a: done, commit 1", "1 request was pending"])
@@ -220,7 +228,7 @@ class Commands(Local):
         """Also where a command looks at the volume before it asks for anything: else it looks at what is no longer so."""
         for command, words in (("put", ["rm", "/a"]), ("rm", ["mkdir", "-p", "/a"])):
             self.server.before = lambda payload: p.FAULT if request_of(payload) else None
-            self.words(command, *([self.write("a")] if command == "put" else []), "/a", "--wait", "0.1", status=1)
+            self.gives_up(command, *([self.write("a")] if command == "put" else []), "/a")
             self.server.before = lambda payload: None
             self.assertEqual(self.words(*words), ["removed /a" if command == "put" else "made /a"])
             if command == "put":
@@ -228,7 +236,7 @@ class Commands(Local):
 
     def test_forget(self) -> None:
         self.server.before = lambda payload: p.FAULT if request_of(payload) else None
-        self.words("put", self.write("a"), "/a", "--wait", "0.1", status=1)
+        self.gives_up("put", self.write("a"), "/a")
         self.server.before = lambda payload: None
         goes_on = "udfburn-client: goes on at number 1, with a volume that the ledger knows"
         self.assertEqual(self.words("resume", "--forget"), ["dropped /a", goes_on])
@@ -267,7 +275,9 @@ class Commands(Local):
             self.assertEqual(raised.exception.code, 2, client)
             self.assertIn(f"{client!r} is not a client number", told.getvalue())
         self.assertEqual(self.server.conversations, 0)
-        for wait in ("0", "-0", "0.5", "1e3", "1e300"):
+        for wait, seconds in (("0", 1.0), ("-0", 1.0), ("0.5", 1.0), ("1e3", 1e3), ("1e300", 1e6)):
+            self.assertEqual(patience_of(cli.parser().parse_args(["ls", f"--wait={wait}"])), {"patience": float(wait), "timeout": seconds})
+        for wait in ("1e3", "1e300"):
             self.words("ls", f"--wait={wait}")
 
     def test_help(self) -> None:
@@ -288,7 +298,7 @@ class Commands(Local):
     def test_a_map_replaces_pictures_alone(self) -> None:
         """So not an image, where a pattern of the shell named two of them."""
         image, picture = self.write("other.img", bytes(4096)), os.path.join(self.folder, "map.svg")
-        with mock.patch("udfburn.map.draw_map", lambda *_: "<svg/>\n"), redirect_stdout(StringIO()), redirect_stderr(StringIO()) as told:
+        with mock.patch("udfburn.image.map.draw_map", lambda *_: "<svg/>\n"), redirect_stdout(StringIO()), redirect_stderr(StringIO()) as told:
             for output, status in ((image, 1), (picture, 0), (picture, 0)):
                 self.assertEqual(cli.main(["map", image, output, "--program", "udfburn"]), status)
         self.assertIn("other.img: already exists, and is not a picture", told.getvalue())
@@ -305,7 +315,7 @@ class Commands(Local):
             if count[0] == 10:
                 raise KeyboardInterrupt
 
-        with mock.patch("udfburn.progress.Progress.told", interrupt):
+        with mock.patch("udfburn.base.progress.Progress.told", interrupt):
             self.assertIn("finishes", self.words("put", "-r", self.folder, "/x", status=130)[-1])
         self.words("put", "-r", "--skip-same", self.folder, "/x")
         self.assertEqual(self.volume.commits, 31)

@@ -12,14 +12,18 @@ from contextlib import redirect_stdout
 from typing import Dict, List, Optional, Type
 from unittest import mock
 
-from udfburn import Client, cli, errors as e
+from udfburn import Client
+from udfburn.base import errors as e
+from udfburn.commands import cli
 from udfburn import protocol as p
-from udfburn.digests import Files, Known
-from udfburn.operations import Operation, Whole
-from udfburn.split import stored_paths
+from udfburn.ledger.digests import Files, Known
+from udfburn.wire.operations import Operation, Whole
+from udfburn.base.split import stored_paths
+from udfburn.protocol.units import Commit, Moment, Size
 
 from .server import honestly, request_of
-from .test_session import WithServer
+from .with_files import store_in_parts
+from .with_server import WithServer
 
 FULL = p.limits.FILE
 
@@ -29,6 +33,10 @@ def sha256(data: bytes) -> bytes:
 
 
 class Digests(WithServer):
+    def setUp(self) -> None:
+        super().setUp()
+        store_in_parts(self)
+
     def files(self) -> Files:
         with self.client() as client:
             return client.known_files()
@@ -38,12 +46,26 @@ class Digests(WithServer):
 
     def test_what_is_kept_of_a_file(self) -> None:
         with self.client() as client:
-            client.mkdir("/d", 1)
-            client.create("/d/a", b"one", 2)
-            self.assertEqual(client.known_files().now, {("d", "a"): Known(("d", "a"), 3, 2, sha256(b"one"), 2, 2)})
+            client.mkdir("/d", Moment(1))
+            client.create("/d/a", b"one", Moment(2))
+            self.assertEqual(client.known_files().now, {("d", "a"): Known(("d", "a"), Size(3), Moment(2), sha256(b"one"), Commit(2), 2)})
             self.assertEqual(client.digest_of("/d/a"), sha256(b"one"))
             self.assertIsNone(client.digest_of("/d"))
             self.assertIsNone(client.digest_of("/no"))
+
+    def test_appended_to(self) -> None:
+        """The digest of such a file is that of all its bytes, and is known once the last piece is there."""
+        piece = bytes(range(256)) * (FULL // 256)
+        whole = Whole(("a",), Size(2 * FULL + 3), sha256(piece + piece + b"end"))
+        steps = (
+            (Operation(p.Create, ("a",), Moment(5), piece), sha256(piece)), (Operation(p.Append, ("a",), Moment(5), piece, offset=FULL), None),
+            (Operation(p.Append, ("a",), Moment(6), b"end", offset=2 * FULL, whole=whole), whole.sha256),
+        )
+        with self.client() as client:
+            for operation, digest in steps:
+                self.assertEqual([outcome.code for outcome in client.run([operation])], [p.Code.DONE])
+                self.assertEqual(client.digest_of("/a"), digest)
+            self.assertEqual(client.known_files().by_commit[Commit(3)], Known(("a",), whole.size, Moment(6), whole.sha256, Commit(3), 3))
 
     def test_replaced_moved_and_removed(self) -> None:
         with self.client() as client:
@@ -71,9 +93,9 @@ class Digests(WithServer):
     def test_what_another_client_changed(self) -> None:
         """The ledger does not know of it; the volume's size and moment show it."""
         with Client(f"unix:{self.server.path}", ledger=self.ledger, shared=True) as client:
-            client.create("/a", b"one", 5)
+            client.create("/a", b"one", Moment(5))
             with self.client(os.path.join(self.room, "other.sqlite")) as other:
-                other.replace("/a", b"two", 6)
+                other.replace("/a", b"two", Moment(6))
             self.assertIsNone(client.digest_of("/a"))
             self.assertEqual(client.known_files().now[("a",)].sha256, sha256(b"one"))
 
@@ -123,9 +145,9 @@ class Digests(WithServer):
         paths = stored_paths(path, len(data), True)
         operations = []
         for index, part in enumerate(paths):
-            whole = Whole(path, len(data), sha256(data)) if index == len(paths) - 1 else None
+            whole = Whole(path, Size(len(data)), sha256(data)) if index == len(paths) - 1 else None
             kind: Type[p.AnyRequest] = p.Replace if client.find(part) else p.Create
-            operations.append(Operation(kind, part, 7, data[index * FULL : (index + 1) * FULL], whole=whole))
+            operations.append(Operation(kind, part, Moment(7), data[index * FULL : (index + 1) * FULL], whole=whole))
         self.assertEqual({outcome.code for outcome in client.run(operations)}, {p.Code.DONE})
 
     def put(self) -> "list[dict[str, object]]":
@@ -166,7 +188,7 @@ class Digests(WithServer):
             reads.append(data)
             return data
 
-        with mock.patch("udfburn.sources.os.read", read):
+        with mock.patch("udfburn.local.sources.os.read", read):
             self.put()
         self.assertEqual(reads.count(b"once"), 1)
         self.assertEqual(self.shown(), {"/x/a": sha256(b"once")})
@@ -178,7 +200,7 @@ class Digests(WithServer):
         def before(payload: bytes) -> None:
             request = request_of(payload)
             if isinstance(request, p.Create) and request.client != 5:
-                self.volume.answer(p.Create(5, 1, 0, request.path, b"theirs"))
+                self.volume.answer(p.Create(5, 1, Moment(0), request.path, b"theirs"))
 
         self.server.before = before
         self.assertEqual([step["sha256"] for step in self.put() if step["did"] == "stored"], [sha256(b"mine").hex()])

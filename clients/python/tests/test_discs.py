@@ -8,11 +8,14 @@ import struct
 import subprocess
 import time
 import unittest
-from typing import List
+from contextlib import suppress
+from typing import Iterator, List
 from unittest import mock
 
-from udfburn import burning, cli, finish
-from udfburn.errors import Full
+from udfburn.commands import cli
+from udfburn.discs import burning, finish
+from udfburn.base.errors import Full
+from udfburn.protocol.units import Address
 from udfburn.reader import Medium, Volume
 
 from .programs import PATIENCE, UDFBURN, WithPrograms
@@ -33,6 +36,13 @@ def entry_at(block: bytes, address: int) -> bytes:
     tag[4] = 0
     tag[4] = sum(tag) % 256
     return bytes(tag) + block[16:]
+
+
+def command_lines() -> Iterator[bytes]:
+    """The words of each process that there is."""
+    for name in filter(str.isdigit, os.listdir("/proc")):
+        with suppress(OSError), open(f"/proc/{name}/cmdline", "rb") as file:
+            yield file.read()
 
 
 class Discs(WithPrograms):
@@ -130,7 +140,7 @@ class Finish(Discs):
             told = self.command("finish", self.image, self.out(kind), "--medium", kind, status=1)
             self.assertIn(f"too full for a {kind}: with the copies of its VAT ICB it would have {total} blocks, and the volume has 515", told)
             self.assertFalse(os.path.exists(self.out(kind)))
-        self.assertEqual([finish.total_of(509, 508, 16), finish.total_of(510, 509, 1), finish.total_of(510, 509, 32)], [512, 513, 544])
+        self.assertEqual([finish.total_of(509, Address(508), 16), finish.total_of(510, Address(509), 1), finish.total_of(510, Address(509), 32)], [512, 513, 544])
 
 
 class Burn(Discs):
@@ -171,11 +181,11 @@ class Burn(Discs):
 
     def test_a_disc_that_is_too_small(self) -> None:
         self.fill()
-        with mock.patch("udfburn.burning.look_at", lambda device: burning.Disc("DVD+R", "dvd", True, 271)), self.assertLogs_nothing_is_burned():
+        with mock.patch("udfburn.discs.burning.look_at", lambda device: burning.Disc("DVD+R", "dvd", True, 271)), self.assertLogs_nothing_is_burned():
             self.assertEqual(cli.main(["burn", self.image, "--program", UDFBURN, "--device", self.device]), 1)
 
     def assertLogs_nothing_is_burned(self) -> "mock._patch[mock.MagicMock]":  # noqa: N802
-        return mock.patch("udfburn.burning.burn", side_effect=AssertionError("a disc that is too small was burned"))
+        return mock.patch("udfburn.discs.burning.burn", side_effect=AssertionError("a disc that is too small was burned"))
 
     def test_what_is_read_back_differs(self) -> None:
         """Each byte counts: of the image, and of the copies after it."""
@@ -191,7 +201,7 @@ class Burn(Discs):
                     file.seek(at)
                     file.write(bytes([byte[0] ^ 1]))
 
-            with mock.patch("udfburn.burning.take_in_again", damage):
+            with mock.patch("udfburn.discs.burning.take_in_again", damage):
                 self.assertEqual(cli.main(["burn", self.image, "--program", UDFBURN, "--device", self.device]), 1)
 
     def test_a_kill(self) -> None:
@@ -227,10 +237,11 @@ class Burn(Discs):
         self.assertEqual(whole + cut, 2)
 
     def await_end_of_writing(self) -> None:
-        """xorriso goes on for a moment, and fills the track up with zeros."""
-        before = -1
-        while before != (before := os.path.getsize(self.disc) if os.path.exists(self.disc) else 0):
-            time.sleep(0.3)
+        """xorriso goes on for a moment, and fills the track up with zeros: until no process names the disc."""
+        limit = time.monotonic() + PATIENCE
+        while any(os.fsencode(self.disc) in words for words in command_lines()):
+            self.assertLess(time.monotonic(), limit, "xorriso does not end")
+            time.sleep(0.01)
 
 
 if __name__ == "__main__":

@@ -9,11 +9,12 @@ import subprocess
 import unittest
 from typing import Dict, List
 
-from udfburn import escape, fetch
+from udfburn.base import escape
+from udfburn.trees import fetch
 from udfburn import protocol as p
 
 from .programs import WithPrograms
-from .test_local import Local
+from .with_files import Local
 
 NAMES = {
     "\U0001F600.jpg": "␛F0␛9F␛98␛80.jpg",

@@ -10,14 +10,15 @@ import tempfile
 import unittest
 from typing import Dict, List, Tuple
 
-from udfburn.check_data import check_data
-from udfburn.coverage import Coverage
+from udfburn.image.check_data import check_data
+from udfburn.image.coverage import Coverage
+from udfburn.protocol.units import BlockNumber, Commit, Moment, Size
 from udfburn.reader import Cause, Kind, Medium, Volume
 from udfburn.reader.basics import BLOCK, FILE_BYTES, GREATEST_FILE, PARTITION
 from udfburn.reader.budget import Budget
 from udfburn.reader.entry import END, EXTENT, Entry, read_entry, write_entry
 from udfburn.reader.mend import Hint, mend_entry
-from udfburn.salvage import DAMAGED, EARLIER, UNPROVED, WHOLE, Salvage
+from udfburn.salvage.salvage import DAMAGED, EARLIER, UNPROVED, WHOLE, Salvage
 
 from .appended import Appender
 from .forged import Forge
@@ -28,7 +29,7 @@ SIZES = {"two": FILE_BYTES + 1, "whole": 2 * FILE_BYTES, "three": 2 * FILE_BYTES
 def entry_of(size: int, step: int = 520) -> Entry:
     """A file's entry whose extents lie apart."""
     count = -(-size // FILE_BYTES)
-    return Entry(Kind.FILE, 1_000_000, 1, 20, size, 7, None, 30, 0, True, tuple(7 + step * index for index in range(1, count)))
+    return Entry(Kind.FILE, Moment(1_000_000), 1, 20, Size(size), BlockNumber(7), None, 30, 0, True, tuple(BlockNumber(7 + step * index) for index in range(1, count)))
 
 
 class Entries(unittest.TestCase):
@@ -83,7 +84,7 @@ class Entries(unittest.TestCase):
             for at in (8, 27, 40, 56, 58, 64, 72, 172, 173, END):
                 block = bytearray(write_entry(wanted))
                 block[at] ^= 0x41
-                found = mend_entry(bytes(block), Hint(9000, 30), Budget(0))
+                found = mend_entry(bytes(block), Hint(BlockNumber(9000), 30), Budget(0))
                 assert found is not None, at
                 self.assertEqual((found._replace(check=0), found.proved), (wanted, True), at)
 
@@ -109,7 +110,7 @@ class OnAVolume(unittest.TestCase):
         appender.write()
         self.appender = appender
 
-    def salvaged(self, commit: "int | None" = None) -> Dict[str, Tuple[str, bytes, "Tuple[Tuple[int, int], ...]"]]:
+    def salvaged(self, commit: "Commit | None" = None) -> Dict[str, Tuple[str, bytes, "Tuple[Tuple[int, int], ...]"]]:
         with Medium(self.image) as medium:
             found = Salvage(medium, commit)
             judged = [found.judged(item) for item in found.tree.items if item.kind is Kind.FILE]
@@ -133,9 +134,9 @@ class OnAVolume(unittest.TestCase):
 
     def test_every_commit(self) -> None:
         """Each commit has the pieces that were appended until then."""
-        given = self.salvaged(4)
+        given = self.salvaged(Commit(4))
         self.assertEqual({name: found[1] for name, found in given.items()}, {"two": self.data["two"], "whole": self.data["whole"]})
-        self.assertEqual(self.salvaged(3)["whole"][1], self.data["whole"][:FILE_BYTES])
+        self.assertEqual(self.salvaged(Commit(3))["whole"][1], self.data["whole"][:FILE_BYTES])
 
     def test_digests(self) -> None:
         """Each byte is compared, in the last extent too."""
@@ -193,7 +194,7 @@ class OnAVolume(unittest.TestCase):
             self.assertIn(Cause.RANGE, [note.cause for note in volume.notes.all()])
 
     def test_unproved(self) -> None:
-        self.assertEqual(self.salvaged(5)["three"][0], UNPROVED)
+        self.assertEqual(self.salvaged(Commit(5))["three"][0], UNPROVED)
 
 
 if __name__ == "__main__":

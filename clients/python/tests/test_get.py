@@ -10,12 +10,14 @@ import unittest
 from typing import Callable, Dict, List, Set
 from unittest import mock
 
-from udfburn import beneath, disk, errors as e, fetch, saving
+from udfburn.base import beneath, disk, errors as e
+from udfburn.local import saving
+from udfburn.trees import fetch
 
 from .programs import PATIENCE, WithPrograms
-from .test_local import Local
+from .with_files import Local
 
-NAMED = "import sys; from udfburn import cli, saving; saving.UNNAMED = 0; saving.FILES = 4; sys.exit(cli.main(sys.argv[1:]))"
+NAMED = "import sys; from udfburn.commands import cli; from udfburn.local import saving; saving.UNNAMED = 0; saving.FILES = 4; sys.exit(cli.main(sys.argv[1:]))"
 """The client where the file system has no files without a name."""
 
 UNNAMED = NAMED.replace("saving.UNNAMED = 0; ", "")
@@ -120,7 +122,7 @@ class Killed(WithPrograms):
                 calls.append(descriptor)
                 return True
 
-            with mock.patch("udfburn.disk.os.fsync", calls.append), mock.patch.object(saving, "sync_all", synced):
+            with mock.patch("udfburn.base.disk.os.fsync", calls.append), mock.patch.object(saving, "sync_all", synced):
                 fetch.get_tree(self.on_image(), ("x",), self.back)
             count = len(calls)
         else:
@@ -210,7 +212,7 @@ class Goes(Local):
                 raise PermissionError(13, "Permission denied")
             return real(path, *rest, **how)
 
-        with mock.patch("udfburn.beneath.os.open", opened):
+        with mock.patch("udfburn.base.beneath.os.open", opened):
             summary = self.fetched()
         self.assertEqual((summary.files, summary.same, len(summary.failures)), (1, 1, 1))
         self.assertEqual(sorted(self.there()), ["a", "b", "d/c"])
@@ -225,7 +227,7 @@ class Goes(Local):
             real(descriptor)
 
         with mock.patch.object(disk, "_call", False), mock.patch.object(disk, "find_call", lambda: None), \
-                mock.patch("udfburn.saving.os.fsync", fsync):
+                mock.patch("udfburn.local.saving.os.fsync", fsync):
             self.fetched()
         self.assertGreaterEqual(len(synced), 3)
 
@@ -264,7 +266,7 @@ class Goes(Local):
     def synced(self, fetched: Callable[[], fetch.Fetched]) -> Set[str]:
         """The folders whose names are made durable where no file is copied."""
         folders: List[str] = []
-        with mock.patch.object(beneath, "sync_folder", lambda descriptor: folders.append(os.readlink(f"/proc/self/fd/{descriptor}"))):
+        with mock.patch.object(beneath, "sync_names", lambda descriptor: folders.append(os.readlink(f"/proc/self/fd/{descriptor}"))):
             self.assertEqual(fetched().files, 0)
         return set(folders)
 
@@ -277,7 +279,7 @@ class SyncCall(unittest.TestCase):
     def test_of_this_system(self) -> None:
         """Linux reports failed writes by syncfs from 5.8 on."""
         for release, there in (("5.7.19", False), ("5.8.0-1-amd64", True), ("4.19.0", False), ("6.18.44-fc", True), ("10.0", True)):
-            with mock.patch("udfburn.disk.os.uname", lambda release=release: mock.Mock(sysname="Linux", release=release)):
+            with mock.patch("udfburn.base.disk.os.uname", lambda release=release: mock.Mock(sysname="Linux", release=release)):
                 self.assertEqual(disk.find_call() is not None, there, release)
 
     def test_it_is_made(self) -> None:

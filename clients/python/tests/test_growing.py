@@ -5,18 +5,22 @@ from __future__ import annotations
 import hashlib
 import os
 import random
+import sqlite3
 import unittest
+from contextlib import closing
 from typing import Any, Callable, Dict, List, Optional, Tuple
 
-from udfburn import Client, errors as e
+from udfburn import Client
+from udfburn.base import errors as e
 from udfburn import protocol as p
-from udfburn.operations import Operation
-from udfburn.tree import Options, Summary, put_all
-from udfburn.unfinished import PREFIX, unfinished_path
+from udfburn.wire.operations import Operation
+from udfburn.trees.tree import Options, Summary, put_all
+from udfburn.base.unfinished import PREFIX, unfinished_path
+from udfburn.protocol.units import Moment
 
 from .model import File, Volume
 from .server import honestly, request_of
-from .test_local import Local
+from .with_files import Local
 
 MEBIBYTE = p.limits.FILE
 THREE = 3 * MEBIBYTE
@@ -26,6 +30,12 @@ PHOTO = 2 * MEBIBYTE + 700_000
 
 def content(seed: int, size: int = PHOTO) -> bytes:
     return random.Random(seed).randbytes(size)
+
+
+def version_of(ledger: str) -> int:
+    """The version of a ledger."""
+    with closing(sqlite3.connect(ledger)) as base:
+        return int(base.execute("SELECT version FROM ledger").fetchone()[0])
 
 
 class Growing(Local):
@@ -142,6 +152,17 @@ class Put(Growing):
         self.assertEqual(self.volume.commits, commits + 5)
         self.assertEqual(self.files(), {"/x/a": content(1)})
 
+    def test_the_version_of_the_ledger(self) -> None:
+        """A client that knows no appends opens it until there is one in it."""
+        self.write("small", b"1")
+        self.put()
+        self.assertEqual(version_of(self.ledger), 3)
+        self.write("photo", content(1))
+        self.put()
+        self.assertEqual(version_of(self.ledger), 4)
+        self.write("photo", content(2))
+        self.assertEqual((self.put().files, version_of(self.ledger)), (1, 4))
+
     def test_dry_run(self) -> None:
         self.write("a", content(1))
         told: List[Any] = []
@@ -213,10 +234,10 @@ class Interrupted(Growing):
         local = self.write("photo", content(seed))
         with self.client() as client:
             name = unfinished_path(client.session().ledger.client, ("x", "photo"))
-            client.mkdir("/x", 1)
+            client.mkdir("/x", Moment(1))
             for index in range(pieces):
                 piece = content(seed)[index * MEBIBYTE : (index + 1) * MEBIBYTE]
-                (outcome,) = client.run([Operation(p.Append if index else p.Create, name, 2, piece, offset=index * MEBIBYTE)])
+                (outcome,) = client.run([Operation(p.Append if index else p.Create, name, Moment(2), piece, offset=index * MEBIBYTE)])
                 self.assertEqual(outcome.code, p.Code.DONE)
         return local
 
@@ -351,7 +372,7 @@ class Interrupted(Growing):
         def before(payload: bytes) -> Optional[p.Answer]:
             request = request_of(payload)
             if isinstance(request, p.Rename) and ("x", "photo") not in self.volume.nodes:
-                self.volume.operate(p.MakeDir(1, 1, 5, ("x", "photo")))
+                self.volume.operate(p.MakeDir(1, 1, Moment(5), ("x", "photo")))
             return None
 
         self.server.before = before
@@ -366,9 +387,9 @@ class InMemory(Growing):
 
     def test_put(self) -> None:
         with self.client() as client:
-            self.assertEqual(client.put("/film", content(1), 7), 4)
+            self.assertEqual(client.put("/film", content(1), Moment(7)), 4)
             self.assertEqual((client.get("/film"), client.stat("/film").moment), (content(1), 7))
-            self.assertEqual(client.put("/film", content(2, THREE), 8), 9)
+            self.assertEqual(client.put("/film", content(2, THREE), Moment(8)), 9)
             self.assertEqual(client.digest_of("/film"), hashlib.sha256(content(2, THREE)).digest())
             client.put("/film", b"short")
             self.assertEqual(self.files(), {"/film": b"short"})
@@ -379,7 +400,7 @@ class InMemory(Growing):
             with self.client() as client:
                 name = unfinished_path(client.session().ledger.client, ("film",))
                 for index in range(pieces):
-                    list(client.run([Operation(p.Append if index else p.Create, name, 2, data[index * MEBIBYTE : (index + 1) * MEBIBYTE], offset=index * MEBIBYTE)]))
+                    list(client.run([Operation(p.Append if index else p.Create, name, Moment(2), data[index * MEBIBYTE : (index + 1) * MEBIBYTE], offset=index * MEBIBYTE)]))
                 commits = self.volume.commits
                 client.put("/film", data)
                 self.assertEqual(self.volume.commits, commits + 3 - pieces + 1 + (pieces > 1))

@@ -6,26 +6,34 @@ import os
 import random
 import signal
 import unittest
+from contextlib import closing
 from typing import Any, Dict, List, Tuple
 
 from udfburn import Client
 from udfburn import protocol as p
-from udfburn import tree
-from udfburn.check_data import check_data
-from udfburn.connection import Connection
-from udfburn.coverage import Coverage
-from udfburn.endpoint import image_key
-from udfburn.ledger import Ledger
-from udfburn.ledger_reading import ledger_to_read
+from udfburn.trees import tree
+from udfburn.image.check_data import check_data
+from udfburn.trees.compare import verify_tree
+from udfburn.wire.connection import Connection
+from udfburn.image.coverage import Coverage
+from udfburn.wire.endpoint import image_key
+from udfburn.trees.growing import piece_request
+from udfburn.mounting.image_view import ImageView
+from udfburn.ledger.ledger import Ledger
+from udfburn.ledger.reading import ledger_to_read
+from udfburn.base.progress import Progress
 from udfburn.reader import Kind, Medium
 from udfburn.reader import Volume as ReadVolume
-from udfburn.seal import seal
-from udfburn.tree import Options, put_all
-from udfburn.unfinished import is_unfinished
+from udfburn.trees.seal import seal
+from udfburn.mounting.shown_tree import Folder
+from udfburn.commands.status import of_image
+from udfburn.trees.tree import Options, put_all
+from udfburn.base.unfinished import is_unfinished, unfinished_path
+from udfburn.protocol.units import Moment
 
 from .model import Volume
 from .programs import PATIENCE, UDFBURN, WithPrograms
-from .test_session import WithServer
+from .with_server import WithServer
 
 PHOTOS = {name: random.Random(name).randbytes(2 * p.limits.FILE + 950_000) for name in ("a.jpg", "b.jpg")}
 REQUESTS = 1 + 2 * (3 + 1)
@@ -198,6 +206,28 @@ class Known(WithPrograms):
             self.assertIsNotNone(coverage.take_ledger(ledger, image_key(self.image)))
             result = check_data(coverage, (), lambda path, how, commit: told.append(path))
         return told, result.by_ledger
+
+
+class Left(WithPrograms):
+    """A file that an interrupted command left: it is said to be one, and nobody takes it for a file of the user's."""
+
+    def test_left(self) -> None:
+        data = PHOTOS["a.jpg"]
+        self.write("photos/b", b"small")
+        name = unfinished_path(5, ("x", "a.jpg"))
+        way = f"image:{self.image}"
+        with Client(way, ledger=self.ledger, program=UDFBURN or None, patience=PATIENCE) as client:
+            list(client.run([piece_request(name, 0, data[: p.limits.FILE], Moment(1)), piece_request(name, 1, data[p.limits.FILE : 2 * p.limits.FILE], Moment(1))]))
+            client.create("/b", b"small")
+            self.assertEqual(verify_tree(client, os.path.join(self.room, "photos"), ()).extra, [])
+        self.assertIn(p.show(name), self.run_command("status", self.image, where=[]))
+        self.assertEqual(of_image(self.image).unfinished, [p.show(name)])
+        with closing(ImageView(self.image, Progress(False, False))) as view:
+            latest = view.find(b"latest")
+            assert isinstance(latest, Folder)
+            self.assertEqual((list(latest.names()), latest.find(name[0].encode())), ([b"b"], None))
+        self.run_command("rm", p.show(name), where=["--image", self.image, "--ledger", self.ledger])
+        self.assertEqual(of_image(self.image).unfinished, [])
 
 
 def require_bytes(image: str, manifest: bool = False) -> None:

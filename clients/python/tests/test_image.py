@@ -14,10 +14,11 @@ from types import SimpleNamespace
 from typing import List
 from unittest import mock
 
-from udfburn import errors as e, past
-from udfburn.connection import Connection
-from udfburn.endpoint import Endpoint
-from udfburn.retrying import BEGINNINGS, TURN, RetryingConnection
+from udfburn.base import errors as e
+from udfburn.image import past
+from udfburn.wire.connection import Connection
+from udfburn.wire.endpoint import Endpoint
+from udfburn.wire.retrying import BEGINNINGS, TURN, Greeter, RetryingConnection
 
 from .programs import PACKAGE
 
@@ -55,14 +56,15 @@ class Image(unittest.TestCase):
         """A program that has read a full volume from a slow disk is not ended as soon as it has."""
         now = 0.0
 
-        def greet(connection: Connection) -> None:
-            nonlocal now
-            now += took
+        class Slow(Greeter):
+            def greet(self, connection: Connection) -> None:
+                nonlocal now
+                now += took
 
-        with mock.patch("udfburn.retrying.time", SimpleNamespace(monotonic=lambda: now, sleep=time.sleep)):
+        with mock.patch("udfburn.wire.retrying.time", SimpleNamespace(monotonic=lambda: now, sleep=time.sleep)):
             for took, turn in ((0.0, TURN), (TURN / 8, TURN), (3 * TURN, 3 * TURN * BEGINNINGS)):
                 line = self.line()
-                line.greet = greet
+                line.greeted_by(Slow())
                 line.get()
                 now += turn
                 self.assertFalse(line.over())
@@ -105,7 +107,7 @@ class Image(unittest.TestCase):
         """It stays until a later reader can remove it, and no reader fails for it."""
         left = self.left()
         for call in ("os.listdir", "rmtree"):
-            with self.subTest(call), mock.patch(f"udfburn.scratch.{call}", side_effect=OSError(errno.EIO, "Input/output error")) as failing:
+            with self.subTest(call), mock.patch(f"udfburn.base.scratch.{call}", side_effect=OSError(errno.EIO, "Input/output error")) as failing:
                 with past.front(self.image, "", None) as copy:
                     self.assertEqual(os.path.getsize(copy), 8192)
             failing.assert_called()
@@ -114,14 +116,14 @@ class Image(unittest.TestCase):
             self.assertNotIn(left, self.copies())
 
     def test_copies_where_there_are_no_locks(self) -> None:
-        with mock.patch("udfburn.scratch.fcntl.flock", side_effect=OSError(errno.ENOLCK, "No locks available")):
+        with mock.patch("udfburn.base.locks.fcntl.flock", side_effect=OSError(errno.ENOLCK, "No locks available")):
             with past.front(self.image, "", None) as first, past.front(self.image, "", None) as second:
                 self.assertEqual([os.path.getsize(copy) for copy in (first, second)], [8192, 8192])
         self.assertEqual(self.copies(), [])
 
     def left(self) -> str:
         """The folder with the copy that a reader left when it was killed."""
-        script = "import os, sys\nfrom udfburn import past\nwith past.front(sys.argv[1], '', None):\n    os.kill(os.getpid(), 9)\n"
+        script = "import os, sys\nfrom udfburn.image import past\nwith past.front(sys.argv[1], '', None):\n    os.kill(os.getpid(), 9)\n"
         subprocess.run([sys.executable, "-c", script, self.image], check=False, env={**os.environ, "PYTHONPATH": PACKAGE})
         (left,) = self.copies()
         return left

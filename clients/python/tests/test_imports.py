@@ -1,4 +1,5 @@
-"""The modules of the package import each other in one direction, also within functions. What is for types alone does not count."""
+"""The modules of the package import each other in one direction, also within functions: a room imports from rooms below it alone.
+What is for types alone does not count."""
 
 from __future__ import annotations
 
@@ -10,6 +11,12 @@ from typing import Dict, Iterator, List, Set
 import udfburn
 
 TOP = os.path.dirname(udfburn.__file__)
+
+PUBLIC = "the public names"
+ROOMS = [
+    "protocol", "base", "wire", "ledger", "local", "reader", "image", "discs", "session", "trees", "salvage", "mounting", PUBLIC, "commands", "archive", "__main__",
+]
+"""The rooms from the lowest to the highest."""
 
 
 def modules() -> Dict[str, str]:
@@ -60,14 +67,48 @@ def circle(of: Dict[str, Set[str]]) -> List[str]:
             return []
 
 
+def room_of(name: str) -> str:
+    """The room of a module by its name, as `udfburn.base.errors`."""
+    _, _, inner = name.partition(".")
+    return inner.split(".")[0] or PUBLIC
+
+
+def turns_back(of: Dict[str, Set[str]]) -> List[str]:
+    """The imports from a room that is further up."""
+    place = {room: at for at, room in enumerate(ROOMS)}
+    return sorted(f"{name} imports {other}" for name, names in of.items() for other in names if place[room_of(other)] > place[room_of(name)])
+
+
 class Imports(unittest.TestCase):
+    def setUp(self) -> None:
+        self.known = modules()
+        self.of = {name: imported(name, path, self.known) for name, path in self.known.items()}
+
     def test_no_circle(self) -> None:
-        known = modules()
-        self.assertGreater(len(known), 100)
-        self.assertEqual(circle({name: imported(name, path, known) for name, path in known.items()}), [])
+        self.assertGreater(len(self.known), 100)
+        self.assertEqual(circle(self.of), [])
 
     def test_a_circle_is_found(self) -> None:
         self.assertEqual(circle({"a": {"b"}, "b": {"c"}, "c": {"b"}, "d": set()}), ["a", "b", "c"])
+
+    def test_each_module_is_in_a_room(self) -> None:
+        self.assertEqual({room_of(name) for name in self.known}, set(ROOMS))
+
+    def test_no_room_imports_from_one_further_up(self) -> None:
+        self.assertEqual(turns_back(self.of), [])
+
+    def test_an_import_from_further_up_is_found(self) -> None:
+        of = {"udfburn.wire.connection": {"udfburn.base.errors", "udfburn.session.session"}, "udfburn.trees.tree": {"udfburn"}, "udfburn": {"udfburn.trees.client"}}
+        self.assertEqual(turns_back(of), ["udfburn.trees.tree imports udfburn", "udfburn.wire.connection imports udfburn.session.session"])
+
+    def test_a_room_says_what_is_in_it(self) -> None:
+        """The first page of a room has three things in few lines: what is here, who may use it, what it may use."""
+        rooms = {name: path for name, path in self.known.items() if room_of(name) in ROOMS[:-1] and name.count(".") == 1}
+        self.assertEqual(len(rooms), len(ROOMS) - 2)
+        for name, path in rooms.items():
+            with self.subTest(name), open(path, encoding="utf-8") as file:
+                said = ast.get_docstring(ast.parse(file.read())) or ""
+                self.assertRegex(said, r"(?s)\A[`A-Z].*Who may use it: .*\. What it may use: .*\.\Z")
 
 
 if __name__ == "__main__":

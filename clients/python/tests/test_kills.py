@@ -17,9 +17,10 @@ from typing import Any, Dict, Iterator, List, Optional, Set
 import udfburn
 from udfburn import Client
 from udfburn import protocol as p
-from udfburn.ledger_records import LARGE
-from udfburn.operations import Operation
-from udfburn.tree import Options, put_all
+from udfburn.ledger.records import LARGE
+from udfburn.protocol.units import Moment
+from udfburn.wire.operations import Operation
+from udfburn.trees.tree import Options, put_all
 
 from .programs import PATIENCE, UDFBURN, Daemon, WithPrograms
 
@@ -32,8 +33,8 @@ BATCH, BATCHES = 100, 40
 """Files that are imported at once, and how many times a volume has room for the names of so many."""
 CODE = os.path.dirname(udfburn.__file__)
 NAMES = (
-    "session.py", "recognition.py", "identity.py", "ledger.py", "ledger_file.py", "ledger_records.py", "ledger_schema.py", "tree.py", "connection.py", "line.py",
-    "seal.py", "sources.py", "ahead.py", "library.py",
+    "session/session.py", "session/conversation.py", "session/recovery.py", "session/in_flight.py", "session/foresight.py", "session/recognition.py", "image/identity.py", "ledger/ledger.py", "ledger/file.py", "ledger/records.py", "ledger/schema.py", "trees/tree.py", "wire/connection.py",
+    "trees/seal.py", "local/sources.py", "trees/ahead.py", "wire/library.py",
 )
 TRACED = {os.path.join(CODE, name) for name in NAMES}
 
@@ -67,14 +68,14 @@ class DaemonKilled(WithPrograms):
 
         def operations() -> Iterator[Operation]:
             for folder in range(9):
-                yield Operation(p.MakeDir, (f"d{folder}",), 0)
+                yield Operation(p.MakeDir, (f"d{folder}",), Moment(0))
             index = 0
             # Every file is new while there is room for names; then files are replaced.
             while not done.is_set():
                 # However fast all is, the volume has room.
                 if index < PER_KILL * (killed[0] + 1):
                     path = (f"d{index % 9}", f"f{index % FILES}")
-                    yield Operation(p.Create if index < FILES else p.Replace, path, index, content(index))
+                    yield Operation(p.Create if index < FILES else p.Replace, path, Moment(index), content(index))
                     index += 1
                 else:
                     done.wait(0.001)

@@ -1,4 +1,4 @@
-"""Ledgers: kept through crashes, and those that are shared, copied, old, or of another volume."""
+"""Ledgers: kept through crashes, and those that are shared, copied, or old."""
 
 from __future__ import annotations
 
@@ -16,28 +16,21 @@ from pathlib import Path
 from typing import Dict, List, Optional
 from unittest import mock
 
-from udfburn import Client, errors as e
+from udfburn import Client
+from udfburn.base import errors as e
 from udfburn import protocol as p
-from udfburn.ledger import LOG_BYTES, Ledger, Lock, MemoryLedger, Pending, Reply, Volume as Known
-from udfburn.ledger_records import facts_of
-from udfburn.operations import Operation
-from udfburn.tree import Options, put_all
+from udfburn.ledger.ledger import LOG_BYTES, Ledger, Lock, MemoryLedger, Pending, Reply, Volume as Known
+from udfburn.protocol.units import Commit, Moment
+from udfburn.wire.operations import Operation
+from udfburn.trees.tree import Options, put_all
 
-from .model import File, Volume
 from .programs import PATIENCE
-from .server import Server, request_of
+from .server import request_of
 from .test_kills import killer
-from .test_session import PACKAGE, WithServer, creates
-
-
-def client_of(path: str) -> int:
-    """The client that a ledger is of."""
-    with closing(sqlite3.connect(path)) as base:
-        return int(base.execute("SELECT client FROM ledger").fetchone()[0])
+from .with_server import PACKAGE, WithServer
 
 
 class Ledgers(WithServer):
-
     def test_one_process_has_it(self) -> None:
         first = Ledger(self.ledger)
         with self.assertRaises(e.LedgerBusy):
@@ -46,7 +39,7 @@ class Ledgers(WithServer):
         os.symlink(self.ledger, link)
         with self.assertRaises(e.LedgerBusy):
             Ledger(link, wait=0.0)
-        script = f"import sys; sys.path.insert(0, {PACKAGE!r})\nfrom udfburn.ledger import Ledger\nLedger({self.ledger!r}, wait=0.1)"
+        script = f"import sys; sys.path.insert(0, {PACKAGE!r})\nfrom udfburn.ledger.ledger import Ledger\nLedger({self.ledger!r}, wait=0.1)"
         other = subprocess.run([sys.executable, "-c", script], capture_output=True, text=True, check=False)
         self.assertIn("LedgerBusy", other.stderr)
         timer = threading.Timer(0.3, first.close)
@@ -75,6 +68,20 @@ class Ledgers(WithServer):
         self.assertEqual(kept.files(), set())
         with self.client() as client:
             self.assertEqual(client.create("/after", b"1"), 9)
+
+    def test_an_append_in_memory(self) -> None:
+        """Where the ledger takes one over, a program that knows no appends does not open it any more."""
+        with self.client() as client:
+            client.create("/f", b"")
+            number = client.session().ledger.client
+        kept = MemoryLedger(number)
+        with Client(f"unix:{self.server.path}", ledger=kept, timeout=PATIENCE) as other:
+            other.do(p.Append, "/f", data=b"1")
+            with closing(Ledger(self.ledger)) as ledger:
+                (volume,) = ledger.volumes()
+                ledger.take(volume, kept)
+        with closing(sqlite3.connect(self.ledger)) as base:
+            self.assertEqual(base.execute("SELECT version FROM ledger").fetchall(), [(4,)])
 
     def test_the_client_stays(self) -> None:
         first = Ledger(self.ledger)
@@ -112,7 +119,7 @@ class Ledgers(WithServer):
         base("names.sqlite", "CREATE TABLE ledger (what, ever)")
         base("none.sqlite", "CREATE TABLE ledger (version, client)")
         base("words.sqlite", "CREATE TABLE ledger (version, client)", "INSERT INTO ledger VALUES (1, 'me')")
-        base("newer.sqlite", "CREATE TABLE ledger (version, client)", "INSERT INTO ledger VALUES (4, '5')")
+        base("newer.sqlite", "CREATE TABLE ledger (version, client)", "INSERT INTO ledger VALUES (5, '5')")
         os.mkdir(os.path.join(room, "folder"))
         os.mkfifo(os.path.join(room, "pipe"))
 
@@ -122,7 +129,7 @@ class Ledgers(WithServer):
         before = found()
         self.assertEqual(len(before), 11)
         for name in before:
-            with self.assertRaisesRegex(e.LedgerError, "version 3" if name == "newer.sqlite" else "is not a ledger .*--ledger", msg=name):
+            with self.assertRaisesRegex(e.LedgerError, "up to 4: use a newer program" if name == "newer.sqlite" else "is not a ledger .*--ledger", msg=name):
                 Ledger(os.path.join(room, name))
             self.assertEqual(found(), before, name)
         with self.assertRaises(e.LedgerError):
@@ -230,7 +237,7 @@ class Ledgers(WithServer):
             real(descriptor)
 
         top = os.path.realpath(self.room)
-        with mock.patch("udfburn.ledger.os.fsync", fsync):
+        with mock.patch("udfburn.ledger.ledger.os.fsync", fsync):
             Ledger(os.path.join(top, "a", "b", "ledger.sqlite")).close()
         last = os.path.join(top, "a", "b")
         self.assertEqual(synced, [top, os.path.join(top, "a"), os.path.join(last, "ledger.sqlite.new"), last])
@@ -278,7 +285,7 @@ class Ledgers(WithServer):
 
     def test_a_disk_without_room(self) -> None:
         """The ledger says so, what it has is whole, and all goes on once there is room."""
-        operations = [Operation(p.Create, (f"f{index}",), index, random.Random(index).randbytes(5000)) for index in range(90)]
+        operations = [Operation(p.Create, (f"f{index}",), Moment(index), random.Random(index).randbytes(5000)) for index in range(90)]
         soft, hard = resource.getrlimit(resource.RLIMIT_FSIZE)
         done = 0
         for room in (0, 5000, 50_000, 200_000):
@@ -302,12 +309,12 @@ class Ledgers(WithServer):
         lengths, last, data = [], ledger.latest(volume), bytes(4200)
         for number in range(last + 1, last + count, 2):
             fresh = [Pending(number + step, data, f"/{number + step}") for step in range(2)]
-            replies = [Reply(number + step - 2, 0, number + step - 2, True) for step in range(2)] if number > last + 1 else []
+            replies = [Reply(number + step - 2, 0, Commit(number + step - 2), True) for step in range(2)] if number > last + 1 else []
             if replies:
                 ledger.foresee(volume, replies, fresh)
             ledger.record(volume, replies, fresh)
             lengths.append(os.path.getsize(self.ledger + "-wal"))
-        ledger.record(volume, [Reply(number + step, 0, number + step, True) for step in range(2)], [])
+        ledger.record(volume, [Reply(number + step, 0, Commit(number + step), True) for step in range(2)], [])
         return lengths
 
     def test_the_log_grows_once(self) -> None:
@@ -315,7 +322,7 @@ class Ledgers(WithServer):
         with closing(Ledger(self.ledger)) as ledger:
             volume = ledger.learn("way", 0)
             ledger.record(volume, [], [Pending(1, b"one", "/one")])
-            ledger.record(volume, [Reply(1, 0, 1, True)], [])
+            ledger.record(volume, [Reply(1, 0, Commit(1), True)], [])
             self.assertLess(os.path.getsize(self.ledger + "-wal"), 100_000, "who stores one file writes no long log")
             lengths = self.filled(ledger, volume, 400)
             self.assertEqual(set(lengths[1:]), {LOG_BYTES})
@@ -333,7 +340,7 @@ class Ledgers(WithServer):
                 ledger.withdraw(volume)
 
     def test_no_room_for_a_long_log(self) -> None:
-        with closing(Ledger(self.ledger)) as ledger, mock.patch("udfburn.ledger.os.pwrite", side_effect=OSError(28, "No space left on device")):
+        with closing(Ledger(self.ledger)) as ledger, mock.patch("udfburn.ledger.ledger.os.pwrite", side_effect=OSError(28, "No space left on device")):
             volume = ledger.learn("way", 0)
             lengths = self.filled(ledger, volume, 60)
             self.assertLess(lengths[1], lengths[-1])
@@ -348,7 +355,7 @@ class Ledgers(WithServer):
         def before(payload: bytes) -> Optional[p.Answer]:
             if request_of(payload) and not lied:
                 lied.append(True)
-                return p.Committed(p.Code.DONE, 1)
+                return p.Committed(p.Code.DONE, Commit(1))
             return None
 
         self.server.before = before
@@ -356,166 +363,6 @@ class Ledgers(WithServer):
         with self.assertRaises(e.ForeignReply):
             put_all(client, [(source, ("source",))], Options(delete_source=True))
         self.assertTrue(os.path.exists(source))
-
-    def test_commits_rise(self) -> None:
-        client = self.client()
-        client.create("/a", b"")
-        self.server.before = lambda payload: (self.volume.answer_payload(payload), p.Committed(p.Code.DONE, 1))[1] if request_of(payload) else None
-        with self.assertRaises(e.ForeignReply):
-            client.create("/b", b"")
-
-    def test_another_volume(self) -> None:
-        """One without a request of this client is in its place, and one with more than the ledger sent."""
-        client = self.client()
-        client.create("/a", b"")
-        client.create("/b", b"")
-        first = self.server.volume
-        self.server.volume = Volume()
-        with self.assertRaisesRegex(e.EmptyVolume, "up to 2 .*Found: none"):
-            client.create("/a", b"")
-        self.server.volume.nodes[("x",)] = File(b"", 0)
-        self.server.volume.nodes[()].names.append("x")  # type: ignore[attr-defined]
-        with self.assertRaisesRegex(e.OtherVolume, "another volume"):
-            client.create("/a", b"")
-        self.assertEqual(self.volume.commits, 0)
-        self.assertEqual(client.forget(), [])
-        self.assertEqual(client.create("/a", b""), 1)
-        self.server.volume.clients[client.session().ledger.client] = (9, [p.Committed(p.Code.DONE, 9)])
-        with self.assertRaises(e.NumberUsedElsewhere):
-            client.create("/c", b"")
-        # Nor is the first one forgotten: it is known again, and taken when the user says so.
-        self.server.volume = first
-        with self.assertRaisesRegex(e.OtherVolume, "not the volume that the ledger knows here, but one that it knew elsewhere .*Found: requests up to 2"):
-            client.create("/c", b"")
-        client.forget()
-        self.assertEqual(client.create("/c", b""), 3)
-        self.assertEqual(len(client.session().ledger.history(client.session().volume())), 3)
-
-    def test_an_older_copy_of_the_volume(self) -> None:
-        client = self.client()
-        for name in "abcdef":
-            client.create("/" + name, b"")
-        number = client.session().ledger.client
-        self.volume.clients[number] = (3, self.volume.clients[number][1])
-        with self.assertRaises(e.VolumeBehind):
-            client.create("/g", b"")
-        self.assertEqual(client.forget(), [])
-        client.create("/g", b"")
-        self.assertEqual(self.volume.clients[number][0], 4)
-
-    def test_nothing_is_forgotten_where_the_volume_cannot_be_asked(self) -> None:
-        client = self.client(patience=0.1)
-        self.server.before = lambda payload: p.FAULT if request_of(payload) else None
-        with self.assertRaises(e.DriveFailed):
-            client.create("/a", b"")
-        self.server.before = lambda payload: p.FAULT
-        with self.assertRaises(e.ConnectionFailed):
-            client.forget()
-        self.server.before = lambda payload: None
-        self.assertEqual(client.forget(), ["/a"])
-        self.assertEqual(client.resume(), [])
-        self.assertEqual(client.create("/b", b""), 1)
-
-    def by(self, path: str, shared: bool = False) -> Client:
-        made = Client(f"unix:{path}", ledger=self.ledger, shared=shared)
-        self.addCleanup(made.close)
-        return made
-
-    def test_a_way_that_leads_to_one_of_two(self) -> None:
-        """The same was stored on both, so nothing shows which one is at a path that is not known."""
-        os.mkdir(os.path.join(self.room, "two"))
-        other = Server(os.path.join(self.room, "two"))
-        self.addCleanup(other.close)
-        for path in (self.server.path, other.path):
-            with self.by(path) as client:
-                client.create("/a", b"same", 5)
-        link = os.path.join(self.room, "link")
-        os.link(other.path, link)
-        with self.by(link) as client, self.assertRaisesRegex(e.OtherVolume, f"may be the volume at unix:{self.server.path}, or unix:{other.path}"):
-            client.create("/b", b"")
-        # Once they differ, it is known.
-        with self.by(other.path) as client:
-            client.create("/b", b"", 6)
-        with self.by(link) as client:
-            self.assertEqual(client.create("/c", b""), 3)
-        with self.by(other.path) as client:
-            self.assertEqual(client.create("/d", b""), 4)
-
-    def test_an_older_copy_by_a_way_that_is_not_known(self) -> None:
-        """It has requests of this client, and they are not those of any volume that the ledger has."""
-        with self.by(self.server.path) as client:
-            for name in "abc":
-                client.create("/" + name, b"", 5)
-        latest, kept = self.volume.clients[client_of(self.ledger)]
-        self.volume.clients[client_of(self.ledger)] = (latest - 1, kept[1:])
-        link = os.path.join(self.room, "link")
-        os.link(self.server.path, link)
-        with self.by(link) as client:
-            with self.assertRaisesRegex(e.NumberUsedElsewhere, "did not send .*older copy"):
-                client.create("/d", b"")
-            self.assertEqual(client.forget(), [])
-            client.create("/d", b"")
-        self.assertEqual(self.volume.clients[client_of(self.ledger)][0], 3)
-
-    def test_a_reply_that_nobody_confirmed(self) -> None:
-        """It is compared as a reply, and what it made is not: it was never acknowledged."""
-        with self.by(self.server.path) as client:
-            client.create("/a", b"", 5)
-            ledger, volume = client.session().ledger, client.session().volume()
-            ledger.record(volume, [], [Pending(2, b"", "/b", facts_of(p.Create(ledger.client, 2, 6, ("b",), b"bytes")))])
-            ledger.record(volume, [Reply(2, int(p.Code.DONE), 2, False)], [])
-            self.volume.answer(p.Create(ledger.client, 2, 6, ("other",), b""))
-        with self.by(self.server.path) as client:
-            self.assertEqual(client.create("/c", b""), 3)
-
-    def test_two_ways_to_a_volume(self) -> None:
-        link = os.path.join(self.room, "link")
-        client = self.client()
-        client.create("/a", b"")
-        os.link(self.server.path, link)
-        other = Client(f"unix:{link}", ledger=self.ledger)
-        client.close()
-        other.create("/b", b"")
-        other.close()
-        client = self.client()
-        client.create("/c", b"")
-        self.assertEqual(self.volume.commits, 3)
-
-    def kept(self, words: str) -> "list[tuple[int, object]]":
-        """What the ledger has, as another process would find it after a crash at this moment."""
-        copy = os.path.join(self.room, "copy.sqlite")
-        for end in ("", "-wal"):
-            if os.path.exists(self.ledger + end):
-                shutil.copy(self.ledger + end, copy + end)
-        base = sqlite3.connect(copy)
-        try:
-            return base.execute(words).fetchall()
-        finally:
-            base.close()
-            os.unlink(copy)
-
-    def test_an_outcome_comes_when_its_reply_is_kept(self) -> None:
-        for outcome in self.client().run(creates(20)):
-            replies = dict(self.kept("SELECT number, commit_number FROM request WHERE code IS NOT NULL AND confirmed"))
-            self.assertEqual(replies.get(outcome.number), outcome.commit)
-
-    def test_pending_is_at_most_four(self) -> None:
-        """At every request the ledger has that request and at most four without a reply."""
-        client = self.client()
-        seen = []
-
-        def before(payload: bytes) -> Optional[p.Answer]:
-            message = request_of(payload)
-            if message:
-                pending = dict(self.kept("SELECT number, payload FROM request JOIN frame ON frame.id = volume * 4 + number % 4 WHERE code IS NULL"))
-                seen.append((len(pending), pending.get(message.number) == payload))
-            return None
-
-        self.server.before = before
-        list(client.run(creates(24)))
-        self.assertEqual(len(seen), 24)
-        self.assertTrue(all(1 <= count <= 4 and kept for count, kept in seen), seen)
-        self.assertEqual(max(count for count, _ in seen), 4)
 
 
 if __name__ == "__main__":

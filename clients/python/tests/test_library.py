@@ -15,10 +15,12 @@ from types import SimpleNamespace
 from typing import Dict
 from unittest import mock
 
-from udfburn import Client, errors as e, library
-from udfburn.cli import main
-from udfburn.endpoint import Endpoint
-from udfburn.retrying import TURN, RetryingConnection
+from udfburn import Client
+from udfburn.base import errors as e
+from udfburn.wire import library
+from udfburn.commands.cli import main
+from udfburn.wire.endpoint import Endpoint
+from udfburn.wire.retrying import TURN, RetryingConnection
 
 STUB = """
 #include <stdint.h>
@@ -120,7 +122,7 @@ class Found(WithStub):
         line = RetryingConnection(Endpoint(f"library:{self.image}"))
         self.addCleanup(line.drop)
         line.get()
-        with mock.patch("udfburn.retrying.time", SimpleNamespace(monotonic=lambda: time.monotonic() + 1000 * TURN)):
+        with mock.patch("udfburn.wire.retrying.time", SimpleNamespace(monotonic=lambda: time.monotonic() + 1000 * TURN)):
             self.assertFalse(line.over())
 
     def test_words(self) -> None:

@@ -2,51 +2,26 @@
 
 from __future__ import annotations
 
-import contextlib
 import os
 import socket
-import stat
-import struct
 import unittest
 from types import SimpleNamespace
-from typing import Dict, Iterator, List, Optional, Tuple
+from typing import List, Optional, Tuple
 from unittest import mock
 
-from udfburn import Client, blocks, errors as e, fetch, saving, split, tree
-from udfburn.jobs import Job
+from udfburn import Client
 from udfburn import protocol as p
-from udfburn.beneath import place_of
-from udfburn.sources import Identity, Scan, Source, delete, read_parts, scan
-from udfburn.tree import Options, put_all
+from udfburn.base import errors as e
+from udfburn.base.beneath import place_of
+from udfburn.local.sources import Identity, Scan, Source, delete, read_parts, scan
+from udfburn.protocol.units import Moment
+from udfburn.trees import tree
+from udfburn.trees.jobs import Job
+from udfburn.trees.tree import Options, put_all
 
 from .model import Volume
 from .server import request_of
-from .test_session import WithServer
-
-
-class Local(WithServer):
-    def write(self, name: str, data: "bytes | bytearray" = b"data") -> str:
-        local = os.path.join(self.room, "source", name)
-        os.makedirs(os.path.dirname(local), exist_ok=True)
-        with open(local, "wb") as file:
-            file.write(data)
-        return local
-
-    @property
-    def folder(self) -> str:
-        return os.path.join(self.room, "source")
-
-    def put(self, **options: object) -> tree.Summary:
-        with self.client() as client:
-            return put_all(client, [(self.folder, ("x",))], Options(recursive=True, **options))  # type: ignore[arg-type]
-
-    def refused(self, **options: object) -> str:
-        """What is reported against an import; and nothing was sent."""
-        commits = self.volume.commits
-        with self.assertRaises(e.DoesNotFit) as raised:
-            self.put(**options)
-        self.assertEqual(self.volume.commits, commits)
-        return str(raised.exception)
+from .with_files import Local
 
 
 class Preflight(Local):
@@ -138,7 +113,7 @@ class Preflight(Local):
         self.write("y" * 250, bytes(p.limits.FILE + 1))
         told = self.refused(split=True)
         self.assertRegex(told, "x: the name of a part takes more than 255 bytes")
-        self.assertNotIn("yy", told)
+        self.assertNotIn("y" * 250, told)
 
     def test_a_path_of_two_files_of_which_the_volume_has_one(self) -> None:
         """The one that is there would be replaced by the other, when its own source is gone."""
@@ -180,7 +155,7 @@ class Preflight(Local):
         """It is the one that is named, also where the requests go to a socket."""
         local, image = self.write("a"), os.path.join(self.room, "disc.img")
         seen: List[str] = []
-        with mock.patch("udfburn.blocks.space_of", lambda image, program, client: seen.append(program)), mock.patch.dict(os.environ, clear=True):
+        with mock.patch("udfburn.image.blocks.space_of", lambda image, program, client: seen.append(program)), mock.patch.dict(os.environ, clear=True):
             with Client(f"unix:{self.server.path}", ledger=self.ledger, program="/opt/udfburn") as client:
                 put_all(client, [(local, ("a",))], Options(image=image))
         self.assertEqual(seen, ["/opt/udfburn"])
@@ -204,7 +179,7 @@ class Changes(Local):
                         file.write(b" and more")
             return status
 
-        with mock.patch("udfburn.sources.os.fstat", fstat):
+        with mock.patch("udfburn.local.sources.os.fstat", fstat):
             summary = self.put(delete_source=True)
         self.assertRegex(summary.failures[0], "a: changed while it was read")
         self.assertEqual((os.path.exists(local), os.path.exists(other)), (True, False))
@@ -239,8 +214,8 @@ class Changes(Local):
                 told: int = getattr(self.status, name)
                 return told // 10**7 * 10**7 if name.endswith("time_ns") else told
 
-        with mock.patch("udfburn.beneath.os.fstat", lambda descriptor: ByTicks(fstat(descriptor))), \
-                mock.patch("udfburn.beneath.os.stat", lambda *words, **how: ByTicks(named(*words, **how))):
+        with mock.patch("udfburn.base.beneath.os.fstat", lambda descriptor: ByTicks(fstat(descriptor))), \
+                mock.patch("udfburn.base.beneath.os.stat", lambda *words, **how: ByTicks(named(*words, **how))):
             for name in "abc":
                 local, found = self.write(name, b"first"), Scan()
                 scan(local, (name,), False, False, found)
@@ -280,7 +255,7 @@ class Changes(Local):
                 raise PermissionError(13, "Permission denied")
             return real(path, *rest, **how)
 
-        with mock.patch("udfburn.beneath.os.open", opened):
+        with mock.patch("udfburn.base.beneath.os.open", opened):
             summary = self.put(delete_source=True)
         self.assertEqual((summary.files, summary.failures), (1, [f"{local}: Permission denied"]))
         self.assertTrue(os.path.exists(local))
@@ -304,7 +279,7 @@ class Changes(Local):
                     raise PermissionError(1, "Operation not permitted")
             return real(path, how, *rest, **more)
 
-        with mock.patch("udfburn.beneath.os.open", opened):
+        with mock.patch("udfburn.base.beneath.os.open", opened):
             self.assertEqual(self.put().files, 1)
         self.assertEqual(self.volume.files()[("x", "a")], b"of another")
         self.assertEqual([bool(how & os.O_NOATIME) for how in flags], [True, False])
@@ -321,7 +296,7 @@ class Changes(Local):
             if path.startswith(self.folder):
                 raise KeyboardInterrupt
 
-        with mock.patch("udfburn.sources.os.close", close), self.assertRaises(KeyboardInterrupt):
+        with mock.patch("udfburn.local.sources.os.close", close), self.assertRaises(KeyboardInterrupt):
             self.put()
         self.assertEqual(list(self.volume.files()), [])
 
@@ -338,7 +313,7 @@ class Changes(Local):
     def test_a_reply_that_is_not_in_the_ledger(self) -> None:
         """The source stays where the ledger could not keep the reply."""
         local = self.write("a")
-        from udfburn.ledger import Ledger
+        from udfburn.ledger.ledger import Ledger
 
         real = Ledger.record
 
@@ -385,7 +360,7 @@ class Changes(Local):
         def before(payload: bytes) -> Optional[p.Answer]:
             if isinstance(request_of(payload), p.Create) and not done:
                 done.append(True)
-                other(self.volume, p.Create(5, 1, 0, ("x", "a"), b"theirs"))
+                other(self.volume, p.Create(5, 1, Moment(0), ("x", "a"), b"theirs"))
             return None
 
         self.server.before = before
@@ -418,227 +393,9 @@ class Changes(Local):
 
     def test_the_moment_of_now(self) -> None:
         os.utime(self.write("a"), (5, 5))
-        with mock.patch("udfburn.operations.time", SimpleNamespace(time_ns=lambda: 1_700_000_000_123_456_789)):
+        with mock.patch("udfburn.wire.operations.time", SimpleNamespace(time_ns=lambda: 1_700_000_000_123_456_789)):
             self.put(moment="now")
         self.assertEqual(self.client().stat("/x/a").moment, 1_700_000_000_123_456)
-
-
-class Fetch(Local):
-    def test_get_tree(self) -> None:
-        self.write("a/b", b"bytes")
-        self.write("c", b"")
-        os.mkdir(os.path.join(self.folder, "empty"))
-        self.put()
-        back = os.path.join(self.room, "back")
-        client = self.client()
-        self.assertEqual(fetch.get_tree(client, ("x",), back), 2)
-        self.assertEqual(sorted(os.listdir(back)), ["a", "c", "empty"])
-        with open(os.path.join(back, "a", "b"), "rb") as file:
-            self.assertEqual(file.read(), b"bytes")
-        self.assertEqual(os.stat(os.path.join(back, "a", "b")).st_mtime_ns // 1000, client.stat("/x/a/b").moment)
-        self.assertEqual(fetch.get_tree(client, ("x",), back), 2)
-        os.unlink(os.path.join(back, "a", "b"))
-        os.rmdir(os.path.join(back, "a"))
-        os.symlink(self.folder, os.path.join(back, "a"))
-        for force in (False, True):
-            with self.assertRaisesRegex(e.SourceError, "symbolic link"):
-                fetch.get_tree(client, ("x",), back, force=force)
-
-    def test_the_names_are_on_the_disk(self) -> None:
-        """Whoever is told that all was got may remove it from the volume: what is synchronised last of a folder is all its names."""
-        self.write("a/b", b"bytes")
-        self.write("c")
-        os.mkdir(os.path.join(self.folder, "empty"))
-        self.put()
-        synced, real = {}, os.fsync
-        where = os.path.realpath(self.room)
-
-        def fsync(descriptor: int) -> None:
-            path = os.readlink(f"/proc/self/fd/{descriptor}")
-            synced[os.path.relpath(path, where)] = sorted(os.listdir(path)) if os.path.isdir(path) else []
-            real(descriptor)
-
-        with mock.patch("udfburn.disk.os.fsync", fsync):
-            fetch.get_tree(self.client(), ("x",), os.path.join(where, "new", "back"))
-        for folder, names in (("new", ["back"]), ("new/back", ["a", "c", "empty"]), ("new/back/a", ["b"]), ("new/back/empty", [])):
-            self.assertEqual(synced.get(folder), names, folder)
-        self.assertIn("new", synced["."])
-
-    def test_a_name_that_another_takes_meanwhile(self) -> None:
-        """Also on a file system without links what is there by then stays as it is."""
-        local, refused = os.path.join(self.room, "new"), PermissionError(1, "Operation not permitted")
-
-        def parts() -> Iterator[bytes]:
-            with open(local, "wb") as file:
-                file.write(b"of another")
-            yield b"of the volume"
-
-        for link, unnamed in ((os.link, saving.UNNAMED), (os.link, 0), (mock.Mock(side_effect=refused), 0)):
-            with mock.patch("udfburn.beneath.os.link", link), mock.patch.object(saving, "UNNAMED", unnamed):
-                with self.assertRaisesRegex(e.SourceError, "already exists"):
-                    fetch.save(local, parts(), None, False)
-                with open(local, "rb") as file:
-                    self.assertEqual(file.read(), b"of another")
-                os.unlink(local)
-                self.assertEqual(fetch.save(local, iter([b"of the volume"]), None, False), 13)
-                with open(local, "rb") as file:
-                    self.assertEqual(file.read(), b"of the volume")
-                os.unlink(local)
-        self.assertEqual([name for name in os.listdir(self.room) if name.startswith(".udfburn-")], [])
-
-    def test_what_is_no_file_is_not_replaced(self) -> None:
-        """Not by force either: else a superuser who writes to a device has a file in its place."""
-        pipe, local, link = (os.path.join(self.room, name) for name in ("pipe", "file", "link"))
-        os.mkfifo(pipe)
-        os.symlink(pipe, link)
-        self.write("../file", b"old")
-        with self.assertRaisesRegex(e.SourceError, "pipe: is a named pipe"):
-            fetch.save(pipe, iter([b"new"]), None, True)
-        for replaced in (local, link):
-            fetch.save(replaced, iter([b"new"]), None, True)
-            with open(replaced, "rb") as file:
-                self.assertEqual(file.read(), b"new")
-        self.assertTrue(stat.S_ISFIFO(os.lstat(pipe).st_mode))
-
-    def test_a_server_names_no_other_place(self) -> None:
-        """A name like `..` in a directory never reaches the local disk."""
-        for name in (b"..", b"../evil", b"/evil", b"", b"a\0b"):
-            payload = struct.pack("<HHBH", 65, 1, 0, len(name)) + name
-            self.server.say = lambda _, answer, payload=payload: p.frame(payload)  # type: ignore[misc]
-            with self.assertRaises(p.BadAnswer):
-                fetch.get_tree(self.client(), (), os.path.join(self.room, "back"))
-
-    def test_verify(self) -> None:
-        for name in ("same", "other", "gone", "kind/file"):
-            self.write(name, b"bytes")
-        self.put()
-        self.write("other", b"BYTES")
-        self.write("new")
-        os.unlink(os.path.join(self.folder, "gone"))
-        os.unlink(os.path.join(self.folder, "kind", "file"))
-        os.rmdir(os.path.join(self.folder, "kind"))
-        self.write("kind")
-        result = fetch.verify_tree(self.client(), self.folder, ("x",))
-        self.assertEqual(sorted(result.differences), [("/x/kind", "is a directory there"), ("/x/new", "is not there"), ("/x/other", "has other bytes there")])
-        self.assertEqual(result.extra, ["/x/gone", "/x/kind/file"])
-        self.assertEqual(result.files, 2)
-
-    def test_calls_between_answers(self) -> None:
-        client = self.client()
-        client.put("/a", b"")
-        answers = client.ask_all([p.Get(("a",))] * 40)
-        next(answers)
-        with self.assertRaises(e.UsageError):
-            client.get("/a")
-        answers.close()
-        self.assertEqual(client.get("/a"), b"")
-
-
-class Parts(unittest.TestCase):
-    def test_names(self) -> None:
-        full = p.limits.FILE
-        self.assertEqual(split.stored_paths(("a", "b"), full, True), [("a", "b")])
-        self.assertEqual(split.stored_paths(("a", "b"), full + 1, True), [("a", "b.000"), ("a", "b.001")])
-        self.assertEqual(len(split.stored_paths(("b",), 3 * full, True)), 3)
-        self.assertEqual(split.stored_paths(("b",), 3 * full, False), [("b",)])
-
-    def test_joined(self) -> None:
-        full = p.limits.FILE
-        files, rest = split.joined([("a.000", full), ("a.001", full), ("a.002", 5), ("a.003", 5), ("b.000", full), ("c.000", 5), ("c.001", 5), ("d.000", None), ("e", 1), ("e.000", full), ("e.001", 1)])
-        self.assertEqual(files, {"a": ["a.000", "a.001", "a.002"]})
-        self.assertEqual(rest, ["a.003", "b.000", "c.000", "c.001", "d.000", "e", "e.000", "e.001"])
-
-
-class Left(Local):
-    """What an earlier file of a name left on the volume, and what only looks like that."""
-
-    def files(self) -> "dict[str, bytes]":
-        return {path[-1]: data for path, data in self.volume.files().items()}
-
-    def test_files_that_are_stored_together(self) -> None:
-        """None is removed for its name, and each is there when its source is deleted."""
-        big = bytes(p.limits.FILE + 1)
-        for name, data in (("log", b"log"), ("log.000", b"0"), ("log.001", b"1"), ("big", big), ("big.002", b"2")):
-            self.write(name, data)
-        wanted = {"log": b"log", "log.000": b"0", "log.001": b"1", "big.000": big[:-1], "big.001": big[-1:], "big.002": b"2"}
-        choices: List[Dict[str, bool]] = [{}, {"skip_same": True}, {}, {"skip_same": True, "delete_source": True}]
-        for options in choices:
-            self.assertEqual(self.put(split=True, **options).failures, [])
-            self.assertEqual(self.files(), wanted)
-        self.assertEqual(os.listdir(self.folder), [])
-
-    def test_files_that_were_stored_before(self) -> None:
-        """A file that is no first part is none that an earlier file left, nor are those after it."""
-        for name in ("log.000", "log.001", "log.002"):
-            self.write(name, name.encode())
-        self.put(split=True, delete_source=True)
-        self.write("log", b"log")
-        self.put(split=True, delete_source=True)
-        self.assertEqual(list(self.files()), ["log.000", "log.001", "log.002", "log"])
-        self.write("log", bytes(p.limits.FILE + 1))
-        self.put(split=True, delete_source=True)
-        self.assertEqual(list(self.files()), ["log.000", "log.001", "log.002"])
-
-    def test_what_was_left(self) -> None:
-        full = p.limits.FILE
-        choices: List[Dict[str, bool]] = [{}, {"skip_same": True}]
-        for before, size, left in ((2 * full + 1, 5, ["big"]), (2 * full + 1, full + 1, ["big.000", "big.001"]), (5, full + 1, ["big.000", "big.001"])):
-            for options in choices:
-                self.server.volume = Volume()
-                self.ledger = os.path.join(self.room, f"{before}-{size}-{len(options)}.sqlite")
-                self.write("big", bytes(before))
-                self.put(split=True)
-                self.write("big", bytes(size))
-                with contextlib.ExitStack() as stack:
-                    if options:
-                        stack.enter_context(mock.patch.object(tree.Importer, "_remove_stale"))
-                    self.put(split=True)
-                told = self.put(split=True, **options).skipped
-                # After a part that is shorter by now nobody can distinguish what was left from a file of its own.
-                doubtful = ["big.002"] if options and before > size > full else []
-                self.assertEqual(sorted(self.files()), left + doubtful)
-                self.assertEqual([line.split(":")[0] for line in told], [f"/x/{name}" for name in doubtful])
-
-    def test_a_file_behind_a_shorter_part(self) -> None:
-        """It is its own, and stays when the parts before it are replaced."""
-        self.write("big", bytes(p.limits.FILE + 1))
-        self.write("big.002", b"own")
-        self.put(split=True, delete_source=True)
-        for size, left in ((p.limits.FILE + 2, ["big.000", "big.001", "big.002"]), (5, ["big", "big.002"])):
-            self.write("big", bytes(size))
-            told = self.put(split=True, delete_source=True).skipped
-            self.assertEqual(sorted(self.files()), left)
-            self.assertEqual([line.split(":")[0] for line in told], ["/x/big.002"])
-
-    def test_directories(self) -> None:
-        with self.client() as client:
-            client.makedirs("/x/log.000")
-            client.makedirs("/x/big")
-        self.write("log", b"log")
-        self.put(split=True)
-        self.write("big", bytes(p.limits.FILE + 1))
-        self.assertIn("/x/big: is a directory, and", self.refused(split=True))
-        self.assertIn(("x", "log.000"), self.volume.nodes)
-
-
-class Reckoned(unittest.TestCase):
-    """Blocks, by the rows of the layout: the first create takes five blocks, and may need six."""
-
-    def test_the_first_create(self) -> None:
-        for capacity, fits in ((267, False), (268, True)):
-            space = blocks.Space(capacity, 262, {7})
-            self.assertEqual(blocks.Reckoner(space).create(("a",), 5), fits)
-            self.assertEqual(space.next, 267)
-
-    def test_a_directory_of_two_blocks(self) -> None:
-        """48 names of a letter fill 1,960 bytes of a block. 21 letters more begin the next one, 17 and 49 do not."""
-        for letters, full in ((21, 1), (17, 0), (49, 0)):
-            layout = blocks.Layout()
-            for name in "abcdefghijklmnopqrstuvwxyzABCDEFGHIJKLMNOPQRSTUV":
-                layout.add(name)
-            self.assertEqual((layout.full, layout.at), (0, 1960))
-            layout.add("x" * letters)
-            self.assertEqual(layout.full, full, letters)
 
 
 if __name__ == "__main__":

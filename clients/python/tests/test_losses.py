@@ -10,17 +10,18 @@ import tempfile
 import unittest
 from contextlib import redirect_stderr, redirect_stdout
 from io import StringIO
-from typing import Any, Dict, List, Tuple
+from typing import Any, Dict, List, Optional, Tuple
 
-from udfburn import cli
-from udfburn.check_data import check_data
-from udfburn.coverage import Coverage
-from udfburn.ledger_reading import ledger_to_read
+from udfburn.commands import cli
+from udfburn.image.check_data import check_data
+from udfburn.image.coverage import Coverage
+from udfburn.ledger.reading import ledger_to_read
 from udfburn.protocol import Path, show
+from udfburn.protocol.units import Address, Commit
 from udfburn.reader import Kind, Medium, NoVolume, Volume
 from udfburn.reader.entry import read_entry, write_entry
 from udfburn.reader.numbering import Link, Span, greatest_at, number
-from udfburn.salvage import DAMAGED, LOST, UNPROVED, WHOLE, Outcome, Salvage, target_of
+from udfburn.salvage.salvage import DAMAGED, LOST, UNPROVED, WHOLE, Outcome, Salvage, target_of
 
 from .losses import BLOCK, File, Loss, Sound, losses, write, write_map
 from .programs import UDFBURN
@@ -227,8 +228,8 @@ class Ledgers(WithLosses):
 class Numbering(unittest.TestCase):
     """The commits of links, by what tables say."""
 
-    def spans(self, *links: Tuple[int, "int | None", bool]) -> List[Span]:
-        return [link.numbers for link in number([Link(at, None, said, follows) for at, said, follows in links])]
+    def spans(self, *links: Tuple[int, Optional[int], bool]) -> List[Span]:
+        return [link.numbers for link in number([Link(Address(at), None, None if said is None else Commit(said), follows) for at, said, follows in links])]
 
     def test_by_links(self) -> None:
         """A number goes along links both ways, and most of a row counts."""
@@ -240,7 +241,7 @@ class Numbering(unittest.TestCase):
         """Between two that are known, and by the place on the medium."""
         self.assertEqual(self.spans((900, 13, False), (800, None, False), (700, 8, False)), [(13, 13), (9, 12), (8, 8)])
         self.assertEqual(self.spans((900, 10, False), (800, None, False), (700, 8, False)), [(10, 10), (9, 9), (8, 8)])
-        self.assertEqual(self.spans((900, None, False), (300, 3, False)), [(4, greatest_at(900)), (3, 3)])
+        self.assertEqual(self.spans((900, None, False), (300, 3, False)), [(4, greatest_at(Address(900))), (3, 3)])
         self.assertEqual(self.spans((900, 10, False), (800, None, False), (790, None, False), (700, 8, False))[1:3], [(8, 10), (8, 10)])
 
     def test_what_cannot_be(self) -> None:

@@ -6,8 +6,9 @@ import os
 import unittest
 from xml.etree import ElementTree
 
-from udfburn import map as picture
-from udfburn.past import Commit
+from udfburn.image import map as picture
+from udfburn.image.past import LoggedCommit
+from udfburn.protocol.units import Address, Commit
 
 from .programs import UDFBURN, WithPrograms
 
@@ -20,7 +21,8 @@ def texts(tree: ElementTree.Element) -> str:
 
 class Drawn(unittest.TestCase):
     def medium(self, commits: int, capacity: int) -> picture.Medium:
-        known = [Commit(0, 261, 0, 1)] + [Commit(index, 261 + 5 * index, index, 1) for index in range(1, commits + 1)]
+        known = [LoggedCommit(Commit(0), Address(261), 0, 1)]
+        known += [LoggedCommit(Commit(index), Address(261 + 5 * index), index, 1) for index in range(1, commits + 1)]
         return picture.Medium("disc.img", "A < B & C", capacity, known[-1].address + 1, known)
 
     def test_each_block_is_of_one_run(self) -> None:

@@ -15,16 +15,18 @@ import unittest
 from contextlib import closing
 from typing import List, Tuple
 
-from udfburn import Client, errors as e
+from udfburn import Client
+from udfburn.base import errors as e
 from udfburn import protocol as p
-from udfburn.ledger import Ledger
-from udfburn.ledger_records import Sent
-from udfburn.operations import Deed
+from udfburn.ledger.ledger import Ledger
+from udfburn.ledger.records import Sent
+from udfburn.protocol.units import Commit, Moment, Size
+from udfburn.wire.operations import Deed
 
 from .model import Volume
 from .server import Server
 from .test_kills import killer
-from .test_session import WithServer
+from .with_server import WithServer
 
 HERE = os.path.dirname(os.path.abspath(__file__))
 CLIENT = 77
@@ -35,10 +37,10 @@ FRAMES = "SELECT id, payload FROM frame ORDER BY id"
 def first_volume() -> Volume:
     """The volume that was met by two ways, as the requests of the ledger left it."""
     volume = Volume()
-    requests: List[p.AnyRequest] = [p.MakeDir(CLIENT, 1, 10, ("d",))]
-    requests += [p.Create(CLIENT, 2 + index, 100 + index, ("d", f"f{index}"), b"x" * index) for index in range(5)]
+    requests: List[p.AnyRequest] = [p.MakeDir(CLIENT, 1, Moment(10), ("d",))]
+    requests += [p.Create(CLIENT, 2 + index, Moment(100 + index), ("d", f"f{index}"), b"x" * index) for index in range(5)]
     requests += [
-        p.Rename(CLIENT, 7, 200, ("d", "f0"), ("d", "g")), p.Replace(CLIENT, 8, 201, ("d", "f1"), b"replaced"), p.Remove(CLIENT, 9, 202, ("d", "f2")),
+        p.Rename(CLIENT, 7, Moment(200), ("d", "f0"), ("d", "g")), p.Replace(CLIENT, 8, Moment(201), ("d", "f1"), b"replaced"), p.Remove(CLIENT, 9, Moment(202), ("d", "f2")),
     ]
     for request in requests:
         volume.answer(request)
@@ -99,9 +101,9 @@ class Migration(WithServer):
         self.assertEqual(self.asked("SELECT version FROM ledger"), [(3,)])
         self.assertEqual((self.asked(everything), self.asked(FRAMES)), (rows, frames))
         self.one.volume = Volume()
-        self.one.volume.answer(p.MakeDir(CLIENT, 1, 10, ("d",)))
+        self.one.volume.answer(p.MakeDir(CLIENT, 1, Moment(10), ("d",)))
         for index in range(5):
-            self.one.volume.answer(p.Create(CLIENT, 2 + index, 100 + index, ("d", f"f{index}"), b"x" * index))
+            self.one.volume.answer(p.Create(CLIENT, 2 + index, Moment(100 + index), ("d", f"f{index}"), b"x" * index))
         with self.by(self.one.path) as client:
             self.assertEqual(client.resume(), [(7, "/first", p.Code.DONE, 7), (8, "/second", p.Code.DONE, 8)])
             self.assertEqual(client.create("/next", b""), 9)
@@ -115,11 +117,11 @@ class Migration(WithServer):
         self.assertEqual(first[2:4], [self.stored(3, "f1", 1, 101, b"x"), self.stored(4, "f2", 2, 102, b"xx")])
         moved, replaced = [sent.facts for sent in third]
         assert moved and replaced
-        self.assertEqual(moved.deed, Deed(p.Kind.RENAME, ("d", "f0"), ("d", "g"), 0, 200))
+        self.assertEqual(moved.deed, Deed(p.Kind.RENAME, ("d", "f0"), ("d", "g"), Size(0), Moment(200)))
         self.assertEqual(replaced.sha256, hashlib.sha256(b"replaced").digest())
         waiting = fourth[-1].facts
         assert waiting
-        self.assertEqual((waiting.deed, waiting.sha256), (Deed(p.Kind.CREATE, ("pending",), (), 13, 300), hashlib.sha256(b"pending bytes").digest()))
+        self.assertEqual((waiting.deed, waiting.sha256), (Deed(p.Kind.CREATE, ("pending",), (), Size(13), Moment(300)), hashlib.sha256(b"pending bytes").digest()))
 
     def test_the_frame_of_another_request_says_nothing(self) -> None:
         """The place of a request's frame may have another one: nothing is kept beside the request then."""
@@ -130,10 +132,10 @@ class Migration(WithServer):
         self.assertEqual([(sent.number, sent.facts is None) for sent in first], [(1, True), (2, True), (3, False), (4, True), (5, False), (6, False)])
 
     def stored(self, number: int, name: str, size: int, moment: int, data: bytes) -> Sent:
-        from udfburn.ledger_records import Facts
+        from udfburn.ledger.records import Facts
 
-        facts = Facts(Deed(p.Kind.CREATE, ("d", name), (), size, moment), hashlib.sha256(data).digest())
-        return Sent(number, f"/d/{name}", facts, 0, number, True)
+        facts = Facts(Deed(p.Kind.CREATE, ("d", name), (), Size(size), Moment(moment)), hashlib.sha256(data).digest())
+        return Sent(number, f"/d/{name}", facts, 0, Commit(number), True)
 
     def test_what_is_pending_is_sent(self) -> None:
         with self.by(self.one.path) as client:
@@ -172,8 +174,8 @@ class Migration(WithServer):
 
     def test_another_volume_by_the_way_that_was_behind(self) -> None:
         """With more requests than the ledger has by either way: it is none of them."""
-        self.one.volume.answer(p.Create(CLIENT, 10, 0, ("x",), b""))
-        self.one.volume.answer(p.Create(CLIENT, 11, 0, ("y",), b""))
+        self.one.volume.answer(p.Create(CLIENT, 10, Moment(0), ("x",), b""))
+        self.one.volume.answer(p.Create(CLIENT, 11, Moment(0), ("y",), b""))
         for path in (self.link, self.one.path):
             with self.by(path) as client, self.assertRaises(e.NumberUsedElsewhere):
                 client.create("/z", b"")

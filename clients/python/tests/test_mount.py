@@ -12,15 +12,16 @@ import unittest
 from typing import Dict, List, Optional, Tuple
 from unittest import mock
 
-from udfburn.errors import Damaged
-from udfburn.image_view import ImageView
-from udfburn.mounting import ROOT, Numbers
-from udfburn.progress import Progress
+from udfburn.base.errors import Damaged
+from udfburn.mounting.image_view import ImageView
+from udfburn.mounting.fuse import ROOT, Numbers
+from udfburn.base.progress import Progress
 from udfburn.protocol import Create, MakeDir, Message, Replace
 from udfburn.reader import Kind, Medium, Volume
 from udfburn.reader.basics import BLOCK, FILE_BYTES
 from udfburn.reader.directory import write_identifier
-from udfburn.shown_tree import DIGEST, DIGESTS_KEPT, File, Folder, Memory, Reading
+from udfburn.mounting.shown_tree import DIGEST, DIGESTS_KEPT, File, Folder, Memory, Reading
+from udfburn.protocol.units import BlockNumber, Moment, VirtualAddress
 
 from .appended import Appender
 from .forged import FORGED, Forge
@@ -126,9 +127,9 @@ class Trees(WithImage):
         self.assertEqual(view.names().keys(), {b"latest", b"commits"})
 
     def test_grows_meanwhile(self) -> None:
-        self.send([Create(1, 1, 5, ("a",), b"first")])
+        self.send([Create(1, 1, Moment(5), ("a",), b"first")])
         view = self.view()
-        apply_messages(self.image, [Replace(1, 2, 6, ("a",), b"second"), Create(1, 3, 7, ("b",), b"new")])
+        apply_messages(self.image, [Replace(1, 2, Moment(6), ("a",), b"second"), Create(1, 3, Moment(7), ("b",), b"new")])
         self.assertEqual(all_of(folder_at(view, "latest")), {b"/a": (b"first", 5)})
         self.assertEqual(all_of(folder_at(self.view(), "latest")), {b"/a": (b"second", 6), b"/b": (b"new", 7)})
 
@@ -150,11 +151,11 @@ class Trees(WithImage):
         """Parts beside one another and those in a folder of their own; each part is there under its own name, and not listed."""
         data = random.Random(2).randbytes(FILE_BYTES + 10)
         parts = [data[:FILE_BYTES], data[FILE_BYTES:]]
-        messages: List[Message] = [Create(1, 1 + index, 9, (f"x.{index:03}",), part) for index, part in enumerate(parts)]
-        messages += [MakeDir(1, 3, 9, ("y.parts",)), MakeDir(1, 4, 9, ("y.parts", "00"))]
-        messages += [Create(1, 5 + index, 9, ("y.parts", "00", f"{index:03}"), part) for index, part in enumerate(parts)]
-        self.send(messages + [MakeDir(1, 7, 9, ("z.parts",)), Create(1, 8, 9, ("w.000",), b"alone")])
-        with mock.patch("udfburn.split.FLAT", 1):
+        messages: List[Message] = [Create(1, 1 + index, Moment(9), (f"x.{index:03}",), part) for index, part in enumerate(parts)]
+        messages += [MakeDir(1, 3, Moment(9), ("y.parts",)), MakeDir(1, 4, Moment(9), ("y.parts", "00"))]
+        messages += [Create(1, 5 + index, Moment(9), ("y.parts", "00", f"{index:03}"), part) for index, part in enumerate(parts)]
+        self.send(messages + [MakeDir(1, 7, Moment(9), ("z.parts",)), Create(1, 8, Moment(9), ("w.000",), b"alone")])
+        with mock.patch("udfburn.base.split.FLAT", 1):
             latest = folder_at(self.view(), "latest")
             self.assertEqual(latest.names().keys(), {b"x", b"y", b"z.parts", b"w.000"})
             for name in ("x", "y"):
@@ -163,7 +164,7 @@ class Trees(WithImage):
             self.assertEqual(bytes_of(file_at(latest, "y.parts", "00", "000")), parts[0])
 
     def test_names_are_bytes(self) -> None:
-        self.send([Create(1, 1, 5, ("caf\u241bE9",), b"1"), Create(1, 2, 5, ("\u241bF0\u241b9F\u241b98\u241b80",), b"2")])
+        self.send([Create(1, 1, Moment(5), ("caf\u241bE9",), b"1"), Create(1, 2, Moment(5), ("\u241bF0\u241b9F\u241b98\u241b80",), b"2")])
         latest = folder_at(self.view(), "latest")
         self.assertEqual(latest.names().keys(), {b"caf\xe9", "😀".encode()})
         self.assertEqual(bytes_of(file_at(latest, "caf\u241bE9")), b"1", "as a manifest has it")
@@ -173,8 +174,8 @@ class Damage(WithImage):
     def sealed(self, *files: Tuple[str, bytes]) -> None:
         """A volume with a manifest after its files."""
         lines = "".join(f"{hashlib.sha256(data).hexdigest()}  {name}\n" for name, data in files)
-        messages: List[Message] = [Create(1, 1 + index, 5, (name,), data) for index, (name, data) in enumerate(files)]
-        self.send([*messages, Create(1, len(files) + 1, 6, ("manifest-sha256.txt",), lines.encode())])
+        messages: List[Message] = [Create(1, 1 + index, Moment(5), (name,), data) for index, (name, data) in enumerate(files)]
+        self.send([*messages, Create(1, len(files) + 1, Moment(6), ("manifest-sha256.txt",), lines.encode())])
 
     def require_damaged(self, file: File, words: str, memory: Optional[Memory] = None) -> None:
         for _ in range(2):
@@ -197,7 +198,7 @@ class Damage(WithImage):
 
     def test_stored_again_after_the_manifest(self) -> None:
         self.sealed(("a", b"old" * 1000))
-        apply_messages(self.image, [Replace(1, 3, 7, ("a",), b"new" * 1000)])
+        apply_messages(self.image, [Replace(1, 3, Moment(7), ("a",), b"new" * 1000)])
         view = self.view()
         self.assertEqual(bytes_of(file_at(view, "latest", "a")), b"new" * 1000)
         self.assertEqual(bytes_of(file_at(view, "commits", "2", "a")), b"old" * 1000)
@@ -244,7 +245,7 @@ class Damage(WithImage):
     def test_a_damaged_directory(self) -> None:
         """The names that can be read are there, with a word that some are not; a name without an entry is there, and cannot be read."""
         self.send([
-            MakeDir(1, 1, 5, ("d",)), Create(1, 2, 5, ("d", "first"), b"1"), Create(1, 3, 5, ("d", "second"), b"2" * 5000), Create(1, 4, 5, ("d", "third"), b"3"),
+            MakeDir(1, 1, Moment(5), ("d",)), Create(1, 2, Moment(5), ("d", "first"), b"1"), Create(1, 3, Moment(5), ("d", "second"), b"2" * 5000), Create(1, 4, Moment(5), ("d", "third"), b"3"),
         ])
         with Medium(self.image) as medium:
             state = Volume(medium).state()
@@ -317,7 +318,7 @@ class Strangers(WithImage):
         forge = Forge()
         forge.begin()
         first = forge.number
-        data = write_identifier("", 10, 1, 0, 0, first) + b"".join(write_identifier(name, kind, virtual, 16, 0, first) for name, kind, virtual in names)
+        data = write_identifier("", 10, VirtualAddress(1), 0, 0, BlockNumber(first)) + b"".join(write_identifier(name, kind, VirtualAddress(virtual), 16, 0, BlockNumber(first)) for name, kind, virtual in names)
         forge.put(data)
         forge.words[1] = forge.node(Kind.DIRECTORY, 0, len(data), first, 1)
         forge.words.append(forge.node(Kind.FILE, 16, 5, None, 2, b"bytes"))

@@ -16,7 +16,7 @@ from typing import Dict, Iterator, List, NamedTuple, Optional, Set, Tuple
 from udfburn import protocol as p
 
 from .server import request_of
-from .test_session import PACKAGE, WithServer
+from .with_server import PACKAGE, WithServer
 
 HERE = os.path.dirname(os.path.abspath(__file__))
 RECORD = struct.Struct("<4Iq")

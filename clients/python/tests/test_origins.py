@@ -16,18 +16,23 @@ import unittest
 from contextlib import closing, redirect_stderr, redirect_stdout
 from typing import Callable, Dict, List, Optional
 
-from udfburn import Client, cli, errors as e
+from udfburn import Client
+from udfburn.base import errors as e
+from udfburn.commands import cli
 from udfburn import protocol as p
-from udfburn.connection import Connection
-from udfburn.ledger_records import LARGE
-from udfburn.operations import Operation
-from udfburn.session import InFlightRequest, Session
-from udfburn.tree import Options, put_all
+from udfburn.wire.connection import Connection
+from udfburn.ledger.records import LARGE
+from udfburn.protocol.units import Commit, Moment
+from udfburn.wire.operations import Operation
+from udfburn.session.in_flight import InFlightRequest
+from udfburn.session.session import Session
+from udfburn.trees.tree import Options, put_all
 
 from .programs import PATIENCE, UDFBURN, WithPrograms
 from .server import honestly, is_probe, request_of
 from .test_kills import KILLS, killer
-from .test_session import WithServer
+from .with_files import store_in_parts
+from .with_server import WithServer
 
 FRAMES = "SELECT length(payload), origin, start, size_then FROM frame ORDER BY id"
 MEBIBYTE = 1 << 20
@@ -48,6 +53,7 @@ class WithSource(WithServer):
 
     def setUp(self) -> None:
         super().setUp()
+        store_in_parts(self)
         self.data = random.Random(3).randbytes(LARGE + 5)
         self.source = self.write("source", self.data)
 
@@ -77,7 +83,7 @@ class WithSource(WithServer):
         """The requests that the volume got since, but no probes."""
         return [request for request in map(request_of, self.server.payloads) if request is not None]  # type: ignore[misc]
 
-    def resumed(self) -> "tuple[List[tuple[int, str, p.Code, int]], List[str]]":
+    def resumed(self) -> "tuple[List[tuple[int, str, p.Code, Commit]], List[str]]":
         """What another process finishes, and what it reports was not stored."""
         with self.client() as client:
             return client.resume(), list(client.take_not_stored().values())
@@ -197,10 +203,10 @@ class Sources(WithSource):
     def test_the_frame_that_comes_late(self) -> None:
         """The one that the killed process sent is still on its way when its number is used up: it is not stored then."""
         self.begin(False)
-        late = p.Create(self.number(), 1, 5, ("source",), self.data)
+        late = p.Create(self.number(), 1, Moment(5), ("source",), self.data)
         os.unlink(self.source)
         self.assertEqual(self.resumed(), ([(1, "/source", p.Code.ROOT, 1)], ["/source"]))
-        self.assertEqual(self.volume.answer(late), p.Committed(p.Code.ROOT, 1))
+        self.assertEqual(self.volume.answer(late), p.Committed(p.Code.ROOT, Commit(1)))
         self.assertEqual(self.volume.files(), {})
 
     def number(self) -> int:
@@ -303,7 +309,7 @@ class Sources(WithSource):
         """It is kept whole, however large it is."""
         self.server.before = refuses
         with self.client(patience=0.1) as client, self.assertRaises(e.DriveFailed):
-            list(client.run([Operation(p.Create, ("a",), 1, self.data)]))
+            list(client.run([Operation(p.Create, ("a",), Moment(1), self.data)]))
         self.server.before = lambda payload: None
         self.assertEqual(self.resumed(), ([(1, "/a", p.Code.DONE, 1)], []))
         self.assertEqual(self.volume.files(), {("a",): self.data})

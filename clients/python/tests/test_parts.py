@@ -11,12 +11,15 @@ from io import StringIO
 from typing import Any, Dict, List
 from unittest import mock
 
-from udfburn import Client, cli, fetch, split, tree, walk
+from udfburn import Client
+from udfburn.base import split
+from udfburn.commands import cli
+from udfburn.trees import fetch, tree, walk
 from udfburn import protocol as p
 
 from .model import Volume
 from .programs import WithPrograms
-from .test_local import Local
+from .with_files import Local, store_in_parts
 
 MEBIBYTE = p.limits.FILE
 
@@ -293,6 +296,7 @@ class Folders(Local):
 class Reckoned(WithPrograms):
     def test_the_blocks_of_the_parts_that_changed(self) -> None:
         """They are computed exactly, and an image that has no room for more takes them."""
+        store_in_parts(self)
         data = bytearray(random.Random(7).randbytes(3 * MEBIBYTE + 5))
         local, image = self.write("source/big", bytes(data)), os.path.join(self.room, "tight.img")
         # A program asks for twice the blocks of a part before it writes one.
@@ -305,6 +309,70 @@ class Reckoned(WithPrograms):
             summary = tree.put_all(client, [(local, ("big",))], tree.Options(split=True))
             self.assertEqual(os.path.getsize(image) // 2048 - before, summary.blocks)
         self.assertEqual(b"".join(client.get(f"/big.00{index}") for index in range(4)), bytes(data))
+
+
+class Whole(Local):
+    """What --split does with files that a volume has as one."""
+
+    def setUp(self) -> None:
+        super().setUp()
+        patched = mock.patch.object(split, "WHOLE", 3 * MEBIBYTE)
+        patched.start()
+        self.addCleanup(patched.stop)
+
+    def names(self) -> List[str]:
+        return sorted(path[1] for path in self.volume.nodes if len(path) == 2)
+
+    def test_only_what_needs_it_is_in_parts(self) -> None:
+        wanted = {"whole": random.Random(1).randbytes(3 * MEBIBYTE), "parts": random.Random(2).randbytes(3 * MEBIBYTE + 1)}
+        for name, data in wanted.items():
+            self.write(name, data)
+        self.assertEqual(self.put(split=True, verify=True).verified, 2)
+        self.assertEqual(self.names(), ["parts.000", "parts.001", "parts.002", "parts.003", "whole"])
+        commits = self.volume.commits
+        self.assertEqual(self.put(split=True).same, 2)
+        self.assertEqual(self.volume.commits, commits)
+        result = fetch.verify_tree(self.client(), self.folder, ("x",), True)
+        self.assertEqual((result.differences, result.extra), ([], []))
+        fetch.get_tree(self.client(), ("x",), os.path.join(self.room, "back"), split=True)
+        for name, data in wanted.items():
+            with open(os.path.join(self.room, "back", name), "rb") as file:
+                self.assertEqual(file.read(), data)
+        # Each takes the place of the other.
+        self.write("whole", wanted["parts"])
+        self.write("parts", wanted["whole"])
+        self.assertEqual(self.put(split=True, delete_source=True).deleted, 2)
+        self.assertEqual(self.names(), [f"parts.{index:03}" for index in range(3)] + [f"whole.{index:03}" for index in range(4)])
+
+    def test_what_is_in_parts_stays_so(self) -> None:
+        """As earlier programs stored it: the same bytes are not stored again, and others go into the parts."""
+        data = bytearray(random.Random(3).randbytes(2 * MEBIBYTE + 9))
+        self.write("big", data)
+        with mock.patch.object(split, "WHOLE", MEBIBYTE):
+            self.put(split=True)
+        commits = self.volume.commits
+        self.assertEqual(self.put(split=True).same, 1)
+        self.assertEqual(self.volume.commits, commits)
+        self.assertEqual(fetch.verify_tree(self.client(), self.folder, ("x",), True).differences, [])
+        data[5] ^= 1
+        self.write("big", data)
+        self.assertEqual(self.put(split=True, verify=True).verified, 1)
+        self.assertEqual(self.names(), ["big.000", "big.001", "big.002"])
+        self.assertEqual(b"".join(self.volume.files()["x", name] for name in self.names()), bytes(data))
+        # A file that has the name of a part is not taken for one.
+        self.write("big.001", b"mine")
+        self.assertIn("/x/big.001: more than one", self.refused(split=True))
+
+
+    def test_parts_beside_the_whole(self) -> None:
+        """What an earlier run left goes with all its parts: none of them is read any more."""
+        self.write("big", random.Random(4).randbytes(2 * MEBIBYTE + 9))
+        with mock.patch.object(split, "WHOLE", MEBIBYTE):
+            self.put(split=True)
+        self.put()
+        self.assertEqual(self.names(), ["big", "big.000", "big.001", "big.002"])
+        self.assertEqual(self.put(split=True).same, 1)
+        self.assertEqual(self.names(), ["big"])
 
 
 class Long(WithPrograms):

@@ -6,11 +6,12 @@ import os
 import random
 import unittest
 
-from udfburn import errors as e, protocol as p
+from udfburn import protocol as p
+from udfburn.base import errors as e
 from udfburn.protocol import limits
 
 from .model import Directory, File
-from .test_session import WithServer
+from .with_server import WithServer
 
 MEBIBYTE = limits.FILE
 SIZES = {"short": 10, "one": MEBIBYTE, "more": MEBIBYTE + 1, "two": 2 * MEBIBYTE, "three": 2 * MEBIBYTE + 777}
@@ -58,8 +59,7 @@ class Pieces(WithServer):
         self.assertEqual(client.get_tree("/d", self.local), len(SIZES))
 
     def differences(self) -> "list[str]":
-        found: object = self.client().verify_tree(self.local, "/d")
-        return sorted(path for path, _ in getattr(found, "differences"))
+        return sorted(path for path, _ in self.client().verify_tree(self.local, "/d").differences)
 
     def test_verify(self) -> None:
         """Each piece is compared, and that there is no more."""

@@ -10,14 +10,17 @@ import subprocess
 import unittest
 from typing import Dict, List
 
-from udfburn import Client, errors as e
+from udfburn import Client
+from udfburn.base import errors as e
 from udfburn import protocol as p
-from udfburn.blocks import space_of
-from udfburn.operations import Operation
-from udfburn.tree import Options, put_all
+from udfburn.image.blocks import space_of
+from udfburn.protocol.units import Moment
+from udfburn.wire.operations import Operation
+from udfburn.trees.tree import Options, put_all
 
 from .model import Volume
 from .programs import PATIENCE, UDFBURN, WithPrograms
+from .with_files import store_in_parts
 from .test_protocol import conversation, random_name, section, unhex
 
 ALL_NAMES = ["a", "A", " ", "a b", "...", "-r", "é", "é" * 254, "x" * 254, "Ā" * 127, "\u0001\u001f", "\uffff", "~", "名前", "\u202eabc", "c:\\d", "e\u0301", "\n"]
@@ -89,7 +92,7 @@ def random_operation(chance: random.Random) -> Operation:
     kind = chance.choice((p.Create, p.Create, p.Replace, p.MakeDir, p.MakeDir, p.Rename, p.Remove))
     moment = chance.randrange(p.limits.MOMENT)
     data = chance.randbytes(chance.choice((0, 1, 1872, 1873, 2048, 9000)))
-    return Operation(kind, path(), moment, data if kind in (p.Create, p.Replace) else b"", path() if kind is p.Rename else ())
+    return Operation(kind, path(), Moment(moment), data if kind in (p.Create, p.Replace) else b"", path() if kind is p.Rename else ())
 
 
 class Folders(WithPrograms):
@@ -156,8 +159,12 @@ class Folders(WithPrograms):
         folder = os.path.dirname(local)
         os.truncate(self.write("larger", b""), p.limits.GREATEST_FILE + 1)
         self.assertIn("--split", self.run_command("put", os.path.join(self.room, "larger"), "/x", status=1))
-        self.run_command("put", "-r", "--split", folder, "/x")
+        # As earlier programs stored it.
+        store_in_parts(self)
+        with self.client() as client:
+            put_all(client, [(folder, ("x",))], Options(recursive=True, split=True))
         client = self.client()
+        self.run_command("put", "-r", "--split", folder, "/x")
         self.assertEqual([name.name for name in client.list("/x")], ["big.000", "big.001", "big.002"])
         self.assertEqual(b"".join(client.get(f"/x/big.{index:03}") for index in range(3)), big)
         self.run_command("verify", "--split", folder, "/x", "--exact")
@@ -175,7 +182,7 @@ class Folders(WithPrograms):
         self.run_command("verify", "--split", folder, "/x", "--exact")
         self.write("source/big", big)
         self.run_command("put", "-r", "--split", "--verify", "--delete-source", folder, "/x")
-        self.assertEqual([name.name for name in client.list("/x")], ["big.000", "big.001", "big.002"])
+        self.assertEqual([name.name for name in client.list("/x")], ["big"])
         self.assertFalse(os.path.exists(local))
 
     def test_as_of(self) -> None:
@@ -269,7 +276,7 @@ class Limits(WithPrograms):
                 client = self.on_image(ledger, image)
             done = []
             with self.assertRaises(e.Full):
-                for outcome in client.run(Operation(p.Create, (str(index),), 0, bytes(9000)) for index in range(200)):
+                for outcome in client.run(Operation(p.Create, (str(index),), Moment(0), bytes(9000)) for index in range(200)):
                     done.append(outcome.operation.path)
             self.assertEqual([(name.name,) for name in client.list("/")], done)
             self.assertGreater(len(done), 20)
@@ -295,7 +302,7 @@ class Limits(WithPrograms):
                 self.assertIn("blocks", str(error))
                 self.assertEqual(os.path.getsize(image), 262 * 2048, "nothing was sent")
                 with self.assertRaises(e.Full):
-                    for outcome in client.run(Operation(p.Create, (f"{index:03}",), 0, bytes(9000)) for index in range(count)):
+                    for outcome in client.run(Operation(p.Create, (f"{index:03}",), Moment(0), bytes(9000)) for index in range(count)):
                         self.assertIs(outcome.code, p.Code.DONE)
                 client.close()
                 return
@@ -361,7 +368,7 @@ class Limits(WithPrograms):
         client.mkdir("/d")
         client.create("/d/f", b"")
         client.makedirs("/d" + "/e" * 15)
-        list(client.run([Operation(p.MakeDir, ("full",), 0)] + [Operation(p.Create, ("full", str(index)), 0) for index in range(512)]))
+        list(client.run([Operation(p.MakeDir, ("full",), Moment(0))] + [Operation(p.Create, ("full", str(index)), Moment(0)) for index in range(512)]))
         cases = [
             (e.NoParent, "mkdir", ("/no/f",)), (e.NotFound, "remove", ("/no",)), (e.NotFound, "replace", ("/no", b"")), (e.Exists, "mkdir", ("/d",)),
             (e.IsDirectory, "replace", ("/d", b"")), (e.NotEmpty, "remove", ("/d",)), (e.IntoItself, "rename", ("/d", "/d/x")), (e.IsRoot, "remove", ("/",)),
@@ -376,8 +383,8 @@ class Limits(WithPrograms):
         client = self.on_image()
         operations = []
         for folder in range(9):
-            operations.append(Operation(p.MakeDir, (str(folder),), 0))
-            operations += [Operation(p.Create, (str(folder), str(index)), 0) for index in range(454 if folder < 8 else 454)]
+            operations.append(Operation(p.MakeDir, (str(folder),), Moment(0)))
+            operations += [Operation(p.Create, (str(folder), str(index)), Moment(0)) for index in range(454 if folder < 8 else 454)]
         outcomes = list(client.run(operations[:4095]))
         self.assertEqual({outcome.code for outcome in outcomes}, {p.Code.DONE})
         with self.assertRaises(e.TooMany):

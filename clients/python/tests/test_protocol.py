@@ -10,6 +10,7 @@ from typing import List, Tuple
 
 from udfburn import protocol as p
 from udfburn.protocol import names as name_module
+from udfburn.protocol.units import Commit, Moment
 
 DOCUMENT = os.path.join(os.path.dirname(__file__), "..", "..", "..", "docs", "PROTOCOL.md")
 
@@ -38,14 +39,14 @@ def conversation() -> List[Tuple[str, bytes, bytes]]:
 
 
 MESSAGES: List[p.Message] = [
-    p.MakeDir(7, 2, 0, ("d",)), p.Rename(7, 3, 0, ("a",), ("d", "b")), p.Replace(7, 4, 0, ("d", "b"), b"bye"),
-    p.Get(("d", "b")), p.List(("d",)), p.Stat(("d",)), p.Remove(7, 5, 0, ("d",)), p.Remove(7, 6, 0, ("d", "b")),
-    p.Rename(7, 3, 0, ("a",), ("d", "b")), p.MakeDir(7, 2, 0, ("d",)), p.Remove(7, 8, 0, ("d",)), p.Get(("a",)), p.Get(("d",)),
+    p.MakeDir(7, 2, Moment(0), ("d",)), p.Rename(7, 3, Moment(0), ("a",), ("d", "b")), p.Replace(7, 4, Moment(0), ("d", "b"), b"bye"),
+    p.Get(("d", "b")), p.List(("d",)), p.Stat(("d",)), p.Remove(7, 5, Moment(0), ("d",)), p.Remove(7, 6, Moment(0), ("d", "b")),
+    p.Rename(7, 3, Moment(0), ("a",), ("d", "b")), p.MakeDir(7, 2, Moment(0), ("d",)), p.Remove(7, 8, Moment(0), ("d",)), p.Get(("a",)), p.Get(("d",)),
 ]
 ANSWERS: List[p.Answer] = [
-    p.Committed(p.Code.DONE, 2), p.Committed(p.Code.DONE, 3), p.Committed(p.Code.DONE, 4), p.Data(b"bye"),
-    p.Names((p.Name(p.NodeKind.FILE, "b"),)), p.Node(p.NodeKind.DIRECTORY, 0, 1), p.Committed(p.Code.NOT_EMPTY, 5),
-    p.Committed(p.Code.DONE, 6), p.Committed(p.Code.DONE, 3), p.Stale(6), p.Gap(6), p.NOT_FOUND, p.IS_DIRECTORY,
+    p.Committed(p.Code.DONE, Commit(2)), p.Committed(p.Code.DONE, Commit(3)), p.Committed(p.Code.DONE, Commit(4)), p.Data(b"bye"),
+    p.Names((p.Name(p.NodeKind.FILE, "b"),)), p.Node(p.NodeKind.DIRECTORY, Moment(0), 1), p.Committed(p.Code.NOT_EMPTY, Commit(5)),
+    p.Committed(p.Code.DONE, Commit(6)), p.Committed(p.Code.DONE, Commit(3)), p.Stale(6), p.Gap(6), p.NOT_FOUND, p.IS_DIRECTORY,
     p.Malformed(p.Cause.CLIENT_ZERO),
 ]
 
@@ -56,11 +57,11 @@ class Document(unittest.TestCase):
     def test_the_example(self) -> None:
         text = section("An example")
         written = b"".join(unhex("".join(re.findall(r"`([^`]*)`", row[0]))) for row in cells(text)[1:])
-        create = p.Create(7, 1, 0, ("a",), b"hello")
+        create = p.Create(7, 1, Moment(0), ("a",), b"hello")
         self.assertEqual(p.frame(p.encode_message(create)), written)
         self.assertEqual(p.decode_message(written[4:]), create)
         quoted = [unhex(code) for code in re.findall(r"`((?:[0-9A-F]{2} ?)+)`", text.split("On a new volume", 1)[1])]
-        reply = p.frame(p.encode_answer(p.Committed(p.Code.DONE, 1)))
+        reply = p.frame(p.encode_answer(p.Committed(p.Code.DONE, Commit(1))))
         self.assertEqual(b"".join(quoted[:3]), reply)
         get, data, lists, names, stat = (
             p.frame(p.encode_message(p.Get(("a",)))), p.frame(p.encode_answer(p.Data(b"hello"))), p.frame(p.encode_message(p.List(()))),
@@ -68,7 +69,7 @@ class Document(unittest.TestCase):
         )
         whole = b"".join(quoted[3:])
         self.assertTrue(whole.startswith(get + data + lists + names + stat), whole.hex(" "))
-        node = p.encode_answer(p.Node(p.NodeKind.FILE, 0, 5))
+        node = p.encode_answer(p.Node(p.NodeKind.FILE, Moment(0), 5))
         self.assertEqual(node, unhex("42 00 00") + bytes(8) + b"\x05" + bytes(7))
         self.assertTrue(whole.endswith(unhex("00 00 00 80") + p.frame(p.encode_answer(p.Malformed(p.Cause.TOO_LONG)))))
 
@@ -110,7 +111,7 @@ class Faults(unittest.TestCase):
         return raised.exception.cause
 
     def test_each_cause(self) -> None:
-        good = p.encode_message(p.Create(7, 1, 0, ("a",), b"hello"))
+        good = p.encode_message(p.Create(7, 1, Moment(0), ("a",), b"hello"))
         self.assertEqual(self.fault(b"\x10" + bytes(p.limits.PAYLOAD)), p.Cause.TOO_LONG)
         for kind in (0, 7, 9, 15, 20, 255):
             self.assertEqual(self.fault(bytes((kind,)) + good[1:]), p.Cause.KIND)
@@ -131,11 +132,18 @@ class Faults(unittest.TestCase):
         self.assertEqual(self.fault(b"\x12\x01\xff\xffa"), p.Cause.SHORT)
         self.assertEqual(self.fault(b"\x12\x02\x01\x00."), p.Cause.PATH)
 
+    def test_characters(self) -> None:
+        """The first and the last character of each range that a name may have, and those beside them."""
+        for code in (0x1, 0xD7FF, 0xE000, 0xFEFE, 0xFF00, 0xFFFD, 0xFFFF):
+            self.assertIsNone(p.name_fault(chr(code)), hex(code))
+        for code in (0xD800, 0xDFFF, 0xFEFF, 0xFFFE, 0x10000, 0x10FFFF):
+            self.assertEqual(p.name_fault(chr(code)), name_module.NameFault.WIDE, hex(code))
+
     def test_what_cannot_be_said(self) -> None:
-        messages: List[p.Message] = [p.MakeDir(0, 1, 0, ("a",)), p.MakeDir(1, 0, 0, ("a",)), p.MakeDir(1, 1, p.limits.MOMENT, ("a",)), p.MakeDir(1, 1, -1, ("a",)),
-                        p.MakeDir(1 << 64, 1, 0, ("a",)), p.MakeDir(1, 1, 0, ("",)), p.MakeDir(1, 1, 0, ("a",) * 256), p.Create(1, 1, 0, ("a",), bytes(p.limits.FILE + 1)),
-                        p.Append(1, 1, 0, ("a",), 0, b""), p.Append(1, 1, 0, ("a",), -1, b"x"), p.Append(1, 1, 0, ("a",), 1 << 64, b"x"),
-                        p.Append(1, 1, 0, ("a",), 0, bytes(p.limits.FILE + 1))]
+        messages: List[p.Message] = [p.MakeDir(0, 1, Moment(0), ("a",)), p.MakeDir(1, 0, Moment(0), ("a",)), p.MakeDir(1, 1, Moment(p.limits.MOMENT), ("a",)), p.MakeDir(1, 1, Moment(-1), ("a",)),
+                        p.MakeDir(1 << 64, 1, Moment(0), ("a",)), p.MakeDir(1, 1, Moment(0), ("",)), p.MakeDir(1, 1, Moment(0), ("a",) * 256), p.Create(1, 1, Moment(0), ("a",), bytes(p.limits.FILE + 1)),
+                        p.Append(1, 1, Moment(0), ("a",), 0, b""), p.Append(1, 1, Moment(0), ("a",), -1, b"x"), p.Append(1, 1, Moment(0), ("a",), 1 << 64, b"x"),
+                        p.Append(1, 1, Moment(0), ("a",), 0, bytes(p.limits.FILE + 1))]
         for message in messages:
             with self.assertRaises(p.Fault):
                 p.encode_message(message)
@@ -208,23 +216,23 @@ class Values(unittest.TestCase):
     """Requests, queries and answers are equal where their classes and all their fields are."""
 
     def test_equal(self) -> None:
-        create = p.Create(1, 2, 3, ("a",), b"x")
-        self.assertEqual(create, p.Create(client=1, number=2, moment=3, path=("a",), data=b"x"))
+        create = p.Create(1, 2, Moment(3), ("a",), b"x")
+        self.assertEqual(create, p.Create(client=1, number=2, moment=Moment(3), path=("a",), data=b"x"))
         others = [
-            p.Replace(1, 2, 3, ("a",), b"x"), p.Create(9, 2, 3, ("a",), b"x"), p.Create(1, 9, 3, ("a",), b"x"), p.Create(1, 2, 9, ("a",), b"x"),
-            p.Create(1, 2, 3, ("b",), b"x"), p.Create(1, 2, 3, ("a",), b"y"), p.Append(1, 2, 3, ("a",), 0, b"x"), p.Get(("a",)), None, (1, 2, 3, ("a",), b"x"),
+            p.Replace(1, 2, Moment(3), ("a",), b"x"), p.Create(9, 2, Moment(3), ("a",), b"x"), p.Create(1, 9, Moment(3), ("a",), b"x"), p.Create(1, 2, Moment(9), ("a",), b"x"),
+            p.Create(1, 2, Moment(3), ("b",), b"x"), p.Create(1, 2, Moment(3), ("a",), b"y"), p.Append(1, 2, Moment(3), ("a",), 0, b"x"), p.Get(("a",)), None, (1, 2, 3, ("a",), b"x"),
         ]
         self.assertTrue(all(create != other for other in others))
         self.assertNotEqual(p.Stale(5), p.Gap(5))
-        self.assertNotEqual(p.Rename(1, 2, 3, ("a",), ("b",)), p.Rename(1, 2, 3, ("a",), ("c",)))
+        self.assertNotEqual(p.Rename(1, 2, Moment(3), ("a",), ("b",)), p.Rename(1, 2, Moment(3), ("a",), ("c",)))
         self.assertEqual(len({p.Stat(("a",)), p.Stat(("a",)), p.Get(("a",)), p.FULL, p.Bare(p.AnswerCode.FULL)}), 3)
 
     def test_shown(self) -> None:
-        self.assertEqual(repr(p.Rename(1, 2, 3, ("a",), ("b",))), "Rename(client=1, number=2, moment=3, path=('a',), to=('b',))")
+        self.assertEqual(repr(p.Rename(1, 2, Moment(3), ("a",), ("b",))), "Rename(client=1, number=2, moment=3, path=('a',), to=('b',))")
         self.assertEqual(repr(p.Gap(7)), "Gap(latest=7)")
 
     def test_no_other_fields(self) -> None:
-        for value in (p.Create(1, 2, 3, (), b""), p.MakeDir(1, 2, 3, ()), p.Stat(()), p.FULL, p.Node(p.NodeKind.FILE, 0, 0)):
+        for value in (p.Create(1, 2, Moment(3), (), b""), p.MakeDir(1, 2, Moment(3), ()), p.Stat(()), p.FULL, p.Node(p.NodeKind.FILE, Moment(0), 0)):
             with self.assertRaises(AttributeError):
                 setattr(value, "another", 1)
 
@@ -241,7 +249,7 @@ def random_name(chance: random.Random) -> str:
 
 
 def random_message(chance: random.Random) -> p.Message:
-    numbers = (chance.randint(1, p.limits.U64), chance.randint(1, p.limits.U64), chance.randrange(p.limits.MOMENT))
+    numbers = (chance.randint(1, p.limits.U64), chance.randint(1, p.limits.U64), Moment(chance.randrange(p.limits.MOMENT)))
     path, data = random_path(chance), chance.randbytes(chance.choice((0, 1, 5, 5000)))
     messages: List[p.Message] = [
         p.Create(*numbers, path, data), p.Replace(*numbers, path, data), p.MakeDir(*numbers, path), p.Rename(*numbers, path, random_path(chance)),
@@ -254,10 +262,10 @@ def random_message(chance: random.Random) -> p.Message:
 def random_answer(chance: random.Random) -> p.Answer:
     names = list(dict.fromkeys(random_name(chance) for _ in range(chance.choice((0, 1, 9, 100)))))
     answers: List[p.Answer] = [
-        p.Committed(chance.choice(list(p.Code)), chance.randrange(1 << 32)), p.Stale(chance.randrange(1 << 64)), p.Gap(chance.randrange(1 << 64)),
+        p.Committed(chance.choice(list(p.Code)), Commit(chance.randrange(1 << 32))), p.Stale(chance.randrange(1 << 64)), p.Gap(chance.randrange(1 << 64)),
         p.Malformed(chance.choice(list(p.Cause))), p.Data(chance.randbytes(chance.choice((0, 9, 9000)))), chance.choice(list(p.BARE.values())),
         p.Names(tuple(p.Name(chance.choice(list(p.NodeKind)), name) for name in names)),
-        p.Node(p.NodeKind.FILE, chance.randrange(p.limits.MOMENT), chance.randrange(p.limits.FILE + 1)),
+        p.Node(p.NodeKind.FILE, Moment(chance.randrange(p.limits.MOMENT)), chance.randrange(p.limits.FILE + 1)),
     ]
     return chance.choice(answers)
 

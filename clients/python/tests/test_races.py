@@ -8,14 +8,16 @@ import shutil
 import unittest
 from typing import Callable, Dict, Iterator, Tuple
 
-from udfburn import UdfburnError, fetch
-from udfburn.client import Client
-from udfburn.salvage_write import InTheWay, Output
-from udfburn.tree import Options, put_all
+from udfburn import UdfburnError
+from udfburn.protocol.units import Moment
+from udfburn.trees import fetch
+from udfburn.trees.client import Client
+from udfburn.salvage.write import InTheWay, Output
+from udfburn.trees.tree import Options, put_all
 
 from .model import Volume
 from .swaps import REAL, Swap, Turned, picture
-from .test_local import Local
+from .with_files import Local
 
 SECRET = b"what nobody may read"
 
@@ -129,8 +131,8 @@ class Races(Local):
                 output = Output(self.back)
                 try:
                     for key, (names, data) in enumerate(self.files().items()):
-                        output.folder(names[:-1], 0, "x")
-                        output.write(key, names, data, 0, str(key))
+                        output.folder(names[:-1], Moment(0), "x")
+                        output.write(key, names, data, Moment(0), str(key))
                     output.finish()
                 finally:
                     output.close()

@@ -10,8 +10,11 @@ import unittest
 from typing import Dict
 
 from udfburn.protocol import Create, MakeDir, Path
+from udfburn.protocol.units import Address, BlockNumber, Commit, Moment, VirtualAddress
 from udfburn.reader import Cause, Kind, MapError, Medium, NoVolume, RescueMap, State, Volume
 from udfburn.reader import basics, directory, entry, front
+from udfburn.reader.notes import Notes
+from udfburn.salvage.salvage import Salvage
 
 from .model import Directory, File, Volume as Model
 from .programs import UDFBURN
@@ -26,10 +29,10 @@ class Basics(unittest.TestCase):
         self.assertEqual(basics.crc(bytes([0x70, 0x6A, 0x77])), 0x3299)
 
     def test_timestamps(self) -> None:
-        self.assertEqual(basics.write_timestamp(0), bytes.fromhex("0010b2070101000000000000"))
-        self.assertEqual(basics.write_timestamp(1_234_567)[-4:], bytes.fromhex("01172d43"))
+        self.assertEqual(basics.write_timestamp(Moment(0)), bytes.fromhex("0010b2070101000000000000"))
+        self.assertEqual(basics.write_timestamp(Moment(1_234_567))[-4:], bytes.fromhex("01172d43"))
         for moment in (0, 1, 1_234_567, basics.MOMENTS - 1, 951_782_400_000_000):
-            self.assertEqual(basics.read_timestamp(basics.write_timestamp(moment)), moment)
+            self.assertEqual(basics.read_timestamp(basics.write_timestamp(Moment(moment))), moment)
         for wrong in ("0010b2070001000000000000", "0010b2070230000000000000", "0010b20701010000003c0000"[:22] + "64", "0110b2070101000000000000"):
             self.assertIsNone(basics.read_timestamp(bytes.fromhex(wrong)), wrong)
 
@@ -43,7 +46,7 @@ class Basics(unittest.TestCase):
 
     def test_terminating_descriptor(self) -> None:
         """Its tag, computed by hand: the CRC of zeros is zero."""
-        block = front.blocks_of_front("DISC", 0, 3000)[37]
+        block = front.blocks_of_front("DISC", Moment(0), 3000)[37]
         self.assertEqual(block[:16].hex(), "08000300220001000000f00125000000")
 
 
@@ -102,7 +105,7 @@ class Reader(unittest.TestCase):
             states.append({path: getattr(node, "data", None) for path, node in writer.model.nodes.items()})
         volume = Volume(self.medium())
         for commit, paths in enumerate(states, 1):
-            state = volume.state(commit)
+            state = volume.state(Commit(commit))
             read = {node.path: volume.read(node).data if node.kind is Kind.FILE else None for node in state.walk()}
             self.assertEqual(read, paths)
         self.assertRaises(NoVolume, volume.state, 41)
@@ -117,11 +120,11 @@ class Reader(unittest.TestCase):
     def test_cut_commits(self) -> None:
         """What was cut is passed by, and blocks of it are no state."""
         format_image(self.image)
-        apply_messages(self.image, [Create(7, 1, 5, ("a",), b"x" * 9000)])
+        apply_messages(self.image, [Create(7, 1, Moment(5), ("a",), b"x" * 9000)])
         with open(self.image, "r+b") as file:
             file.truncate(os.path.getsize(self.image) - 2048)
         self.assertEqual(Volume(self.medium()).chain()[0].commit, 0)
-        apply_messages(self.image, [Create(7, 1, 5, ("b",), b"y" * 9000)])
+        apply_messages(self.image, [Create(7, 1, Moment(5), ("b",), b"y" * 9000)])
         volume = Volume(self.medium())
         self.assertEqual([node.path for node in volume.state().walk()], [(), ("b",)])
         self.assertEqual(volume.check().all(), [])
@@ -133,7 +136,7 @@ class Reader(unittest.TestCase):
             file.seek(261 * 2048)
             stale = file.read(2048)
         moved = basics.write_tag(entry.FILE_ENTRY, stale[16:192], 8) + stale[16:]
-        apply_messages(self.image, [Create(7, 1, 5, ("a",), stale * 3 + moved * 9)])
+        apply_messages(self.image, [Create(7, 1, Moment(5), ("a",), stale * 3 + moved * 9)])
         volume = Volume(self.medium())
         self.assertEqual([table.commit for table in volume.chain()], [1, 0])
         self.assertEqual(volume.check().all(), [])
@@ -157,16 +160,16 @@ class Reader(unittest.TestCase):
             self.assertEqual((entry.write_entry(found), faults), (block, []))
             if node.kind is Kind.DIRECTORY and node.data is not None and node.size < 2048:
                 data = medium.run(node.data, node.blocks).data
-                laid = directory.write_identifier("", directory.IS_PARENT, node.above, 0, 0, node.data - 257)
+                laid = directory.write_identifier("", directory.IS_PARENT, node.above, 0, 0, BlockNumber(node.data - 257))
                 for name in state.names(node):
                     kind = directory.IS_DIRECTORY if name.is_directory else 0
-                    laid += directory.write_identifier(name.name, kind, name.virtual, name.unique, 0, node.data - 257)
+                    laid += directory.write_identifier(name.name, kind, name.virtual, name.unique, 0, BlockNumber(node.data - 257))
                 self.assertEqual(laid, data[: node.size])
 
     def test_one_block_changed(self) -> None:
         """Each structure of a small volume, where a byte of it is changed, is noted at its block."""
         format_image(self.image)
-        apply_messages(self.image, [MakeDir(7, 1, 5, ("d",)), Create(7, 2, 6, ("d", "f"), b"x" * 5000), Create(7, 3, 7, ("g",), b"small")])
+        apply_messages(self.image, [MakeDir(7, 1, Moment(5), ("d",)), Create(7, 2, Moment(6), ("d", "f"), b"x" * 5000), Create(7, 3, Moment(7), ("g",), b"small")])
         with open(self.image, "rb") as file:
             whole = file.read()
         state = Volume(self.medium()).state()
@@ -184,6 +187,83 @@ class Reader(unittest.TestCase):
                 elif (at, byte) != (state.table.first + 257, 2047):
                     self.assertIn(at, {note.block for note in volume.check().all()}, (at, byte))
 
+    def test_a_file_set_of_another_volume(self) -> None:
+        """It is noted, also where another structure is wrong: then what structures say of each other is not compared."""
+        format_image(self.image)
+        with open(self.image, "rb") as file:
+            whole = file.read()
+        at = Volume(self.medium()).state().address(VirtualAddress(0))
+        assert at is not None
+        for label, moment, wrong in (("TEST", 0, False), ("OTHER", 0, True), ("TEST", 1, True)):
+            for changed in (b"\0", b"x"):
+                with open(self.image, "wb") as file:
+                    file.write(whole)
+                    file.seek(100 * 2048)
+                    file.write(changed)
+                    file.seek(at * 2048)
+                    file.write(entry.write_file_set(label, Moment(moment)))
+                expected = [(100, Cause.FRONT)] * (changed == b"x") + [(at, Cause.LABELS)] * wrong
+                for notes in (Volume(self.medium()).check().all(), Salvage(self.medium()).notes):
+                    self.assertEqual([(note.block, note.cause) for note in notes], expected, (label, moment))
+
+
+class Fronts(unittest.TestCase):
+    """Volume headers of which one place alone says a value, or none does."""
+
+    PLACES = {"label": (32, 48, 35, 51, 33, 49), "moment": (32, 48, 64), "capacity": (34, 50, 64)}
+    """The blocks that say each value, in the order in which they are asked."""
+
+    def setUp(self) -> None:
+        room = tempfile.TemporaryDirectory()
+        self.addCleanup(room.cleanup)
+        self.image, self.map = os.path.join(room.name, "disc.img"), os.path.join(room.name, "map")
+        self.blocks = front.blocks_of_front("DISC", Moment(1_700_000_000_000_000), 50_000)
+
+    def read(self, blocks: Dict[int, bytes], missing: "tuple[int, ...]" = ()) -> "tuple[front.Front, list[tuple[int, Cause]]]":
+        """What a volume header with these blocks says, and what is noted of it."""
+        with open(self.image, "wb") as file:
+            file.write(b"".join(blocks.get(at, bytes(2048)) for at in range(257)))
+        with open(self.map, "w", encoding="ascii") as file:
+            file.write("0x0 + 1\n" + "".join(f"{at * 2048:#x} 2048 {'-' if at in missing else '+'}\n" for at in range(257)))
+        with Medium(self.image, self.map) as medium:
+            found, notes = front.read_front(medium), Notes()
+            front.note_front(medium, found, notes)
+        return found, [(note.block, note.cause) for note in notes.all()]
+
+    def loose(self, block: bytes) -> bytes:
+        """The block with a wrong CRC."""
+        return block[:8] + bytes([block[8] ^ 1]) + block[9:]
+
+    def test_one_place_alone(self) -> None:
+        whole = front.Front("DISC", Moment(1_700_000_000_000_000), 50_000)
+        self.assertEqual(self.read(self.blocks), (whole, []))
+        for name, places in self.PLACES.items():
+            for kept in places:
+                blocks = {at: block for at, block in self.blocks.items() if at not in places or at == kept}
+                self.assertEqual(self.read(blocks)[0], whole, (name, kept))
+                # Also where its CRC is wrong.
+                blocks[kept] = self.loose(blocks[kept])
+                self.assertEqual(self.read(blocks)[0], whole, (name, kept))
+
+    def test_one_that_is_whole_comes_first(self) -> None:
+        other = front.blocks_of_front("OTHER", Moment(5), 60_000)
+        for name, places in self.PLACES.items():
+            blocks = {**self.blocks, **{at: self.loose(other[at]) for at in places[:-1]}}
+            self.assertEqual(getattr(self.read(blocks)[0], name), getattr(self.read(self.blocks)[0], name), name)
+            blocks = {**self.blocks, **{at: self.loose(self.blocks[at]) for at in places}, places[0]: self.loose(other[places[0]])}
+            self.assertEqual(getattr(self.read(blocks)[0], name), getattr(self.read(other)[0], name), name)
+
+    def test_no_place(self) -> None:
+        """What follows from the value is not compared."""
+        for name, at in (("label", 32), ("moment", 32), ("capacity", 34)):
+            found, notes = self.read({at: block for at, block in self.blocks.items() if at not in self.PLACES[name]})
+            self.assertIsNone(getattr(found, name))
+            self.assertEqual(notes, [(at, Cause.FRONT)], name)
+
+    def test_blocks_that_differ(self) -> None:
+        self.assertEqual(self.read(self.blocks, missing=(40,))[1], [(40, Cause.MISSING)])
+        self.assertEqual(self.read({**self.blocks, 40: b"x".ljust(2048, b"\0")})[1], [(40, Cause.FRONT)])
+
 
 class Missing(unittest.TestCase):
     """Blocks that cannot be had."""
@@ -198,9 +278,9 @@ class Missing(unittest.TestCase):
     def test_short(self) -> None:
         with Medium(self.path) as medium:
             self.assertEqual(medium.blocks, 8)
-            self.assertIsNone(medium.block(8))
-            self.assertIsNone(medium.block(-1))
-            run = medium.run(6, 4)
+            self.assertIsNone(medium.block(Address(8)))
+            self.assertIsNone(medium.block(Address(-1)))
+            run = medium.run(Address(6), 4)
             self.assertEqual(run.missing, (8, 9))
             self.assertEqual(run.data[:4], struct.pack("<I", 6))
             self.assertEqual(run.data[4096:], bytes(4096))
@@ -212,8 +292,8 @@ class Missing(unittest.TestCase):
             file.write("# Mapfile. Created by GNU ddrescue\n0x00000000     +               1\n")
             file.write("0x00000000  0x00001000  +\n0x00001000  0x00000200  -\n0x00001200  0x00001E00  +\n0x00003000  0x00000800  ?\n0x00003800 0x00000800  +\n")
         with Medium(self.path, rescue) as medium:
-            self.assertEqual([at for at in range(8) if medium.block(at) is None], [2, 6])
-            self.assertEqual(medium.run(0, 8).missing, (2, 6))
+            self.assertEqual([at for at in range(8) if medium.block(Address(at)) is None], [2, 6])
+            self.assertEqual(medium.run(Address(0), 8).missing, (2, 6))
         with open(rescue, "w", encoding="ascii") as file:
             file.write("nothing of a map\n")
         self.assertRaises(MapError, RescueMap.load, rescue)

@@ -58,10 +58,10 @@ class Recipes(WithPrograms):
         for name, data in {"a": b"one", "below/b": b"two", "big": bytes(p.limits.FILE + 1)}.items():
             self.write(f"photos/{name}", data)
         put, check = self.here(recipes()["A bag"], **{"~/photos/2026": os.path.join(self.room, "photos"), "disc.img": self.image}).splitlines()
-        self.assertIn("sealed 4 files", self.command(put))
+        self.assertIn("sealed 3 files", self.command(put))
         shutil.rmtree(os.path.join(self.room, "photos"))
         os.unlink(self.ledger)
-        self.assertIn("8 files", self.command(check))
+        self.assertIn("7 files", self.command(check))
         copy = os.path.join(self.room, "copy")
         bags.copy_by_reader(self.image, copy)
         self.assertEqual(bags.faults(os.path.join(copy, "photos", "2026")), [])
@@ -70,14 +70,12 @@ class Recipes(WithPrograms):
         files = {"a": b"one", "below/b": b"two", "big": bytes(p.limits.FILE + 1)}
         for name, data in files.items():
             self.write(f"photos/{name}", data)
-        text = self.here(recipes()["Archive a folder"], **{"~/photos/2026": os.path.join(self.room, "photos")})
-        put, verify = text.splitlines()
+        put = self.here(recipes()["Archive a folder"], **{"~/photos/2026": os.path.join(self.room, "photos")})
         self.assertIn("stored 3 files", self.command(put))
         commits = self.commits()
         self.assertIn("3 were there", self.command(put))
         self.assertEqual(self.commits(), commits)
-        self.assertIn("3 files", self.command(verify))
-        self.assertEqual(self.client().get("/photos/2026/below/b"), b"two")
+        self.assertEqual({name: self.client().get(f"/photos/2026/{name}") for name in files}, files)
 
     def test_a_recorder(self) -> None:
         code = self.here(
@@ -109,8 +107,8 @@ class Interrupted(WithPrograms):
     """Ctrl-C in the middle of an import."""
 
     def interrupted(self, steps: int, words: List[str]) -> str:
-        """Runs a command to one of its steps, sends it the signal, and gives its last line. Its lines go into a pipe that has room for
-        few of them, and no more are read: so it cannot be at its end when the signal comes, however late that is."""
+        """Runs a command until it has printed so many lines, sends it the signal, and gives its last line. Its lines go into a pipe that
+        has room for few of them, and no more are read: so it cannot be at its end when the signal comes, however late that is."""
 
         def begin() -> None:
             # Also where this test itself was started with the signal ignored.
@@ -123,7 +121,8 @@ class Interrupted(WithPrograms):
         os.close(sink)
         with open(source, "rb", buffering=0) as lines:
             for _ in range(steps):
-                self.assertTrue(lines.readline(), "the command ended before")
+                if not lines.readline():
+                    self.fail(f"the command ended before: {process.communicate(timeout=PATIENCE)}")
             process.send_signal(signal.SIGINT)
             lines.readall()
         told = process.communicate(timeout=PATIENCE)
@@ -139,8 +138,9 @@ class Interrupted(WithPrograms):
             self.write(f"source/{index}", b"%d" % index)
         folder, path = os.path.join(self.room, "source"), "/" + "/".join(above)
         put = ["put", "-r", "-p", "--skip-same", folder, path]
+        # Files that are there already print no line, so each command has as many to print as there are still to store.
         for steps in (1, 5, 10, 20, 40):
-            self.assertIn("finishes what is under way", self.interrupted(self.commits() + steps, self.words(*put)))
+            self.assertIn("finishes what is under way", self.interrupted(steps, self.words(*put)))
             self.assertLess(self.commits(), len(above) + count)
             self.assertRegex(self.run_command("resume"), "[0-4] requests? w(as|ere) pending")
         self.run_command(*put)

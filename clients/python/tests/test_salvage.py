@@ -11,8 +11,9 @@ from typing import Callable, Dict, List, Optional, Tuple
 from unittest import mock
 
 from udfburn.protocol import Create, MakeDir, Message, Path, Remove, Rename, Replace
+from udfburn.protocol.units import Address, Commit
 from udfburn.reader import Kind, Medium, Volume
-from udfburn.salvage import DAMAGED, EARLIER, LOST, NAMELESS, UNFINISHED, UNPROVED, NothingToSalvage, Outcome, Salvage
+from udfburn.salvage.salvage import DAMAGED, EARLIER, LOST, NAMELESS, UNFINISHED, UNPROVED, NothingToSalvage, Outcome, Salvage
 
 from .model import Volume as Model
 from .programs import UDFBURN
@@ -82,7 +83,7 @@ class Damaged(unittest.TestCase):
             assert node is not None
             return node.address, node.data, node.blocks
 
-    def salvage(self, commit: Optional[int] = None) -> Tuple[Found, List[str]]:
+    def salvage(self, commit: Optional[Commit] = None) -> Tuple[Found, List[str]]:
         """All files as they come out, and the notes."""
         with Medium(self.image) as medium:
             found = Salvage(medium, commit)
@@ -232,7 +233,7 @@ class Salvaging(Damaged):
         gone = {data + 1, data + blocks - 1}
 
         def unread(medium: Medium, address: int, count: int) -> Optional[bytes]:
-            return None if gone & set(range(address, address + count)) else read(medium, address, count)
+            return None if gone & set(range(address, address + count)) else read(medium, Address(address), count)
 
         with mock.patch.object(Medium, "_read", unread):
             files, notes = self.salvage()
@@ -251,7 +252,7 @@ class Salvaging(Damaged):
         notes = self.expect_all()
         self.assertIn(f"block {chain[4].address} ", " ".join(notes))
         for commit in range(10):
-            self.salvage(commit)
+            self.salvage(Commit(commit))
 
     def test_cut_copies(self) -> None:
         """A copy that ends anywhere is one of the last commit that is whole in it."""

@@ -14,10 +14,10 @@ from pathlib import Path
 from typing import Callable, List, Tuple
 from unittest import mock
 
-from udfburn import cli
+from udfburn.commands import cli
 from udfburn.protocol import Create, MakeDir
-from udfburn.salvage import DAMAGED, UNPROVED, WHOLE
-from udfburn.saving import write_all
+from udfburn.salvage.salvage import DAMAGED, UNPROVED, WHOLE
+from udfburn.local.saving import write_all
 
 from .programs import PACKAGE, UDFBURN, run_client
 from .test_salvage import BLOCK, Damaged
@@ -119,7 +119,7 @@ class Commands(Damaged):
             return write_all(descriptor, data)
 
         errors = StringIO()
-        with mock.patch("udfburn.salvage_write.write_all", fills), redirect_stdout(StringIO()), redirect_stderr(errors):
+        with mock.patch("udfburn.salvage.write.write_all", fills), redirect_stdout(StringIO()), redirect_stderr(errors):
             self.assertEqual(cli.main(["salvage", self.image, out]), 1)
         self.assertIn(f"{out}: its disk is full (No space left on device): the files copied so far are complete", errors.getvalue())
         self.assertEqual(self.written(out), 2)

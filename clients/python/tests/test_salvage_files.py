@@ -10,8 +10,9 @@ from typing import Any, Dict
 from unittest import mock
 
 from udfburn.protocol import Path
-from udfburn.salvage_digests import Digests, Manifest, add_manifests, folder_of, lines_of
-from udfburn.salvage_write import InTheWay, Output, fitting
+from udfburn.protocol.units import Address, Moment
+from udfburn.salvage.digests import Digests, Manifest, add_manifests, folder_of, lines_of
+from udfburn.salvage.write import InTheWay, Output, fitting
 
 
 class Writing(unittest.TestCase):
@@ -31,7 +32,7 @@ class Writing(unittest.TestCase):
         """Two paths that are written alike get names of their own."""
         output = Output(self.room)
         for key, name in enumerate(["é" * 200 + "a", "é" * 200 + "b", "é" * 200 + "c"]):
-            output.write(key, (name,), b"%d" % key, 0, str(key))
+            output.write(key, (name,), b"%d" % key, Moment(0), str(key))
         done = output.finish()
         output.close()
         self.assertEqual(len(os.listdir(self.room)), 3)
@@ -43,7 +44,7 @@ class Writing(unittest.TestCase):
     def test_interrupted(self) -> None:
         """What has no name yet is gone."""
         output = Output(self.room)
-        output.write(0, ("d", "a"), b"x", 0, "1")
+        output.write(0, ("d", "a"), b"x", Moment(0), "1")
         output.close()
         self.assertEqual(os.listdir(os.path.join(self.room, "d")), [])
 
@@ -64,7 +65,7 @@ class Writing(unittest.TestCase):
         self.addCleanup(output.close)
         with mock.patch("os.mkdir", refusing(mkdir)), mock.patch("os.link", refusing(link)), mock.patch("os.open", refusing(opened)):
             self.assertRaisesRegex(InTheWay, "was not written: Invalid argument", output.folder, ("d:",), 0, "1")
-            done = [*output.write(0, ("a:",), b"x", 0, "2"), *output.write(1, ("d:", "b"), b"x", 0, "3"), *output.write(2, ("c",), b"x", 0, "4")]
+            done = [*output.write(0, ("a:",), b"x", Moment(0), "2"), *output.write(1, ("d:", "b"), b"x", Moment(0), "3"), *output.write(2, ("c",), b"x", Moment(0), "4")]
             done += output.finish()
         why = "was not written: Invalid argument"
         self.assertEqual(sorted((found.path, found.error) for found in done), [("a:", why), ("c", None), ("d:/b", why)])
@@ -73,8 +74,8 @@ class Writing(unittest.TestCase):
     def test_synced_before_it_is_named(self) -> None:
         output = Output(self.room)
         self.addCleanup(output.close)
-        with mock.patch("udfburn.salvage_write.os.fsync", side_effect=OSError("no room")):
-            output.write(0, ("a",), b"x", 0, "1")
+        with mock.patch("udfburn.salvage.write.os.fsync", side_effect=OSError("no room")):
+            output.write(0, ("a",), b"x", Moment(0), "1")
             self.assertRaises(OSError, output.flush)
         self.assertNotIn("a", os.listdir(self.room))
 
@@ -103,14 +104,14 @@ class Manifests(unittest.TestCase):
         digests, mine, other = Digests(), "ab" * 32, "cd" * 32
         line = f"{mine}  file\n".encode()
         found = [
-            Manifest(("manifest-sha256.txt",), (), line, "ef" * 32, False, 500),
-            Manifest(("tagmanifest-sha256.txt",), (), f"{'00' * 32}  manifest-sha256.txt\n".encode(), "11" * 32, False, 502),
+            Manifest(("manifest-sha256.txt",), (), line, "ef" * 32, False, Address(500)),
+            Manifest(("tagmanifest-sha256.txt",), (), f"{'00' * 32}  manifest-sha256.txt\n".encode(), "11" * 32, False, Address(502)),
         ]
         add_manifests(digests, found, set())
-        self.assertEqual([digests.agrees(("file",), digest, 400) for digest in (mine, other)], [True, None])
+        self.assertEqual([digests.agrees(("file",), digest, Address(400)) for digest in (mine, other)], [True, None])
         digests = Digests()
         add_manifests(digests, found[:1], set())
-        self.assertEqual([digests.agrees(("file",), digest, 400) for digest in (mine, other)], [True, False])
+        self.assertEqual([digests.agrees(("file",), digest, Address(400)) for digest in (mine, other)], [True, False])
         # A file that was written after its manifest may be another.
-        self.assertEqual([digests.agrees(("file",), digest, 600) for digest in (mine, other)], [True, None])
-        self.assertIsNone(digests.agrees(("x",), other, 400))
+        self.assertEqual([digests.agrees(("file",), digest, Address(600)) for digest in (mine, other)], [True, None])
+        self.assertIsNone(digests.agrees(("x",), other, Address(400)))

@@ -10,16 +10,20 @@ import unittest
 from typing import Dict, List
 from unittest import mock
 
-from udfburn import Client, errors as e
+from udfburn import Client
+from udfburn.base import errors as e
 from udfburn import protocol as p
-from udfburn.manifest import Line, bag_manifest, plain_manifest, read_manifest
-from udfburn.seal import seal
+from udfburn.base.manifest import Line, bag_manifest, plain_manifest, read_manifest
+from udfburn.protocol.units import Moment
+from udfburn.trees.seal import seal
+from udfburn.trees.tree import Options, put_all
 
 from . import bags
 from .model import File
-from .programs import WithPrograms
+from .programs import UDFBURN, WithPrograms
 from .test_kills import killer
-from .test_session import WithServer
+from .with_files import store_in_parts
+from .with_server import WithServer
 
 ODD = ("a name", "100%", "%25", "new\nline", "cr\rname", "back\\slash", "\\", "ends\r", "é", "中", "-c", "*star", "two\n\r%lines")
 FULL = p.limits.FILE
@@ -128,6 +132,9 @@ class Bags(WithPrograms):
         """The manifest has the parts, as other readers see them."""
         self.write("source/big", os.urandom(2 * FULL + 9))
         where = ["--image", self.image]
+        store_in_parts(self)
+        with Client(f"image:{self.image}", ledger=self.ledger, program=UDFBURN) as client:
+            put_all(client, [(os.path.join(self.room, "source"), ("bag", "data"))], Options(recursive=True, parents=True, split=True))
         self.run_command("put", "-r", "--split", "--seal", os.path.join(self.room, "source"), "/bag", where=where)
         bag = os.path.join(self.copied(), "bag")
         self.assertEqual(bags.faults(bag), [])
@@ -148,9 +155,9 @@ class Sealed(WithServer):
     def setUp(self) -> None:
         super().setUp()
         self.one = self.client()
-        self.one.makedirs("/bag/data/d", 1)
+        self.one.makedirs("/bag/data/d", Moment(1))
         for name in ("a", "d/b", "d/c"):
-            self.one.create(f"/bag/data/{name}", name.encode() * 9, 5)
+            self.one.create(f"/bag/data/{name}", name.encode() * 9, Moment(5))
 
     def files(self) -> Dict[str, bytes]:
         return {p.show(path): node.data for path, node in self.volume.nodes.items() if isinstance(node, File)}
@@ -189,7 +196,7 @@ class Sealed(WithServer):
 
     def put_refuses(self) -> None:
         """Nor is a source deleted, where the volume has other bytes than were sent."""
-        from udfburn import cli
+        from udfburn.commands import cli
 
         source = os.path.join(self.room, "source", "file")
         os.makedirs(os.path.dirname(source))
@@ -229,7 +236,7 @@ class Sealed(WithServer):
             lines += 211
             # Other bytes each time, so that there is something to write.
             with self.client() as client:
-                client.replace("/bag/data/a", b"%d" % lines, 5)
+                client.replace("/bag/data/a", b"%d" % lines, Moment(5))
             child = os.fork()
             if not child:
                 try:
@@ -256,7 +263,7 @@ class Sealed(WithServer):
 
     def test_a_manifest_among_the_sources(self) -> None:
         """Sealing would replace it, and then its source is deleted."""
-        from udfburn import cli
+        from udfburn.commands import cli
 
         source = os.path.join(self.room, "source")
         os.makedirs(os.path.join(source, "d"))
@@ -274,7 +281,7 @@ class Sealed(WithServer):
         """It is sealed as it is read; the count says that it was compared with nothing."""
         with Client(f"unix:{self.server.path}", ledger=os.path.join(self.room, "other.sqlite")) as other:
             other.create("/bag/data/theirs", b"theirs")
-            other.replace("/bag/data/a", b"theirs too", 6)
+            other.replace("/bag/data/a", b"theirs too", Moment(6))
         self.one.close()
         with Client(f"unix:{self.server.path}", ledger=self.ledger, shared=True) as client:
             sealed = seal(client, ("bag",))

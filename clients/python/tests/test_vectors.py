@@ -7,6 +7,7 @@ from typing import Dict, List
 
 from udfburn import protocol as p
 from udfburn.protocol.names import has_spelling
+from udfburn.protocol.units import Commit, Moment
 
 from .vectors import Answer, answers, bytes_of, shown, text_shown
 
@@ -70,7 +71,7 @@ def answer_of(words: List[str]) -> p.Answer:
     if kind in BARE:
         return BARE[kind]
     if kind == "code":
-        return p.Committed(p.Code(int(rest[0])), int(rest[2]))
+        return p.Committed(p.Code(int(rest[0])), Commit(int(rest[2])))
     if kind == "stale":
         return p.Stale(int(rest[0]))
     if kind == "gap":
@@ -82,7 +83,7 @@ def answer_of(words: List[str]) -> p.Answer:
     if kind == "names":
         pairs = zip(rest[::2], rest[1::2])
         return p.Names(tuple(p.Name(p.NodeKind[word.upper()], bytes_of([name]).decode()) for word, name in pairs))
-    return p.Node(p.NodeKind[rest[0].upper()], int(rest[2]), int(rest[4]))
+    return p.Node(p.NodeKind[rest[0].upper()], Moment(int(rest[2])), int(rest[4]))
 
 
 class Vectors(unittest.TestCase):

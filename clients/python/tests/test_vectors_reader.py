@@ -7,6 +7,7 @@ import tempfile
 import unittest
 from typing import Iterable, List, Optional
 
+from udfburn.protocol.units import BlockNumber, Size
 from udfburn.reader import Medium, Volume, basics, directory, entry, front, table
 
 from .vectors import Answer, answers, shown, text_shown
@@ -134,7 +135,7 @@ class Reader(unittest.TestCase):
     def test_directories(self) -> None:
         for case, data, question, answer in self.each("directory.txt", 138, "directory"):
             with self.subTest(case):
-                read, faults = directory.read_directory(data, int(question[2]), int(question[1]))
+                read, faults = directory.read_directory(data, Size(int(question[2])), BlockNumber(int(question[1])))
                 told = first(faults)
                 if told is None:
                     told = ["parent", str(read.parent)]
@@ -145,7 +146,7 @@ class Reader(unittest.TestCase):
     def test_tables(self) -> None:
         for case, data, question, answer in self.each("table.txt", 120, "table"):
             with self.subTest(case):
-                self.assertEqual(first(table.table_faults(data, int(question[1]))) or table_said(data), answer)
+                self.assertEqual(first(table.table_faults(data, BlockNumber(int(question[1])))) or table_said(data), answer)
 
 
 class Media(unittest.TestCase):

@@ -11,13 +11,16 @@ from hashlib import sha256
 from typing import Callable, List, Optional, Type
 from unittest import mock
 
-from udfburn import Client, errors as e
-from udfburn.connection import ImageConnection, Lost
-from udfburn.identity import opened_path
-from udfburn.operations import Operation
+from udfburn import Client
+from udfburn.base import errors as e
+from udfburn.wire.connection import ImageConnection, Lost
+from udfburn.image.identity import opened_path
+from udfburn.wire.operations import Operation
 from udfburn.protocol import Create
-from udfburn.recognition import see
-from udfburn.session import InFlightRequest, Session
+from udfburn.protocol.units import Moment
+from udfburn.session.recognition import see
+from udfburn.session.in_flight import InFlightRequest
+from udfburn.session.session import Session
 
 from .programs import UDFBURN, Daemon, WithPrograms
 
@@ -64,7 +67,7 @@ class Which(WithPrograms):
 
     def store(self, path: str, data: bytes = b"data", ledger: Optional[str] = None, moment: int = 5, shared: bool = False) -> int:
         with self.at_way(ledger, shared) as client:
-            return client.create(path, data, moment)
+            return client.create(path, data, Moment(moment))
 
     def refused(self, error: Type[e.LedgerError], words: str) -> None:
         """Whatever is asked is refused by this error alone, and what is there stays as it is."""
@@ -140,10 +143,10 @@ class Which(WithPrograms):
         self.format_as(self.named("same"), moment=7)
         with self.at_way() as client:
             client.forget()
-            client.create("/a", b"first", 5)
+            client.create("/a", b"first", Moment(5))
         self.place(self.named("same"))
         with self.at_way(self.named("second.sqlite"), client=self.number()) as client:
-            client.create("/a", b"other", 6)
+            client.create("/a", b"other", Moment(6))
         self.refused_as_one_identity()
 
     def number(self) -> int:
@@ -234,7 +237,7 @@ class Which(WithPrograms):
     def test_a_reply_that_the_ledger_did_not_get(self) -> None:
         """A crash between the two is no other volume: the next command takes the reply, and goes on."""
         self.store("/a")
-        with self.at_way() as client, mock.patch("udfburn.session.Session._keep", self.crash_with_replies()):
+        with self.at_way() as client, mock.patch("udfburn.session.session.Session._keep", self.crash_with_replies()):
             with self.assertRaises(Crash):
                 list(client.run(operations(3)))
         with self.at_way() as client:
@@ -257,11 +260,11 @@ class Which(WithPrograms):
         """One after the other, again and again: it is one volume of the ledger."""
         for index in range(3):
             with self.on_image(image=self.there) as client:
-                client.create(f"/i{index}", b"", 5)
+                client.create(f"/i{index}", b"", Moment(5))
             self.path = self.named(f"socket{index}")
             daemon = self.serve_image(self.there)
             with self.client() as client:
-                client.create(f"/s{index}", b"", 5)
+                client.create(f"/s{index}", b"", Moment(5))
                 ledger = client.session().ledger
                 self.assertEqual([volume.latest for volume in ledger.volumes()], [2 * index + 2])
             daemon.kill()
@@ -288,7 +291,7 @@ class Crash(Exception):
 
 
 def operations(count: int) -> List[Operation]:
-    return [Operation(Create, (f"f{index}",), 5, b"x") for index in range(count)]
+    return [Operation(Create, (f"f{index}",), Moment(5), b"x") for index in range(count)]
 
 
 class Images(WithPrograms):

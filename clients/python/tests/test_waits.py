@@ -11,28 +11,36 @@ import sys
 import time
 import unittest
 from contextlib import suppress
-from typing import List, Tuple
+from typing import List, Optional
 from unittest import mock
 
-from udfburn import Client, errors as e
+from udfburn import Client
+from udfburn.base import errors as e
 from udfburn import protocol as p
-from udfburn.connection import ImageConnection, UnixConnection
+from udfburn.wire.connection import ImageConnection, UnixConnection
 
-from .programs import UDFBURND, Daemon, WithPrograms
+from .programs import PATIENCE, UDFBURND, Daemon, WithPrograms
 from .server import request_of
-from .test_local import Local
+from .with_files import Local
 
-SLOW = 20.0
-"""Seconds that a machine may take beside a wait of one second, and far below the wait that is the default."""
+A_SECOND = r"for (1|0\.[0-9]+) seconds"
+"""How long it says that it waited, or for the rest of that time. What the machine takes beside that is not looked at."""
 
 
 class Stopped(WithPrograms):
     """A daemon or a program that is there and says nothing."""
 
-    def timed(self, *words: str) -> Tuple[float, str]:
+    def waits_a_second(self, *words: str, where: Optional[List[str]] = None) -> str:
+        """Runs a command that waits so long and no longer, and gives what it said."""
         began = time.monotonic()
-        told = self.run_command(*words, "--wait", "1", status=1)
-        return time.monotonic() - began, told
+        told = self.run_command(*words, "--wait", "1", where=where, status=1)
+        # The pause that would have been too long is none.
+        self.assertGreater(time.monotonic() - began, 0.8, words)
+        return told
+
+    def wait_a_second(self, client: Client) -> None:
+        """Has a client wait no longer from now on. What it did before has had all the time that a slow machine takes."""
+        client.line.get().timeout = client.line.patience.seconds = client.line.timeout = 1.0
 
     def test_a_daemon_that_is_stopped(self) -> None:
         """Before a conversation, whatever is asked; and once the daemon goes on, what was pending is finished."""
@@ -43,30 +51,26 @@ class Stopped(WithPrograms):
         daemon.process.send_signal(signal.SIGSTOP)
         try:
             for words in (["ls"], ["get", "/a", "-"], ["put", local, "/b"], ["resume"], ["verify", local, "/a"], ["rm", "/a"]):
-                seconds, told = self.timed(*words)
-                self.assertIn("nothing came for 1 seconds", told)
-                self.assertTrue(1 <= seconds < SLOW, f"{words}: {seconds}")
-            self.assertIn("nothing came", self.run_command("status", self.path, "--wait", "1", where=[], status=1))
+                self.assertRegex(self.waits_a_second(*words), f"nothing came {A_SECOND}")
+            self.assertRegex(self.waits_a_second("status", self.path, where=[]), f"nothing came {A_SECOND}")
         finally:
             daemon.process.send_signal(signal.SIGCONT)
         self.assertEqual(self.run_command("ls"), "f a\n")
 
     def test_a_daemon_that_is_stopped_in_a_conversation(self) -> None:
         daemon = self.serve()
-        with self.client(patience=1.0) as client, client.held():
-            client.line.timeout = 1.0
+        with self.client() as client, client.held():
             client.put("/a", b"hello")
+            self.wait_a_second(client)
             assert daemon.process
             daemon.process.send_signal(signal.SIGSTOP)
-            began = time.monotonic()
             try:
-                with self.assertRaises(e.ConnectionFailed):
+                with self.assertRaisesRegex(e.ConnectionFailed, f"nothing came {A_SECOND}"):
                     client.get("/a")
-                with self.assertRaises(e.ConnectionFailed):
+                with self.assertRaisesRegex(e.ConnectionFailed, f"nothing came {A_SECOND}"):
                     client.create("/b", b"")
             finally:
                 daemon.process.send_signal(signal.SIGCONT)
-            self.assertLess(time.monotonic() - began, SLOW)
             client.line.patience.seconds = client.line.timeout = 300.0
             self.assertIn(client.resume(), ([(2, "/b", p.Code.DONE, 2)], []))
 
@@ -85,8 +89,7 @@ class Stopped(WithPrograms):
                 except Exception as error:  # pylint: disable=broad-except
                     self.assertRegex(str(error), "took no conversation|temporarily unavailable")
                     break
-            seconds, told = self.timed("ls")
-            self.assertLess(seconds, SLOW, told)
+            self.assertRegex(self.waits_a_second("ls"), f"(took no conversation|nothing came) {A_SECOND}|temporarily unavailable")
         finally:
             daemon.process.send_signal(signal.SIGCONT)
             for client in waiting:
@@ -94,48 +97,66 @@ class Stopped(WithPrograms):
 
     def test_a_program_that_is_stopped(self) -> None:
         """Its end is not awaited for ever: it is killed, as by a power loss, and what it answered stays."""
-        with self.on_image(patience=1.0) as client:
-            client.line.timeout = 1.0
-            began = time.monotonic()
+        with self.on_image() as client:
             with client.held():
                 client.put("/a", b"hello")
                 connection = client.line.get()
                 assert isinstance(connection, ImageConnection)
+                self.wait_a_second(client)
                 connection.process.send_signal(signal.SIGSTOP)
                 # Another one may answer in the little time that is left.
-                with suppress(e.ConnectionFailed):
+                with suppress(e.ConnectionFailed), mock.patch.object(connection.process, "wait", wraps=connection.process.wait) as waited:
                     client.create("/b", b"")
-            self.assertLess(time.monotonic() - began, SLOW)
+            self.assertEqual(waited.call_args_list[0], mock.call(1.0))
             self.assertEqual(connection.process.returncode, -signal.SIGKILL)
             client.line.patience.seconds = client.line.timeout = 300.0
             client.resume()
             self.assertEqual([client.get("/a"), client.get("/b")], [b"hello", b""])
 
 
+class Clock:
+    """A clock that goes on when it is told to, so that a wait takes what a test says, on any machine."""
+
+    def __init__(self) -> None:
+        self.now = 0.0
+
+    def monotonic(self) -> float:
+        return self.now
+
+    def sleep(self, seconds: float) -> None:
+        self.now += seconds
+
+
 class Waiting(Local):
+    def setUp(self) -> None:
+        super().setUp()
+        self.clock = Clock()
+        for module in ("retrying", "connection"):
+            patched = mock.patch(f"udfburn.wire.{module}.time", self.clock)
+            patched.start()
+            self.addCleanup(patched.stop)
+
     def test_a_daemon_that_ends_each_conversation(self) -> None:
         """What was waited for in vain counts, however often the conversation is ended."""
         def say(payload: bytes, answer: p.Answer) -> None:
-            time.sleep(0.3)
+            self.clock.sleep(0.3 * PATIENCE)
 
         self.server.say = say
-        client = Client(f"unix:{self.server.path}", patience=1.0, timeout=1.0)
-        began = time.monotonic()
-        with self.assertRaises(e.ConnectionFailed):
+        with self.client(patience=PATIENCE) as client, self.assertRaises(e.ConnectionFailed):
             client.stat("/")
-        self.assertLess(time.monotonic() - began, 4.0)
+        # After four the time is up; the first one may not count, where it is over before the client begins to wait.
+        self.assertIn(self.server.conversations, (4, 5))
 
     def test_progress_is_no_wait(self) -> None:
         """A long list is read to its end, however little each answer may take."""
         def before(payload: bytes) -> None:
-            time.sleep(0.02)
+            self.clock.sleep(PATIENCE / 2)
 
         self.server.before = before
         self.server.together = False
-        client = Client(f"unix:{self.server.path}", patience=0.5, timeout=0.5)
-        began = time.monotonic()
-        self.assertEqual(len(list(client.ask_all([p.Stat(())] * 60))), 60)
-        self.assertGreater(time.monotonic() - began, 1.0)
+        with self.client(patience=PATIENCE) as client, mock.patch("udfburn.wire.retrying.TURN", float("inf")):
+            self.assertEqual(len(list(client.ask_all([p.Stat(())] * 60))), 60)
+        self.assertGreaterEqual(self.clock.now, 30 * PATIENCE)
 
 
 class FullDisks(Local):
@@ -144,7 +165,7 @@ class FullDisks(Local):
     def test_of_the_image(self) -> None:
         self.server.before = lambda payload: p.FAULT if request_of(payload) else None
         for left, kind, told in ((1000, e.DiskFull, "the disk that .*disc.img is on is full: 1,000 bytes are left"), (10**9, e.DriveFailed, "the drive fails")):
-            with self.client(patience=0.1) as client, mock.patch("udfburn.retrying.room_left", lambda path, left=left: left):
+            with self.client(patience=0.1) as client, mock.patch("udfburn.wire.retrying.room_left", lambda path, left=left: left):
                 client.line.image = "/somewhere/disc.img"
                 with self.assertRaisesRegex(kind, told):
                     client.create("/a", b"")
@@ -182,7 +203,7 @@ class FullDaemon(WithPrograms):
             self.addCleanup(daemon.kill)
             daemon.await_socket()
             for left, kind in ((1000, e.DiskFull), (10**9, e.DriveFailed)):
-                with self.client(patience=0.3) as client, mock.patch("udfburn.retrying.room_left", lambda path, left=left: left):
+                with self.client(patience=0.3) as client, mock.patch("udfburn.wire.retrying.room_left", lambda path, left=left: left):
                     with self.assertRaisesRegex(kind, self.image):
                         client.create("/a", bytes(5000))
                 with suppress(FileNotFoundError):
@@ -201,7 +222,8 @@ class FullDaemon(WithPrograms):
 
 FULL = """
 import errno, os, sys
-from udfburn import cli, saving
+from udfburn.commands import cli
+from udfburn.local import saving
 real, left = os.write, [int(sys.argv[1])]
 def write(descriptor, data):
     if not os.readlink(f"/proc/self/fd/{descriptor}").startswith(sys.argv[2]):

@@ -7,6 +7,7 @@ import subprocess
 from typing import Iterable, List, Tuple
 
 from udfburn.protocol import Create, MakeDir, Message, Path, Remove, Rename, Replace, encode_message, frame
+from udfburn.protocol.units import Moment
 
 from .model import Directory, File, Volume
 from .programs import UDFBURN
@@ -51,14 +52,14 @@ class Writer:
     def _message(self, client: int, number: int, moment: int) -> Message:
         draw = self.chance.random()
         if draw < 0.45:
-            return Create(client, number, moment, self._new(), self.chance.randbytes(self.chance.choice(SIZES)))
+            return Create(client, number, Moment(moment), self._new(), self.chance.randbytes(self.chance.choice(SIZES)))
         if draw < 0.6:
-            return MakeDir(client, number, moment, self._new())
+            return MakeDir(client, number, Moment(moment), self._new())
         if draw < 0.75:
-            return Replace(client, number, moment, self._known(), self.chance.randbytes(self.chance.choice(SIZES)))
+            return Replace(client, number, Moment(moment), self._known(), self.chance.randbytes(self.chance.choice(SIZES)))
         if draw < 0.88:
-            return Rename(client, number, moment, self._known(), self._new())
-        return Remove(client, number, moment, self._known())
+            return Rename(client, number, Moment(moment), self._known(), self._new())
+        return Remove(client, number, Moment(moment), self._known())
 
     def _known(self) -> Path:
         return self.chance.choice(list(self.model.nodes))

@@ -86,6 +86,19 @@ fn a_message_is_held_until_it_is_let_go(rt: HostRuntime) -> Result<(), Fail> {
 }
 
 #[test]
+fn a_copy_stays_as_the_reader_was(rt: HostRuntime) -> Result<(), Fail> {
+    let mut frames = Frames::new(rt.alloc());
+    feed_in_two(&mut frames)?;
+    let copy = frames.copy()?;
+    frames.skip();
+    assert!(rt; is_silent(&frames) && first_is_list(&copy));
+    frames.feed(&OVERLONG)?;
+    frames.skip();
+    assert!(rt; frames.copy()?.is_over() && !copy.is_over());
+    Ok(())
+}
+
+#[test]
 fn numbers_of_codes_and_faults(rt: HostRuntime) {
     for number in 0..=10u16 {
         assert!(rt; Code::of(number).is_some_and(|code| code.number() == number));

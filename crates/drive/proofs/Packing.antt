@@ -18,7 +18,7 @@ takes-nil drive d w = record {
   sent = [];
   order = append-nil w.blocks;
   journal = sym (append-nil (drive.journal d));
-  sends = sends_none drive d;
+  sends = sends_none drive w.at d;
   place = omega arith;
   ends = omega arith;
   begins = λ h. h;
@@ -30,14 +30,14 @@ takes_waiting drive d e w w' b is at blocks = record {
   sent = [];
   order = sym blocks;
   journal = ap (λ x. drive.journal x) is ∙ sym (append-nil (drive.journal d));
-  sends = subst (λ x. Sends drive [] false d x) (sym is) (sends_none drive d);
+  sends = subst (λ x. Sends drive w.at [] false d x) (sym is) (sends_none drive w.at d);
   place = omega (arith, at);
   ends = omega (arith, at, ap length blocks, length-append w.blocks (b ∷ []));
   begins = λ h. omega (arith, at, h, ap (λ x. next_of (drive.journal x)) is);
 }
 
 -- blocks that wait alone, since the others were written
-pub takes_alone : {D : Type 0} (drive : Ghosts D) (d e : D) (w w' : Waiting) (bs : List (List ℕ)) → drive.journal e ≡ drive.journal d ++ written w.at w.blocks → Sends drive w.blocks false d e
+pub takes_alone : {D : Type 0} (drive : Ghosts D) (d e : D) (w w' : Waiting) (bs : List (List ℕ)) → drive.journal e ≡ drive.journal d ++ written w.at w.blocks → Sends drive w.at w.blocks false d e
     → w'.at ≡ next_address w → w'.blocks ≡ bs → TakesBlocks drive d w bs e w'
 takes_alone drive d e w w' bs is sends at blocks = record {
   sent = w.blocks;
@@ -50,12 +50,12 @@ takes_alone drive d e w w' bs is sends at blocks = record {
 }
 
 -- what waited is written, and none waits
-pub takes_finished : {D : Type 0} (drive : Ghosts D) (d e : D) (w w' : Waiting) → drive.journal e ≡ drive.journal d ++ written w.at w.blocks → Sends drive w.blocks false d e
+pub takes_finished : {D : Type 0} (drive : Ghosts D) (d e : D) (w w' : Waiting) → drive.journal e ≡ drive.journal d ++ written w.at w.blocks → Sends drive w.at w.blocks false d e
     → w' ≡ record { at = next_address w; blocks = [] } → TakesBlocks drive d w [] e w'
 takes_finished drive d e w w' is sends empty = takes_alone drive d e w w' [] is sends (ap (λ (v : Waiting). v.at) empty) (ap (λ (v : Waiting). v.blocks) empty)
 
 -- the write of what waited failed
-pub stops_finished : {D : Type 0} (drive : Ghosts D) (d e : D) (w : Waiting) → AddsPrefix (drive.journal d) w.at w.blocks (drive.journal e) → Sends drive w.blocks true d e → Stops drive d w [] e
+pub stops_finished : {D : Type 0} (drive : Ghosts D) (d e : D) (w : Waiting) → AddsPrefix (drive.journal d) w.at w.blocks (drive.journal e) → Sends drive w.at w.blocks true d e → Stops drive d w [] e
 stops_finished drive d e w front sends = record {
   front = front_longer (drive.journal d) (drive.journal e) w.at w.blocks [] front;
   sends = sends_longer [] sends;
@@ -76,7 +76,7 @@ takes-append {drive = drive} d e f w w1 w2 blocks more t u = record {
   sent = t.sent ++ u.sent;
   order = sym (append_assoc w.blocks blocks more) ∙ rw t.order (append_assoc t.sent w1.blocks more ∙ rw u.order (sym (append_assoc t.sent u.sent w2.blocks)));
   journal = written_after (drive.journal d) (drive.journal e) (drive.journal f) w.at w1.at t.sent u.sent t.journal t.place u.journal;
-  sends = sends_then t.sends u.sends;
+  sends = sends_then t.place t.sends u.sends;
   place = omega (arith, t.place, u.place, length-append t.sent u.sent);
   ends = omega (arith, t.ends, u.ends, length-append blocks more);
   begins = λ h. u.begins (t.begins h);
@@ -89,7 +89,7 @@ stops_after {drive = drive} d e f w w1 blocks more t s =
     record {
       front = subst (λ (cs : List (List ℕ)). AddsPrefix (drive.journal d) w.at cs (drive.journal f)) all
           (front_after (drive.journal d) (drive.journal e) (drive.journal f) w.at w1.at t.sent (w1.blocks ++ more) t.journal t.place s.front);
-      sends = sends_as all (sends_then t.sends s.sends);
+      sends = sends_as all (sends_then t.place t.sends s.sends);
     }
 
 -- a failure among some blocks is one among these and more
@@ -109,11 +109,11 @@ takes_all {drive = drive} d e f w w1 blocks t is =
     written_after (drive.journal d) (drive.journal e) (drive.journal f) w.at w1.at t.sent w1.blocks t.journal t.place is ∙ ap (λ (cs : List (List ℕ)). drive.journal d ++ written w.at cs) (sym t.order)
 
 -- or a write of it fails: a prefix of the blocks is
-pub takes_front : {D : Type 0} {drive : Ghosts D} (d e f : D) (w w1 : Waiting) (blocks : List (List ℕ)) → TakesBlocks drive d w blocks e w1 → AddsPrefix (drive.journal e) w1.at w1.blocks (drive.journal f) → Sends drive w1.blocks true e f → Stops drive d w blocks f
+pub takes_front : {D : Type 0} {drive : Ghosts D} (d e f : D) (w w1 : Waiting) (blocks : List (List ℕ)) → TakesBlocks drive d w blocks e w1 → AddsPrefix (drive.journal e) w1.at w1.blocks (drive.journal f) → Sends drive w1.at w1.blocks true e f → Stops drive d w blocks f
 takes_front {drive = drive} d e f w w1 blocks t front sends = record {
   front = subst (λ (cs : List (List ℕ)). AddsPrefix (drive.journal d) w.at cs (drive.journal f)) (sym t.order)
       (front_after (drive.journal d) (drive.journal e) (drive.journal f) w.at w1.at t.sent w1.blocks t.journal t.place front);
-  sends = sends_as (sym t.order) (sends_then t.sends sends);
+  sends = sends_as (sym t.order) (sends_then t.place t.sends sends);
 }
 
 take_more : (i : ℕ) (bs : List (List ℕ)) (d : List ℕ) → i < length bs → take i bs ++ get_or bs i d ∷ [] ≡ take (i + 1) bs

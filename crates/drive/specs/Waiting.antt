@@ -19,7 +19,7 @@ pub record TakesBlocks {D : Type 0} (drive : Ghosts D) (old : D) (w : Waiting) (
   pub sent : List (List ℕ)
   pub order : w.blocks ++ blocks ≡ sent ++ w'.blocks
   pub journal : drive.journal new ≡ drive.journal old ++ written w.at sent
-  pub sends : Sends drive sent false old new
+  pub sends : Sends drive w.at sent false old new
   pub place : w'.at ≡ w.at + length sent
   pub ends : next_address w' ≡ next_address w + length blocks
   pub begins : w.at ≤ next_of (drive.journal old) → w'.at ≤ next_of (drive.journal new)
@@ -27,4 +27,4 @@ pub record TakesBlocks {D : Type 0} (drive : Ghosts D) (old : D) (w : Waiting) (
 -- A write failed, and a prefix of what waited and of these blocks was written. No write was given another block.
 pub record Stops {D : Type 0} (drive : Ghosts D) (old : D) (w : Waiting) (blocks : List (List ℕ)) (new : D) : Type 0 where
   pub front : AddsPrefix (drive.journal old) w.at (w.blocks ++ blocks) (drive.journal new)
-  pub sends : Sends drive (w.blocks ++ blocks) true old new
+  pub sends : Sends drive w.at (w.blocks ++ blocks) true old new

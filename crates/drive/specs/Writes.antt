@@ -1,7 +1,7 @@
 -- Blocks that go out in writes, each synced before the next begins, and what a power loss leaves of them where a disk keeps the blocks of a write that is not yet synced in any order.
-use Rattle.std.specs.Prelude.{◌≡◌, ◌⊎◌, ℕ, suc, ◌<◌, ◌≤◌, Bool, false, if◌then◌else◌, List, [], ◌∷◌, ◌++◌, length, replicate, slice_get, Some}
+use Rattle.std.specs.Prelude.{◌≡◌, ◌⊎◌, ℕ, suc, ◌+◌, ◌<◌, ◌≤◌, Bool, true, false, if◌then◌else◌, List, [], ◌∷◌, ◌++◌, length, replicate, slice_get, Some}
 use Rattle.std.specs.List.{flat_map}
-use Rattle.drive.specs.Journal.{Event, AddsPrefix}
+use Rattle.drive.specs.Journal.{Event, AddsPrefix, written}
 use Rattle.limits.specs.declared.TheConstants.{BLOCK_BYTES}
 
 -- what is read where a block did not reach the medium and one after it did
@@ -18,14 +18,26 @@ pub record LastIsAlone (blocks : List (List ℕ)) (last : List ℕ) (writes : Li
   pub order : joined before ≡ blocks
   pub writes_are : writes ≡ before ++ (last ∷ []) ∷ []
 
--- A run of blocks was given to writes, in order: all of them, or, where a write failed, those up to the last one that it was given. What was added to the journal is a prefix of what the writes were given.
+-- The journal has all blocks of these writes but those of the last, from this address on, and then a prefix of the last.
+pub record LastIsCut (at : ℕ) (journal : List Event) (writes : List (List (List ℕ))) (journal' : List Event) : Type 0 where
+  pub earlier : List (List (List ℕ))
+  pub last : List (List ℕ)
+  pub order : writes ≡ earlier ++ last ∷ []
+  pub front : AddsPrefix (journal ++ written at (joined earlier)) (at + length (joined earlier)) last journal'
+
+-- Each of these writes was made once the one before it had added all its blocks, and none after one that failed. Where none failed, the journal has the blocks of all, from this address on.
+pub record WritesInTurn (at : ℕ) (failed : Bool) (journal : List Event) (writes : List (List (List ℕ))) (journal' : List Event) : Type 0 where
+  pub all : failed ≡ false → journal' ≡ journal ++ written at (joined writes)
+  pub cut : failed ≡ true → LastIsCut at journal writes journal'
+
+-- A run of blocks was given to writes, in order: all of them, or, where a write failed, those up to the last one that it was given.
 pub record SplitsRun (at : ℕ) (blocks : List (List ℕ)) (failed : Bool) (journal : List Event) (writes : List (List (List ℕ))) (journal' : List Event) (writes' : List (List (List ℕ))) : Type 0 where
   pub added : List (List (List ℕ))
   pub rest : List (List ℕ)
   pub writes_are : writes' ≡ writes ++ added
   pub order : joined added ++ rest ≡ blocks
   pub whole : failed ≡ false → rest ≡ []
-  pub front : AddsPrefix journal at (joined added) journal'
+  pub in_turn : WritesInTurn at failed journal added journal'
 
 -- A torn image of a write: as many blocks or fewer, at each place the one that was written or one of zeros.
 pub record IsTorn (write left : List (List ℕ)) : Type 0 where

@@ -40,7 +40,7 @@ pub fn write_last_alone<D: Drive>(
     ensures ok { OnOk result (D.journal drive.new ≡ D.journal drive.old ++ written at blocks.now) }
     ensures err { OnErr result (AddsPrefix (D.journal drive.old) at blocks.now (D.journal drive.new)) }
     ensures none { blocks.now ≡ [] → drive.new ≡ drive.old }
-    ensures alone { (before : List (List ℕ)) (last : List ℕ) → blocks.now ≡ before ++ last ∷ [] → SendsAlone D.Drive before last (is_err result) drive.old drive.new }
+    ensures alone { (before : List (List ℕ)) (last : List ℕ) → blocks.now ≡ before ++ last ∷ [] → SendsAlone D.Drive at before last (is_err result) drive.old drive.new }
     ensures writes { WritesOnly D.Drive (is_err result) drive.old drive.new }
 {
     if blocks.is_empty() {
@@ -165,7 +165,7 @@ impl<'b> PacketWriter<'b> {
         ensures ok { OnOk result (D.journal drive.new ≡ D.journal drive.old ++ written self.old.at self.old.blocks) }
         ensures empty { OnOk result (self.new ≡ record { at = next_address self.old; blocks = [] }) }
         ensures err { OnErr result (AddsPrefix (D.journal drive.old) self.old.at self.old.blocks (D.journal drive.new)) }
-        ensures sends { Sends D.Drive self.old.blocks (is_err result) drive.old drive.new }
+        ensures sends { Sends D.Drive self.old.at self.old.blocks (is_err result) drive.old drive.new }
         ensures writes { WritesOnly D.Drive (is_err result) drive.old drive.new }
     {
         // Unused: brings the range of a capacity into the proof.

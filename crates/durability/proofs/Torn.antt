@@ -17,7 +17,7 @@ use Rattle.durability.specs.Runs.Answer.{Fault}
 use Rattle.durability.specs.Runs.AnswersNew.{failed}
 use Rattle.durability.specs.Torn.{AreAlike, RecoversToNothing, Endures, IsTried, AreTried, AreCommitted}
 use Rattle.durability.proofs.Lists.{side, take_past}
-use Rattle.drive.proofs.Sending.{joined_append}
+use Rattle.drive.proofs.Turns.{joined_append}
 use Rattle.durability.proofs.Writes.{last_left, joined_writes, writes_short, split_left}
 use Rattle.durability.proofs.Mediums.{none_at, none_from, none-append, stands_both, past_both}
 use Rattle.durability.proofs.One.{stands_one}

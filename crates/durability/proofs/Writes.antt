@@ -2,7 +2,7 @@
 use Rattle.std.proofs.Common.{◌≡◌, ◌⊎◌, inl, inr, ℕ, zero, suc, ◌-◌, ◌≤◌, ◌<◌, Bool, true, false, if◌then◌else◌, List, [], ◌∷◌, ◌++◌, length, take, slice_get, Some, refl, sym, ◌∙◌, ap, subst, arith, append_assoc, length-append}
 use Rattle.std.proofs.lemmas.List.{take-append-le, length-take}
 use Rattle.std.proofs.lemmas.Option.{same_Some}
-use Rattle.drive.proofs.Sending.{joined_append}
+use Rattle.drive.proofs.Turns.{joined_append}
 use Rattle.drive.specs.Writes.{unwritten, joined, LastIsAlone, IsTorn, IsLeft, torn_by}
 use Rattle.durability.specs.Formats.{Block}
 use Rattle.durability.proofs.Lists.{side, get-take, take_past}

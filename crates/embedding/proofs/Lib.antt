@@ -5,3 +5,5 @@ pub mod Beginning
 pub mod Asking
 pub mod Logging
 pub mod Labels
+pub mod Wording
+pub mod SessionRuns

@@ -11,3 +11,4 @@ pub mod Questions
 pub mod Statuses
 pub mod StatusCalls
 pub mod Commits
+pub mod SessionRuns

@@ -9,6 +9,7 @@ pub mod calls;
 mod commits;
 mod fault;
 mod handed;
+mod laws;
 mod lending;
 mod loose;
 mod medium;
@@ -19,6 +20,7 @@ mod volumes;
 
 pub use fault::{Fault, status_of};
 pub use handed::Handed;
+pub use laws::sessions_are_runs;
 pub use session::Session;
 pub use told::{CommitStatus, Status};
 pub use volumes::format_file;

@@ -6,7 +6,7 @@ ghost use Rattle.drive.specs.FileDrive.{capacity_of, honest_of, journal_of, writ
 ghost use Rattle.formatting.specs.Beginning.{IsBegun, IsUnbegun};
 ghost use Rattle.formatting.specs.NewVolume.{FormatSurvivesPowerLoss, words_on};
 ghost use Rattle.embedding.specs.declared.fault.Fault.TheVariants as faults;
-ghost use Rattle.embedding.specs.Formats.{FormatsFile, FormatsOn, IsMadeInMemory, IsNotMade, Makes};
+ghost use Rattle.embedding.specs.Formats.{AreWordsRefused, FormatsFile, FormatsOn, IsMadeInMemory, IsNotMade, Makes};
 
 use crate::fault::{Fault, fault_of};
 use drive::{Drive, FileDrive, Look, MemDrive};
@@ -118,7 +118,8 @@ pub(crate) fn format_memory(
 fn make<D: Drive>(alloc: Global, drive: &mut D, label: &str, moment: u64) -> Result<(), Fault>
     requires { moment < MOMENT_LIMIT }
     ensures makes { Makes label.now moment (D.capacity drive.old) result (D.journal drive.old) (D.journal drive.new) (D.honest drive.new) }
-    ensures withstands { FormatSurvivesPowerLoss (D.capacity drive.old) (words_on (D.capacity drive.old) label.now moment) (D.journal drive.old) (D.writes drive.old) (D.writes drive.new) (D.honest drive.new) }
+    ensures words { AreWordsRefused label.now (D.capacity drive.old) result }
+    ensures withstands { FormatSurvivesPowerLoss (D.capacity drive.old) (words_on (D.capacity drive.old) label.now moment) (D.journal drive.old) (D.writes drive.old) (D.journal drive.new) (D.writes drive.new) (D.honest drive.new) }
     ensures capacity { D.capacity drive.new ≡ D.capacity drive.old }
 {
     match format(alloc, drive, label, moment) {

@@ -3,8 +3,10 @@ pub mod Holding
 pub mod Calling
 pub mod Running
 pub mod Withstanding
+pub mod InTurn
 pub mod Served
 pub mod Losses
+pub mod Lives
 pub mod Messages
 pub mod Delivering
 pub mod Pieces

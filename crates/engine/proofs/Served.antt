@@ -23,13 +23,13 @@ answered_more (n ∷ messages) [] s t u m a h k = absurd h
 answered_more (n ∷ messages) (b ∷ answers) s t u m a h k = (h.0, h.1, answered_more messages answers h.0 t u m a h.2 k)
 
 -- what is honest after them was so before
-answered_honest : (messages : List Message) (before : Situation) (answers : List Answer) (afterwards : Situation) → AllAnswered messages before answers afterwards → IsTrue afterwards.honest → IsTrue before.honest
+pub answered_honest : (messages : List Message) (before : Situation) (answers : List Answer) (afterwards : Situation) → AllAnswered messages before answers afterwards → IsTrue afterwards.honest → IsTrue before.honest
 answered_honest [] before [] afterwards same honest = subst (λ (s : Situation). IsTrue s.honest) same honest
 answered_honest [] before (a ∷ answers) afterwards h honest = absurd h
 answered_honest (m ∷ messages) before [] afterwards h honest = absurd h
 answered_honest (m ∷ messages) before (a ∷ answers) afterwards (during, one, rest) honest = one.answered.follows.honest (answered_honest messages during answers afterwards rest honest)
 
-answered_steps : (volume : ℕ) (messages : List Message) (S : State) (before : Situation) (answers : List Answer) (afterwards : Situation) → AllAnswered messages before answers afterwards → IsTrue afterwards.honest → HoldsState volume S before
+pub answered_steps : (volume : ℕ) (messages : List Message) (S : State) (before : Situation) (answers : List Answer) (afterwards : Situation) → AllAnswered messages before answers afterwards → IsTrue afterwards.honest → HoldsState volume S before
     → (T : State) × AllSteps volume (brought messages) S before (model_answers answers) T afterwards
 answered_steps volume [] S before [] afterwards same honest at = (S, (refl, refl, same))
 answered_steps volume [] S before (a ∷ answers) afterwards h honest at = absurd h

@@ -1,9 +1,9 @@
 -- What a power loss leaves, one call more at a time.
-use Rattle.std.proofs.Common.{◌≡◌, inl, inr, ℕ, ◌≤◌, Bool, true, IsTrue, List, [], ◌∷◌, ◌++◌, length, take, Option, Some, None, refl, sym, ap, ◌∙◌, subst, arith, append-nil}
+use Rattle.std.proofs.Common.{◌≡◌, ◌⊎◌, inl, inr, ℕ, ◌≤◌, Bool, true, IsTrue, List, [], ◌∷◌, ◌++◌, length, take, Option, Some, None, refl, sym, ap, ◌∙◌, subst, arith, append-nil}
 use Rattle.std.proofs.Math.Seq.{take-length}
 use Rattle.std.proofs.lemmas.List.{take_all}
-use Rattle.drive.specs.Journal.{AddsPrefix, Event, held, written, Once}
-use Rattle.drive.specs.Writes.{joined}
+use Rattle.drive.specs.Journal.{Event, held, written, Once}
+use Rattle.drive.specs.Writes.{joined, LastIsCut}
 use Rattle.request.specs.declared.answer.Answer.{Answer}
 use Rattle.model.specs.Session.{State, Request, due, after, after_one}
 use Rattle.model.specs.Session.Due.{New}
@@ -38,10 +38,9 @@ unwritten volume S asked failed before afterwards once stands journal writes =
     let J : List Event = before.journal in
     record {
       added = [];
-      others = [];
       writes_are = writes ∙ sym (append-nil before.writes);
-      front = (0, omega arith, journal ∙ sym (append-nil J));
       whole = λ ok. journal ∙ sym (append-nil J);
+      cut = λ more. inl (refl, journal);
       torn = λ left lost none there.
           inl (subst (λ (K : List Event). Advances udf before.capacity volume J S K S) (sym (there ∙ ap (λ (bs : List Block). J ++ written (length J) bs) none ∙ append-nil J)) (stay before.capacity volume J S once stands));
     }
@@ -50,10 +49,9 @@ unwritten volume S asked failed before afterwards once stands journal writes =
 pub withstands_more : (volume : ℕ) (S : State) (asked more : Request → Type 0) (failed : ℕ) (before afterwards : Situation) → ((r : Request) → asked r → more r) → MessageSurvivesPowerLoss volume S asked failed before afterwards → MessageSurvivesPowerLoss volume S more failed before afterwards
 withstands_more volume S asked more failed before afterwards f w = record {
   added = w.added;
-  others = w.others;
   writes_are = w.writes_are;
-  front = w.front;
   whole = w.whole;
+  cut = w.cut;
   torn = λ left lost cut there. elim (w.torn left lost cut there) [ inl stood ↦ inl stood | inr done ↦ inr (done.0, f done.0 done.1, done.2, done.3) ];
 }
 
@@ -66,10 +64,9 @@ pub applied_withstands : (volume : ℕ) (S : State) (r : Request) (asked : Reque
     → store.CommitSurvivesPowerLoss before.capacity volume before.journal S r before.writes failed afterwards.journal afterwards.writes → MessageSurvivesPowerLoss volume S asked failed before afterwards
 applied_withstands volume S r asked failed before afterwards asks new w = record {
   added = w.added;
-  others = w.others;
   writes_are = w.writes_are;
-  front = w.front;
   whole = w.whole;
+  cut = w.cut;
   torn = λ left lost cut there. elim (w.torn left lost cut there) [ inl stood ↦ inl stood | inr done ↦ inr (r, asks, new, done) ];
 }
 
@@ -78,10 +75,9 @@ pub withstands_from : (volume : ℕ) (S : State) (asked : Request → Type 0) (f
     → MessageSurvivesPowerLoss volume S asked failed during afterwards → MessageSurvivesPowerLoss volume S asked failed before afterwards
 withstands_from volume S asked failed before during afterwards journal size writes w = record {
   added = w.added;
-  others = w.others;
   writes_are = w.writes_are ∙ ap (λ (ws : List (List Block)). ws ++ w.added) writes;
-  front = subst (λ (L : List Event). AddsPrefix L (length L) (joined (w.added ++ w.others)) afterwards.journal) journal w.front;
   whole = λ ok. w.whole ok ∙ ap (λ (L : List Event). L ++ written (length L) (joined w.added)) journal;
+  cut = λ more. subst (λ (L : List Event). ((w.added ≡ []) × (afterwards.journal ≡ L)) ⊎ LastIsCut (length L) L w.added afterwards.journal) journal (w.cut more);
   torn = λ left lost cut there.
       let back : (T : State) → Advances udf during.capacity volume during.journal S lost T → Advances udf before.capacity volume before.journal S lost T =
       λ T h. subst (λ (c : ℕ). Advances udf c volume before.journal S lost T) size (subst (λ (L : List Event). Advances udf during.capacity volume L S lost T) journal h) in

@@ -9,3 +9,4 @@ pub mod Delivered
 pub mod Headline
 pub mod Served
 pub mod Losses
+pub mod Lives

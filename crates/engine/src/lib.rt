@@ -13,7 +13,7 @@ mod streams;
 
 pub use engine::Engine;
 pub use held::answer_held;
-pub use laws::{calls_are_steps, losses_are_survived, runs_hold, steps_hold};
+pub use laws::{calls_are_steps, losses_are_survived, runs_hold, steps_hold, writes_are_in_turn};
 pub use runs::{Delivery, run};
 pub use serving::{ServeFault, serve};
 pub use streams::{put_all, read_piece};

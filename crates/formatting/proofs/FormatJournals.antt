@@ -13,7 +13,7 @@ use Rattle.drive.proofs.Journals.{last-append, next_after_write}
 use Rattle.drive.proofs.Fronts.{front_whole, front_within}
 use Rattle.drive.proofs.Sending.{front_split, last_split}
 use Rattle.drive.specs.Sending.{SendsAlone}
-use Rattle.drive.specs.Writes.{LastIsAlone, IsLeft}
+use Rattle.drive.specs.Writes.{joined, LastIsAlone, LastIsCut, WritesInTurn, IsLeft}
 use Rattle.drive.specs.declared.Drive.{Ghosts}
 use Rattle.volume.proofs.FrontLaws.{each_push}
 use Rattle.recover.proofs.Held.{length-held}
@@ -176,8 +176,14 @@ module _ (capacity : ℕ) (words : Words) (blocks : List Block) (before afterwar
   }
 
 -- nothing was written
-pub nothing_written : (capacity : ℕ) (words : Words) (before : List Event) (writes afterwards : List (List Block)) (honest : Bool) → afterwards ≡ writes → FormatSurvivesPowerLoss capacity words before writes afterwards honest
-nothing_written capacity words before writes afterwards honest same = record { added = []; writes_are = same ∙ sym (append-nil writes); torn = inl refl }
+pub nothing_written : (capacity : ℕ) (words : Words) (before : List Event) (writes : List (List Block)) (afterwards : List Event) (later : List (List Block)) (honest : Bool) → afterwards ≡ before → later ≡ writes
+    → FormatSurvivesPowerLoss capacity words before writes afterwards later honest
+nothing_written capacity words before writes afterwards later honest journal same = record { added = []; writes_are = same ∙ sym (append-nil writes); in_turn = inl (journal ∙ sym (append-nil before)); torn = inl refl }
+
+-- whether a write failed or none did
+whole_or_cut : {failed : Bool} (at : ℕ) (J J' : List Event) (added : List (List Block)) → WritesInTurn at failed J added J' → (J' ≡ J ++ written at (joined added)) ⊎ LastIsCut at J added J'
+whole_or_cut {failed = true} at J J' added turn = inr (turn.cut refl)
+whole_or_cut {failed = false} at J J' added turn = inl (turn.all refl)
 
 -- blocks are none, or end in one
 pub none_or_last : (bs : List Block) → (bs ≡ []) ⊎ ((front : List Block) × (last : Block) × (bs ≡ front ++ last ∷ []))
@@ -295,15 +301,17 @@ module _ (capacity : ℕ) (words : Words) (low : LEAST_CAPACITY ≤ words.volume
           | inr whole ↦ inr (subst (λ (M : List Block). RecoversTo udf capacity words.volume M (formatted words.moment)) there whole.1)
         ]
 
-  pub withstands_is : {D : Type 0} {drive : Ghosts D} {failed : Bool} {d e : D} (writes : List (List Block)) → drive.writes d ≡ writes → (blocks ≡ [] → e ≡ d)
-      → ((front : List Block) (last : Block) → blocks ≡ front ++ last ∷ [] → SendsAlone drive front last failed d e) → FormatSurvivesPowerLoss capacity words before writes (drive.writes e) now
-  withstands_is {drive = drive} {e = e} writes kept none alone = elim (none_or_last blocks) [
-    | inl empty ↦ nothing_written capacity words before writes (drive.writes e) now (ap (λ x. drive.writes x) (none empty) ∙ kept)
+  pub withstands_is : {D : Type 0} {drive : Ghosts D} {failed : Bool} {d e : D} (writes : List (List Block)) → drive.journal d ≡ before → drive.writes d ≡ writes → (blocks ≡ [] → e ≡ d)
+      → ((front : List Block) (last : Block) → blocks ≡ front ++ last ∷ [] → SendsAlone drive next front last failed d e) → FormatSurvivesPowerLoss capacity words before writes (drive.journal e) (drive.writes e) now
+  withstands_is {drive = drive} {failed = failed} {d = d} {e = e} writes same kept none alone = elim (none_or_last blocks) [
+    | inl empty ↦ nothing_written capacity words before writes (drive.journal e) (drive.writes e) now (ap (λ x. drive.journal x) (none empty) ∙ same) (ap (λ x. drive.writes x) (none empty) ∙ kept)
     | inr some ↦
         let sends = alone some.0 some.1 some.2 in
         record {
           added = sends.added;
           writes_are = sends.writes ∙ ap (λ (ws : List (List Block)). ws ++ sends.added) kept;
+          in_turn = whole_or_cut (next_of before) before (drive.journal e) sends.added
+              (subst (λ (n : ℕ). WritesInTurn n failed before sends.added (drive.journal e)) next-is (subst (λ (L : List Event). WritesInTurn next failed L sends.added (drive.journal e)) same sends.in_turn));
           torn = inr (λ honestly. (nothing_before some.0 some.1 some.2 sends.added sends.others sends.alone honestly, torn_is some.0 some.1 some.2 sends.added sends.others sends.alone honestly));
         }
   ]

@@ -8,7 +8,7 @@ use Rattle.dir.specs.Directory.{IsDirectory}
 use Rattle.vat.specs.Table.{IsTable}
 use Rattle.volume.specs.Front.{IsFrontBlock}
 use Rattle.drive.specs.Journal.{Event, written, next_of, last_at, held, AddsPrefix}
-use Rattle.drive.specs.Writes.{IsLeft}
+use Rattle.drive.specs.Writes.{IsLeft, LastIsCut, joined}
 use Rattle.model.specs.Session.{State, formatted}
 use Rattle.durability.specs.Formats.{Block}
 use Rattle.durability.specs.Volume.{RecoversTo}
@@ -111,11 +111,13 @@ pub record IsFormatCutShort (capacity : ℕ) (words : Words) (before afterwards 
   pub journal : AddsPrefix before (next_of before) (drop (next_of before) blocks) afterwards
   pub fronts : IsTrue honest → HoldsPrefixes capacity words blocks before afterwards
 
--- The writes that a call added. It added none, or nothing stood before, and whatever a power loss leaves of them after what
--- was there, nothing stands, whatever drive and volume it is read in, or the new volume does.
-pub record FormatSurvivesPowerLoss (capacity : ℕ) (words : Words) (before : List Event) (writes afterwards : List (List Block)) (honest : Bool) : Type 0 where
+-- The writes that a call added, each once the one before it was whole: the journal goes on by the blocks of all, or by those of
+-- all but the last and a prefix of the last. It added none, or nothing stood before, and whatever a power loss leaves of them
+-- after what was there, nothing stands, whatever drive and volume it is read in, or the new volume does.
+pub record FormatSurvivesPowerLoss (capacity : ℕ) (words : Words) (before : List Event) (writes : List (List Block)) (afterwards : List Event) (later : List (List Block)) (honest : Bool) : Type 0 where
   pub added : List (List Block)
-  pub writes_are : afterwards ≡ writes ++ added
+  pub writes_are : later ≡ writes ++ added
+  pub in_turn : (afterwards ≡ before ++ written (next_of before) (joined added)) ⊎ LastIsCut (next_of before) before added afterwards
   pub torn : (added ≡ []) ⊎ (IsTrue honest → RecoversToNothing udf (held before) × ((left : List Block) → IsLeft added left
       → RecoversToNothing udf (held (before ++ written (next_of before) left)) ⊎ RecoversTo udf capacity words.volume (held (before ++ written (next_of before) left)) (formatted words.moment)))
 

@@ -55,7 +55,7 @@ pub fn format<D: Drive>(
     ensures ok { OnOk result (IsFormatted (D.capacity drive.old) (words_on (D.capacity drive.old) label.now moment) (D.journal drive.old) (D.journal drive.new) (D.honest drive.new)) }
     ensures err { IfErr result (IsFormatRefused (D.capacity drive.old) (words_on (D.capacity drive.old) label.now moment) (D.journal drive.old) (D.journal drive.new) (D.honest drive.new)) }
     // What a power loss leaves of its writes: the disk may keep any of the blocks of the last write that it was given.
-    ensures withstands { FormatSurvivesPowerLoss (D.capacity drive.old) (words_on (D.capacity drive.old) label.now moment) (D.journal drive.old) (D.writes drive.old) (D.writes drive.new) (D.honest drive.new) }
+    ensures withstands { FormatSurvivesPowerLoss (D.capacity drive.old) (words_on (D.capacity drive.old) label.now moment) (D.journal drive.old) (D.writes drive.old) (D.journal drive.new) (D.writes drive.new) (D.honest drive.new) }
     ensures label { (result ≡ Err fault.Label) ↔ IsSome (first_text_fault (label_faults label.now)) }
     ensures small { (result ≡ Err fault.Small) ↔ (IsNone (first_text_fault (label_faults label.now)) × (D.capacity drive.old < LEAST_CAPACITY)) }
     ensures follows { ReadsAndWrites D.Drive (devices result) drive.old drive.new }
@@ -81,7 +81,7 @@ fn complete<D: Drive>(alloc: Global, drive: &mut D, parts: &Parts) -> Result<(),
     requires room { parts.now.capacity ≤ D.capacity drive.old }
     ensures ok { OnOk result (IsFormatted (D.capacity drive.old) (words_of parts.now) (D.journal drive.old) (D.journal drive.new) (D.honest drive.new)) }
     ensures err { IfErr result (IsFormatRefused (D.capacity drive.old) (words_of parts.now) (D.journal drive.old) (D.journal drive.new) (D.honest drive.new)) }
-    ensures withstands { FormatSurvivesPowerLoss (D.capacity drive.old) (words_of parts.now) (D.journal drive.old) (D.writes drive.old) (D.writes drive.new) (D.honest drive.new) }
+    ensures withstands { FormatSurvivesPowerLoss (D.capacity drive.old) (words_of parts.now) (D.journal drive.old) (D.writes drive.old) (D.journal drive.new) (D.writes drive.new) (D.honest drive.new) }
     ensures neither { IfErr result (λ told. (told ≢ fault.Label) × (told ≢ fault.Small)) }
     ensures follows { ReadsAndWrites D.Drive (devices result) drive.old drive.new }
 {

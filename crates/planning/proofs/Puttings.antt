@@ -4,10 +4,12 @@ use Rattle.std.specs.Prelude.{Result, Ok, Err, is_err, OnErr, OnOk}
 use Rattle.std.proofs.lemmas.Bool.{false≢true}
 use Rattle.std.proofs.lemmas.List.{take_all}
 use Rattle.drive.specs.Journal.{Event, written, next_of, AddsPrefix}
-use Rattle.drive.specs.Sending.{SendsAlone}
+use Rattle.drive.specs.Writes.{WritesInTurn}
+use Rattle.drive.specs.Sending.{Sends, SendsAlone}
 use Rattle.drive.specs.Waiting.{Waiting, TakesBlocks, Stops}
 use Rattle.drive.specs.declared.Drive.{Ghosts}
 use Rattle.drive.proofs.Sending.{sends_as, sends_one, alone_stopped, alone_sent, front_sent}
+use Rattle.drive.proofs.Turns.{turn_cut}
 use Rattle.drive.proofs.Packing.{takes_next, stops_next, takes-append, stops_after, stops_longer, takes_all, takes_front}
 use Rattle.drive.proofs.Fronts.{begins_after}
 
@@ -51,18 +53,21 @@ stops_front {drive = drive} J J' at w bs new s = subst (λ (v : Waiting). AddsPr
 
 pub takes_fronted : {D : Type 0} {drive : Ghosts D} (J J1 J2 : D) (at : ℕ) (w w1 : Waiting) (bs : List (List ℕ)) → w ≡ record { at = at; blocks = [] } → TakesBlocks drive J w bs J1 w1 → AddsPrefix (drive.journal J1) w1.at w1.blocks (drive.journal J2) → drive.writes J2 ≡ drive.writes J1 ++ w1.blocks ∷ []
     → AddsPrefix (drive.journal J) at bs (drive.journal J2)
-takes_fronted J J1 J2 at w w1 bs new t front sent = stops_front J J2 at w bs new (takes_front J J1 J2 w w1 bs t front (sends_one w1.blocks sent))
+takes_fronted J J1 J2 at w w1 bs new t front sent = stops_front J J2 at w bs new (takes_front J J1 J2 w w1 bs t front (sends_one w1.blocks (turn_cut w1.blocks front) sent))
 
 -- a write failed before the last block was given to any
-pub alone_before : {D : Type 0} {drive : Ghosts D} (J J' : D) (at : ℕ) (w : Waiting) (bs : List (List ℕ)) (last : List ℕ) → w ≡ record { at = at; blocks = [] } → Stops drive J w bs J' → SendsAlone drive bs last true J J'
-alone_before J J' at w bs last new s = alone_stopped last (sends_as (ap (λ (v : Waiting). v.blocks ++ bs) new) s.sends)
+pub alone_before : {D : Type 0} {drive : Ghosts D} (J J' : D) (at : ℕ) (w : Waiting) (bs : List (List ℕ)) (last : List ℕ) → w ≡ record { at = at; blocks = [] } → Stops drive J w bs J' → SendsAlone drive at bs last true J J'
+alone_before {drive = drive} J J' at w bs last new s = alone_stopped last (subst (λ (v : Waiting). Sends drive v.at (v.blocks ++ bs) true J J') new s.sends)
 
 -- the last block waited alone, and was given to a write
 pub alone_after : {D : Type 0} {drive : Ghosts D} {failed : Bool} (J J1 J2 : D) (at : ℕ) (w w1 : Waiting) (bs : List (List ℕ)) (last : List ℕ) → w ≡ record { at = at; blocks = [] } → TakesBlocks drive J w (bs ++ last ∷ []) J1 w1 → w1.blocks ≡ last ∷ []
-    → drive.writes J2 ≡ drive.writes J1 ++ w1.blocks ∷ [] → SendsAlone drive bs last failed J J2
-alone_after {drive = drive} J J1 J2 at w w1 bs last new t waits sent =
+    → WritesInTurn w1.at failed (drive.journal J1) (w1.blocks ∷ []) (drive.journal J2) → drive.writes J2 ≡ drive.writes J1 ++ w1.blocks ∷ [] → SendsAlone drive at bs last failed J J2
+alone_after {drive = drive} {failed = failed} J J1 J2 at w w1 bs last new t waits turn sent =
     let all : bs ++ last ∷ [] ≡ t.sent ++ w1.blocks = sym (ap (λ (v : Waiting). v.blocks ++ (bs ++ last ∷ [])) new) ∙ t.order in
-    alone_sent last (sends_as (front_sent bs t.sent w1.blocks last all waits) t.sends) (sent ∙ ap (λ (cs : List (List ℕ)). drive.writes J1 ++ cs ∷ []) waits)
+    let before : t.sent ≡ bs = front_sent bs t.sent w1.blocks last all waits in
+    alone_sent last (t.place ∙ ap (λ (v : Waiting). v.at + length t.sent) new ∙ ap (λ (cs : List (List ℕ)). at + length cs) before)
+    (sends_as before (subst (λ (v : Waiting). Sends drive v.at t.sent false J J1) new t.sends))
+    (subst (λ (cs : List (List ℕ)). WritesInTurn w1.at failed (drive.journal J1) (cs ∷ []) (drive.journal J2)) waits turn) (sent ∙ ap (λ (cs : List (List ℕ)). drive.writes J1 ++ cs ∷ []) waits)
 
 pub writes_ends : (at : ℕ) (J J' : List Event) (bs : List (List ℕ)) → at ≤ next_of J → J' ≡ J ++ written at bs → at + length bs ≤ next_of J'
 writes_ends at J J' bs begins is = omega (arith, ap next_of is, begins_after J at bs begins)

@@ -60,7 +60,7 @@ impl Plan<'_> {
         requires plan { IsPlan (next_of (D.journal drive.old)) (D.capacity drive.old) self.old }
         ensures ok { OnOk result (D.journal drive.new ≡ D.journal drive.old ++ written (next_of (D.journal drive.old)) (plan_blocks self.old)) }
         ensures err { OnErr result (AddsPrefix (D.journal drive.old) (next_of (D.journal drive.old)) (plan_blocks self.old) (D.journal drive.new)) }
-        ensures alone { SendsAlone D.Drive (node_list self.old ++ table_data self.old.table) self.old.table.entry (is_err result) drive.old drive.new }
+        ensures alone { SendsAlone D.Drive (next_of (D.journal drive.old)) (node_list self.old ++ table_data self.old.table) self.old.table.entry (is_err result) drive.old drive.new }
         ensures same { IsSamePlan self.old self.new }
         ensures writes { WritesOnly D.Drive (is_err result) drive.old drive.new }
     {

@@ -239,7 +239,7 @@ impl<'b> Writer<'b> {
         ensures ok { OnOk result (D.journal drive.new ≡ D.journal drive.old ++ written self.old.packets.at self.old.packets.blocks) }
         ensures empty { OnOk result (self.new.packets ≡ record { at = next_address self.old.packets; blocks = [] }) }
         ensures err { OnErr result (AddsPrefix (D.journal drive.old) self.old.packets.at self.old.packets.blocks (D.journal drive.new)) }
-        ensures sends { Sends D.Drive self.old.packets.blocks (is_err result) drive.old drive.new }
+        ensures sends { Sends D.Drive self.old.packets.at self.old.packets.blocks (is_err result) drive.old drive.new }
         ensures writes { WritesOnly D.Drive (is_err result) drive.old drive.new }
     {
         self.packets.finish(drive)

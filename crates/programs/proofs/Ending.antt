@@ -10,7 +10,7 @@ use Rattle.command_line.specs.declared.command.Command.TheVariants as commands
 use Rattle.command_line.specs.declared.command.Storage.TheVariants.{Image, Memory}
 use Rattle.command_line.specs.Commands.{Asks}
 use Rattle.programs.specs.declared.fault.Fault.{Fault}
-use Rattle.programs.specs.FaultLines.{Reports}
+use Rattle.programs.specs.FaultLines.{Said, Reports}
 use Rattle.programs.specs.Images.{Images}
 use Rattle.programs.specs.Status.{status_of}
 use Rattle.programs.specs.Tasks.{Task, task_of, IsTaskDone, Ends, IsReading}
@@ -60,7 +60,7 @@ asked_task words (commands.Send socket) h = ap task_for h
 
 -- ---- by the outcome of what was read
 
-pub ends : (outcome : Result (Unit {0}) Fault) (words : List (List ℕ)) (asked other : Command) (status : ℕ) (old new : Images) (i l o w e f : Option (List ℕ)) → status ≡ status_of outcome → Reports (codes "udfburn") outcome e f → Asks words asked
+pub ends : (outcome : Result (Unit {0}) Fault) (words : List (List ℕ)) (asked other : Command) (status : ℕ) (old new : Images) (i l o w : Option (List ℕ)) (e f : Said) → status ≡ status_of outcome → Reports (codes "udfburn") outcome e f → Asks words asked
     → IsTaskDone (task_of asked) outcome old new i l o w → Asks words other → Ends (task_of other) status old new i l o w e f
 ends outcome words asked other status old new i l o w e f is reports reads does asks = record {
   outcome = outcome;

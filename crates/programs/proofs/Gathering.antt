@@ -16,30 +16,26 @@ use Rattle.engine.specs.Situation.{Situation, with_store}
 use Rattle.engine.specs.Streams.{PutsPrefix}
 use Rattle.engine.proofs.Messages.{nothing_more}
 use Rattle.engine.proofs.Pieces.{keeps_on}
+use Rattle.recover.specs.declared.fault.StoreFault.{StoreFault}
 use Rattle.programs.specs.declared.fault.Fault.{Fault}
 use Rattle.programs.specs.declared.fault.Fault.TheVariants.{Usage, Path, Socket, Store, Stream}
 use Rattle.programs.specs.Applied.{AppliesStream, AppliesToImage, AnswersInMemory}
 use Rattle.programs.specs.Connections.{ServesPrefix}
 use Rattle.programs.specs.Copies.{SendsFrames, SendsSome}
-use Rattle.programs.specs.FaultLines.{Reports}
+use Rattle.programs.specs.FaultLines.{Said, Reports}
 use Rattle.programs.specs.Status.{drive_failures, status_of}
 use Rattle.programs.specs.Images.{Images, IsThere, IsThereOrMade, OnMedia, Unmade, Unopened}
 use Rattle.programs.specs.NewVolumes.{MakesVolume, MakesOn, MakesOnImage}
 use Rattle.programs.specs.Lines.{formatted_text}
-use Rattle.programs.specs.Questions.{Question, PrintsAnswer, ShowsImage, ShowsPath}
+use Rattle.programs.specs.Questions.{Question, PrintsAnswer, PrintsNothing, PrintsRefused, ShowsImage, ShowsPath}
 use Rattle.programs.specs.Questions.Question.{Names_at, Bytes_at, Commits, Soundness}
 use Rattle.model.specs.Tree as tree
 use Rattle.programs.specs.Tasks.{Task, IsTaskDone, Ends, HasPrefix, IsPrefixOf}
 use Rattle.programs.specs.Tasks.Task.{Format, Apply_to_image, Apply_in_memory, List_names, Get_bytes, Log, Check, Send}
 use Rattle.programs.proofs.Copying.{whole_front}
+use Rattle.programs.proofs.Opening.{keeps_trans}
 use Rattle.programs.proofs.Saying.{front_kept}
 use Rattle.programs.proofs.Telling.{refused_not, told_none}
-
-keeps_trans : (a b c : Option (List ℕ)) → Keeps a b → Keeps b c → Keeps a c
-keeps_trans None b c h k = tt
-keeps_trans (Some xs) None c h k = absurd h
-keeps_trans (Some xs) (Some ys) None h k = absurd k
-keeps_trans (Some xs) (Some ys) (Some zs) h k = k ∙ h
 
 on_image : (Finds : Option (List Event) → List Event → Type 0) (capacity : ℕ) (path : List ℕ) (P Q : Situation → Situation → Type 0) (old new : Images) → ((before afterwards : Situation) → P before afterwards → Q before afterwards)
     → OnMedia Finds capacity path P old new → OnMedia Finds capacity path Q old new
@@ -161,14 +157,24 @@ module _ (i l o v w : Option (List ℕ)) (kept : Keeps v w) where
     left_by = left_kept fault h.some.bytes h.some.answers h.some.reader h.left_by;
   }
 
+  nothing_kept : (question : Question) (capacity : ℕ) (J : List Event) (honest : Bool) (fault : StoreFault) → PrintsNothing question capacity J honest fault o v → PrintsNothing question capacity J honest fault o w
+  nothing_kept question capacity J honest fault h = record { unwritten = keeps_trans o v w h.unwritten kept; refused = h.refused }
+
+  refused_kept : (question : Question) (capacity : ℕ) (J : List Event) (honest : Bool) (fault : StoreFault) → PrintsRefused question capacity J honest fault o v → PrintsRefused question capacity J honest fault o w
+  refused_kept (Names_at path) capacity J honest fault h = nothing_kept (Names_at path) capacity J honest fault h
+  refused_kept (Bytes_at path) capacity J honest fault (inl h) = inl (nothing_kept (Bytes_at path) capacity J honest fault h)
+  refused_kept (Bytes_at path) capacity J honest fault (inr h) = inr (record { front = h.front; printed = keeps_on o v w h.front h.printed kept; said = h.said })
+  refused_kept Commits capacity J honest fault h = nothing_kept Commits capacity J honest fault h
+  refused_kept Soundness capacity J honest fault h = nothing_kept Soundness capacity J honest fault h
+
   shows_kept : {T : Type 0} (question : Question) (outcome : Result T Fault) (capacity : ℕ) (J : List Event) (honest : Bool) → PrintsAnswer question outcome capacity J honest o v → PrintsAnswer question outcome capacity J honest o w
   shows_kept question (Ok x) capacity J honest h = record { bytes = h.bytes; printed = keeps_on o v w h.bytes h.printed kept; said = h.said }
   shows_kept question (Err Usage) capacity J honest h = h
   shows_kept question (Err Path) capacity J honest h = h
   shows_kept question (Err Socket) capacity J honest h = h
-  shows_kept question (Err (Store fault)) capacity J honest h = record { unwritten = keeps_trans o v w h.unwritten kept; refused = h.refused }
+  shows_kept question (Err (Store fault)) capacity J honest h = refused_kept question capacity J honest fault h
   shows_kept question (Err (Stream streams.Read)) capacity J honest h = h
-  shows_kept question (Err (Stream streams.Write)) capacity J honest h = record { bytes = h.bytes; front = front_kept o v w h.bytes h.front kept; said = h.said }
+  shows_kept question (Err (Stream streams.Write)) capacity J honest h = record { front = h.front; printed = keeps_on o v w h.front h.printed kept; said = h.said }
   shows_kept question (Err (Stream streams.Memory)) capacity J honest h = h
 
   sent_kept : SendsSome i l o v → SendsSome i l o w
@@ -249,7 +255,7 @@ done_well (Ok x) done = refl
 done_well (Err fault) done = refused_not 0 fault (sym done) refl
 
 -- the same by what the calls say that lead there
-module _ (task : Task) (status : ℕ) (old new : Images) (i l e f : Option (List ℕ)) {O : Type 0} (contents : O → Option (List ℕ)) (output first last inner : O) (waiting waited rest bytes : List ℕ)
+module _ (task : Task) (status : ℕ) (old new : Images) (i l : Option (List ℕ)) (e f : Said) {O : Type 0} (contents : O → Option (List ℕ)) (output first last inner : O) (waiting waited rest bytes : List ℕ)
     (begins : first ≡ output) (empty : waiting ≡ []) (taken : inner ≡ last) (left : rest ≡ waited) (same : bytes ≡ rest)
     (h : Ends task status old new i l (append_known (contents first) waiting) (append_known (contents last) waited) e f) where
   begun : Ends task status old new i l (contents output) (append_known (contents last) waited) e f
@@ -284,7 +290,7 @@ module _ (task : Task) (status : ℕ) (old new : Images) (i l e f : Option (List
   }
 
   -- it went well, and then the output failed, which was said
-  pub gathered_failed : (now : Option (List ℕ)) (fault : ServeFault) (last_status : ℕ) (told : Option (List ℕ)) → PutsPrefix (contents inner) now bytes → status ≡ 0 → fault ≡ streams.Write
+  pub gathered_failed : (now : Option (List ℕ)) (fault : ServeFault) (last_status : ℕ) (told : Said) → PutsPrefix (contents inner) now bytes → status ≡ 0 → fault ≡ streams.Write
       → last_status ≡ 1 → Reports {T = Unit {0}} (codes "udfburn") (Err (Stream fault)) f told → HasPrefix task last_status old new i l (contents output) now e told
   gathered_failed now fault last_status told put done write is reports = record {
     outcome = there.outcome;
@@ -294,7 +300,7 @@ module _ (task : Task) (status : ℕ) (old new : Images) (i l e f : Option (List
     told_as = Err (Stream streams.Write);
     is_told = inr (done_well there.outcome (sym there.status_is ∙ done), refl);
     status_is = is;
-    reports = subst (λ (x : Option (List ℕ)). Reports {T = Unit {0}} (codes "udfburn") (Err (Stream streams.Write)) x told)
+    reports = subst (λ (x : Said). Reports {T = Unit {0}} (codes "udfburn") (Err (Stream streams.Write)) x told)
         (told_none (codes "udfburn") status e f (there.outcome, there.status_is, there.reports) done)
         (subst (λ (x : ServeFault). Reports {T = Unit {0}} (codes "udfburn") (Err (Stream x)) f told) write reports);
   }

@@ -9,9 +9,6 @@ use Rattle.drive.proofs.Once.{next_once, once_write}
 use Rattle.media.specs.Held.{initial_journal}
 use Rattle.model.specs.Session.{State, formatted}
 use Rattle.model.specs.Tree.{Path}
-use Rattle.durability.specs.Runs.{told}
-use Rattle.durability.specs.Runs.Answer.{Data}
-use Rattle.durability.specs.Runs.Query.{Get}
 use Rattle.durability.specs.Volume.{RecoversTo}
 use Rattle.durability.proofs.One.{stands_one}
 use Rattle.udf.specs.Udf.{udf}
@@ -19,12 +16,13 @@ use Rattle.udf.proofs.Formats.{exact}
 use Rattle.formatting.specs.NewVolume.{words_on, IsFormatted}
 use Rattle.request.specs.Path.{IsPath, path_text}
 use Rattle.programs.specs.declared.fault.Fault.{Fault}
+use Rattle.programs.specs.FaultLines.{Said}
 use Rattle.programs.specs.Images.{Images}
 use Rattle.programs.specs.InTurn.{GetsWhatWasApplied, HasDone, ThreeProcesses, TwoProcesses}
 use Rattle.programs.specs.NewVolumes.{MakesOnImage}
 use Rattle.programs.specs.Processes.{AreRuns, Process}
 use Rattle.programs.specs.Processes.Process.{Command}
-use Rattle.programs.specs.Questions.{ShowsPath}
+use Rattle.programs.specs.Questions.{IsFileAt, ShowsPath}
 use Rattle.programs.specs.Questions.Question.{Bytes_at}
 use Rattle.programs.specs.Status.{status_of}
 use Rattle.programs.specs.Tasks.{IsTaskDone, Task}
@@ -39,7 +37,7 @@ went_well : (task : Task) (outcome : Result ⊤ Fault) (old new : Images) (i l o
 went_well task (Ok x) old new i l o w is h = h
 went_well task (Err fault) old new i l o w is h = refused_not 0 fault is refl
 
-did_of : (task : Task) (before afterwards : Images) (i l o w e f : Option (List ℕ)) → HasDone task before afterwards i l o w e f → IsTaskDone {T = ⊤} task (Ok tt) before afterwards i l o w
+did_of : (task : Task) (before afterwards : Images) (i l o w : Option (List ℕ)) (e f : Said) → HasDone task before afterwards i l o w e f → IsTaskDone {T = ⊤} task (Ok tt) before afterwards i l o w
 did_of task before afterwards i l o w e f h =
     subst (λ (t : Task). IsTaskDone {T = ⊤} t (Ok tt) before afterwards i l o w) h.asks (went_well _ h.whole.ends.outcome before afterwards i l o w h.whole.ends.status_is h.whole.ends.does)
 
@@ -55,7 +53,7 @@ one_journal a b e = ap initial_journal e
 
 -- what a `get` printed of an image that recovers to a state
 gets : (image text : List ℕ) (old new : Images) (volume : ℕ) (S : State) (J : List Event) (o w : Option (List ℕ)) → ShowsPath {T = ⊤} Bytes_at image text (Ok tt) old new o w → IsTrue new.honest → new.held image ≡ Some J
-    → RecoversTo udf GREATEST_CAPACITY volume (held J) S → (path : Path) × IsPath path × (text ≡ path_text path) × ((bytes : List ℕ) × (told S.tree (Get path) ≡ Data bytes) × Appends o w bytes)
+    → RecoversTo udf GREATEST_CAPACITY volume (held J) S → (path : Path) × IsPath path × (text ≡ path_text path) × ((bytes : List ℕ) × IsFileAt S.tree path bytes × Appends o w bytes)
 gets image text old new volume S J o w (inl (inl unread, same, kept)) honest there stands = not_refused tt _ unread.0
 gets image text old new volume S J o w (inl (inr unread, same, kept)) honest there stands = not_refused tt _ unread
 gets image text old new volume S J o w (inr (path, is, same, inl h)) honest there stands = not_refused tt _ h.fault
@@ -65,7 +63,7 @@ gets image text old new volume S J o w (inr (path, is, same, inr h)) honest ther
     let answered = shown.said (h.drive_honest honest) h.once in
     let other : RecoversTo udf GREATEST_CAPACITY answered.volume (held J) answered.state = subst (λ (j : List Event). RecoversTo udf GREATEST_CAPACITY answered.volume (held j) answered.state) journal answered.stands in
     let one : answered.state ≡ S = stands_one udf exact GREATEST_CAPACITY answered.volume GREATEST_CAPACITY volume (held J) answered.state S other stands in
-    (path, is, same, (shown.bytes, subst (λ (T : State). told T.tree (Get path) ≡ Data shown.bytes) one answered.says, shown.printed))
+    (path, is, same, (shown.bytes, subst (λ (T : State). IsFileAt T.tree path shown.bytes) one answered.says, shown.printed))
 
 pub two_processes : TwoProcesses
 two_processes image text first second last volume S before i l o w e f j k p v d q applied got honest there once stands =

@@ -7,6 +7,7 @@ pub mod Making
 pub mod Texts
 pub mod Saying
 pub mod Printing
+pub mod FilePieces
 pub mod Going
 pub mod Reading
 pub mod Ending

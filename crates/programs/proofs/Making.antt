@@ -46,7 +46,7 @@ unbegun_on {T} drive label moment (Err f) fault d e look o earlier later is why 
 
 pub makes_on : {T D : Type 0} (drive : Ghosts D) (label : List ℕ) (moment room : ℕ) (outcome : Result T Fault) (before : List Event) (written : List (List (List ℕ))) (d e : D) (look o w : Option (List ℕ)) (earlier later : ℕ) → room ≡ drive.capacity d → before ≡ drive.journal d → written ≡ drive.writes d
     → IsBegun (drive.capacity d) label moment (drive.journal d) look → AreWordsRefused label room outcome → CountsFailures (drive_failures outcome) (drive.failures d) (drive.failures e) → MakesVolume label moment room outcome before (drive.journal e) (drive.honest e) o w
-    → FormatSurvivesPowerLoss room (words_on room label moment) before written (drive.writes e) (drive.honest e)
+    → FormatSurvivesPowerLoss room (words_on room label moment) before written (drive.journal e) (drive.writes e) (drive.honest e)
     → MakesOn label moment (drive.capacity d) outcome (situation_on drive None d) (situation_on drive None e) look o w earlier later
 makes_on drive label moment room outcome before written d e look o w earlier later same journal writes begun words failures h withstands = inr (
   begun,
@@ -54,9 +54,9 @@ makes_on drive label moment room outcome before written d e look o w earlier lat
   failures,
   subst (λ (n : ℕ). MakesVolume label moment n outcome (drive.journal d) (drive.journal e) (drive.honest e) o w) same
       (subst (λ (j : List Event). MakesVolume label moment room outcome j (drive.journal e) (drive.honest e) o w) journal h),
-  subst (λ (n : ℕ). FormatSurvivesPowerLoss n (words_on n label moment) (drive.journal d) (drive.writes d) (drive.writes e) (drive.honest e)) same
-      (subst (λ (j : List Event). FormatSurvivesPowerLoss room (words_on room label moment) j (drive.writes d) (drive.writes e) (drive.honest e)) journal
-      (subst (λ (ws : List (List (List ℕ))). FormatSurvivesPowerLoss room (words_on room label moment) before ws (drive.writes e) (drive.honest e)) writes withstands)),
+  subst (λ (n : ℕ). FormatSurvivesPowerLoss n (words_on n label moment) (drive.journal d) (drive.writes d) (drive.journal e) (drive.writes e) (drive.honest e)) same
+      (subst (λ (j : List Event). FormatSurvivesPowerLoss room (words_on room label moment) j (drive.writes d) (drive.journal e) (drive.writes e) (drive.honest e)) journal
+      (subst (λ (ws : List (List (List ℕ))). FormatSurvivesPowerLoss room (words_on room label moment) before ws (drive.journal e) (drive.writes e) (drive.honest e)) writes withstands)),
 )
 
 -- an image that was opened, and then looked at

@@ -15,6 +15,12 @@ pub keeps_self : (a : Option (List ℕ)) → Keeps a a
 keeps_self None = tt
 keeps_self (Some xs) = refl
 
+pub keeps_trans : (a b c : Option (List ℕ)) → Keeps a b → Keeps b c → Keeps a c
+keeps_trans None b c h k = tt
+keeps_trans (Some xs) None c h k = absurd h
+keeps_trans (Some xs) (Some ys) None h k = absurd k
+keeps_trans (Some xs) (Some ys) (Some zs) h k = k ∙ h
+
 pub untouched : (images : Images) → AreUntouched images images
 untouched images = record { same = λ _. refl; honest = refl }
 

@@ -1,7 +1,7 @@
 -- What was asked of a volume was printed, or it was refused.
-use Rattle.std.proofs.Common.{◌≡◌, ◌⊎◌, ℕ, ◌+◌, Bool, false, List, length, Option, Result, Ok, Err, refl, sym, ap, subst, ◌∙◌, inl, inr}
+use Rattle.std.proofs.Common.{◌≡◌, ◌⊎◌, ℕ, ◌+◌, Bool, false, List, length, take, Option, Result, Ok, Err, refl, sym, ap, subst, ◌∙◌, inl, inr}
 use Rattle.std.specs.Prelude.{IsTrue, IsErrAnd}
-use Rattle.limits.specs.declared.TheConstants.{GREATEST_CAPACITY}
+use Rattle.limits.specs.declared.TheConstants.{GREATEST_CAPACITY, FILE_BYTES}
 use Rattle.drive.specs.Journal.{Event, Once, held}
 use Rattle.drive.specs.Reads.{CountsFailures}
 use Rattle.drive.specs.declared.Drive.{Ghosts}
@@ -9,8 +9,8 @@ use Rattle.model.specs.Session.{State}
 use Rattle.model.specs.Tree.{Path, Tree}
 use Rattle.durability.specs.Volume.{RecoversTo}
 use Rattle.durability.specs.Runs.{told}
-use Rattle.durability.specs.Runs.Answer.{Data, Names}
-use Rattle.durability.specs.Runs.Query.{Get, List_}
+use Rattle.durability.specs.Runs.Answer.{Names}
+use Rattle.durability.specs.Runs.Query.{List_, Read}
 use Rattle.udf.specs.Udf.{udf}
 use Rattle.request.specs.Path.{IsPath, path_text}
 use Rattle.request.specs.declared.answer.Listed.{Listed}
@@ -21,20 +21,21 @@ use Rattle.recover.specs.declared.fault.StoreFault.TheVariants.{Memory}
 use Rattle.store.specs.declared.history.Commit.{Commit}
 use Rattle.store.specs.declared.store.Store.{Store}
 use Rattle.lookup.specs.Asked.{said_names}
-use Rattle.store.specs.Calls.{IsOpenOn}
+use Rattle.recover.specs.Faults.{IsShortage}
+use Rattle.store.specs.Calls.{IsOpenOn, ReadRefuses}
 use Rattle.store.specs.History.{IsHistory, IsHistoryRefused}
 use Rattle.store.specs.Opened.{IsOpenRefused}
 use Rattle.store.specs.Past.{AllRecovered, IsRecoveredCheckRefused}
 use Rattle.lookup.specs.Queries.{IsQueryRefused as QueryRefused}
 use Rattle.lookup.specs.Shows.{HasNodesOf as TreeShows}
 use Rattle.store.proofs.Knowing.{shows}
-use Rattle.store.proofs.Queried.{gets, lists}
+use Rattle.store.proofs.Queried.{lists}
 use Rattle.engine.specs.declared.serving.ServeFault.TheVariants as streams
 use Rattle.programs.specs.declared.fault.Fault.{Fault}
 use Rattle.programs.specs.declared.fault.Fault.TheVariants as faults
 use Rattle.programs.specs.Images.{Images, IsOpened, IsPutBack, IsThere}
 use Rattle.programs.specs.Lines.{PutsBytes, names_text, commits_text, sound_text}
-use Rattle.programs.specs.Questions.{Question, IsAnswerText, RefusesQuestion, IsQuestionAnswered, IsQuestionRefused, PrintsAnswer, ShowsImage, ShowsPath}
+use Rattle.programs.specs.Questions.{BeginsFileAt, IsAnswerFront, IsAnswerText, IsFileAt, IsQuestionAnswered, IsQuestionRefused, Known, PrintsAnswer, PrintsNothing, PrintsRefused, PutsFile, Question, RefusesQuestion, ShowsImage, ShowsPath}
 use Rattle.programs.specs.Questions.Question.{Names_at, Bytes_at, Commits, Soundness}
 use Rattle.programs.specs.Status.{IsPathTold, drive_failures}
 use Rattle.programs.proofs.Opening.{keeps_self, on_media, untouched}
@@ -49,14 +50,21 @@ shows_put question (Err faults.Path) capacity J honest o w bytes puts said = put
 shows_put question (Err faults.Socket) capacity J honest o w bytes puts said = puts
 shows_put question (Err (faults.Store fault)) capacity J honest o w bytes puts said = absurd puts
 shows_put question (Err (faults.Stream streams.Read)) capacity J honest o w bytes puts said = puts
-shows_put question (Err (faults.Stream streams.Write)) capacity J honest o w bytes puts said = record { bytes = bytes; front = puts; said = said }
+shows_put question (Err (faults.Stream streams.Write)) capacity J honest o w bytes puts said =
+    record { front = take puts.0 bytes; printed = puts.1; said = λ sure once. (bytes, said sure once, puts.0, refl) }
 shows_put question (Err (faults.Stream streams.Memory)) capacity J honest o w bytes puts said = puts
+
+prints_nothing : (question : Question) (capacity : ℕ) (J : List Event) (honest : Bool) (fault : StoreFault) (o w : Option (List ℕ)) → PrintsNothing question capacity J honest fault o w → PrintsRefused question capacity J honest fault o w
+prints_nothing (Names_at path) capacity J honest fault o w h = h
+prints_nothing (Bytes_at path) capacity J honest fault o w h = inl h
+prints_nothing Commits capacity J honest fault o w h = h
+prints_nothing Soundness capacity J honest fault o w h = h
 
 pub shows_refused : {T : Type 0} (question : Question) (outcome : Result T Fault) (capacity : ℕ) (J : List Event) (honest : Bool) (o : Option (List ℕ)) (fault : StoreFault) → IsErrAnd outcome (λ f. f ≡ faults.Store fault)
     → (IsTrue honest → Once J → IsOpenRefused capacity (held J) fault ⊎ IsQuestionRefused question capacity J fault) → PrintsAnswer question outcome capacity J honest o o
 shows_refused {T} question (Ok x) capacity J honest o fault is refused = absurd is
 shows_refused {T} question (Err f) capacity J honest o fault is refused =
-    subst (λ (g : Fault). PrintsAnswer {T = T} question (Err g) capacity J honest o o) (sym is) (record { unwritten = keeps_self o; refused = refused })
+    subst (λ (g : Fault). PrintsAnswer {T = T} question (Err g) capacity J honest o o) (sym is) (prints_nothing question capacity J honest fault o o (record { unwritten = keeps_self o; refused = refused }))
 
 -- ---- by what a store says of the state that it knows
 
@@ -96,16 +104,41 @@ module _ (capacity : ℕ) (J : List Event) (store : Store) where
     pub names_short : (path : Path) → IsTrue later → Once J → IsOpenRefused capacity (held J) Memory ⊎ IsQuestionRefused (Names_at path) capacity J Memory
     names_short path honest once = inr (refused_of (Names_at path) Memory (known_at honest once) (inl (inr refl)))
 
-    pub bytes_said : (path : Path) (data_ bytes : List ℕ) → ((tree : Tree) → Once K → TreeShows later K store.directories store.vat_icb_address store.vat.entries.items tree → told tree (Get path) ≡ Data data_)
-        → bytes ≡ data_ → IsTrue later → Once J → IsQuestionAnswered (Bytes_at path) capacity J bytes
-    bytes_said path data_ bytes is same honest once = let known = known_at honest once in
-        said_of (Bytes_at path) bytes known (is known.0.tree (once_at once) (shown_at honest once) ∙ ap (λ (x : List ℕ). Data x) (sym same))
+    -- what was printed of a file, by what holds on each state that the store knows
+    pub shows_file : {T : Type 0} (path : Path) (outcome : Result T Fault) (size : ℕ) (o w : Option (List ℕ)) → size ≡ capacity
+        → PutsFile (λ bytes. Known (λ volume S. IsOpenOn size volume K S store) later (λ S. IsFileAt S.tree path bytes))
+        (λ front. Known (λ volume S. IsOpenOn size volume K S store) later (λ S. BeginsFileAt S.tree path front))
+        (λ fault. Known (λ volume S. IsOpenOn size volume K S store) later (λ S. ReadRefuses (told S.tree (Read path 0 FILE_BYTES)) fault))
+        (λ fault. Known (λ volume S. IsOpenOn size volume K S store) later (λ S. IsShortage fault)) outcome o w
+        → PrintsAnswer (Bytes_at path) outcome capacity J later o w
+    shows_file path outcome size o w same = by outcome
+      where
+        Says : (State → Type 0) → Type 0
+        Says Is = Known (λ volume S. IsOpenOn size volume K S store) later Is
 
-    pub bytes_refused : (path : Path) (fault : StoreFault) → store.is_stopped ≡ false
-        → ((tree : Tree) → Once K → TreeShows later K store.directories store.vat_icb_address store.vat.entries.items tree → store.is_stopped ≡ false → QueryRefused (told tree (Get path)) fault)
-        → IsTrue later → Once J → IsOpenRefused capacity (held J) fault ⊎ IsQuestionRefused (Bytes_at path) capacity J fault
-    bytes_refused path fault going refused honest once = let known = known_at honest once in
-        inr (refused_of (Bytes_at path) fault known (gets known.0 path (Err fault) tt (refused known.0.tree (once_at once) (shown_at honest once) going)))
+        here_too : (Is : State → Type 0) → Says Is → (honest : IsTrue later) (once : Once J) → Is (known_at honest once).0
+        here_too Is says honest once = let known = known_at honest once in
+            says store.capacity known.0 honest (subst (λ (n : ℕ). IsOpenOn n store.capacity K known.0 store) (sym same) (subst (λ (j : List Event). IsOpenOn capacity store.capacity j known.0 store) (sym journal) known.1))
+
+        front_at : (front : List ℕ) → Says (λ S. BeginsFileAt S.tree path front) → IsTrue later → Once J → IsAnswerFront (Bytes_at path) capacity J front
+        front_at front says honest once =
+            let all = here_too (λ S. BeginsFileAt S.tree path front) says honest once in
+            (all.0, said_of (Bytes_at path) all.0 (known_at honest once) all.1, all.2, all.3)
+
+        by : {T : Type 0} (result : Result T Fault) → PutsFile (λ bytes. Says (λ S. IsFileAt S.tree path bytes)) (λ front. Says (λ S. BeginsFileAt S.tree path front)) (λ fault. Says (λ S. ReadRefuses (told S.tree (Read path 0 FILE_BYTES)) fault)) (λ fault. Says (λ S. IsShortage fault)) result o w
+            → PrintsAnswer (Bytes_at path) result capacity J later o w
+        by (Ok x) (bytes, printed, is) =
+            record { bytes = bytes; printed = printed; said = λ honest once. said_of (Bytes_at path) bytes (known_at honest once) (here_too (λ S. IsFileAt S.tree path bytes) is honest once) }
+        by (Err faults.Usage) h = h
+        by (Err faults.Path) h = h
+        by (Err faults.Socket) h = h
+        by (Err (faults.Store fault)) (inl (kept, refuses)) =
+            inl (record { unwritten = kept; refused = λ honest once. inr (refused_of (Bytes_at path) fault (known_at honest once) (here_too (λ S. ReadRefuses (told S.tree (Read path 0 FILE_BYTES)) fault) refuses honest once)) })
+        by (Err (faults.Store fault)) (inr (front, printed, begins, ends)) =
+            inr (record { front = front; printed = printed; said = λ honest once. (here_too (λ S. IsShortage fault) ends honest once, front_at front begins honest once) })
+        by (Err (faults.Stream streams.Read)) h = h
+        by (Err (faults.Stream streams.Write)) (front, printed, begins) = record { front = front; printed = printed; said = front_at front begins }
+        by (Err (faults.Stream streams.Memory)) h = h
 
     -- the store's address is that of the VAT ICB with which the state is recovered
     here : (honest : IsTrue later) (once : Once J) → store.vat_icb_address ≡ (known_at honest once).1.stands.at

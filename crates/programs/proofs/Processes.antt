@@ -1,9 +1,9 @@
 -- Processes over the same media, one after another, are runs of which each begins on what the one before it left.
-use Rattle.std.proofs.Common.{◌≡◌, inl, inr, ℕ, zero, suc, ◌<◌, Bool, true, false, List, [], ◌∷◌, ◌++◌, length, take, drop, Option, Some, None, Result, Ok, Err, IsTrue, refl, sym, ap, ◌∙◌, subst, arith, append_assoc, append-nil}
+use Rattle.std.proofs.Common.{◌≡◌, inl, inr, ℕ, zero, suc, ◌<◌, Bool, true, false, List, [], ◌∷◌, ◌++◌, length, take, drop, Option, Some, None, Result, Ok, Err, IsTrue, refl, sym, ap, ◌∙◌, subst, arith, append-nil}
 use Rattle.std.specs.Prelude.{bytes_eq}
 use Rattle.std.proofs.Math.Seq.{take-append_seam}
 use Rattle.std.proofs.lemmas.Option.{none-some}
-use Rattle.std.proofs.lemmas.List.{append_cancel_left, drop_all, take_all}
+use Rattle.std.proofs.lemmas.List.{append_cancel_left, drop_all}
 use Rattle.limits.specs.declared.TheConstants.{GREATEST_CAPACITY}
 use Rattle.drive.specs.Journal.{Event, Once, held, next_of, written}
 use Rattle.drive.specs.Reads.{CountsFailures}
@@ -14,9 +14,8 @@ use Rattle.media.specs.Held.{SameOrMade, initial_journal}
 use Rattle.model.specs.Session.{State, Request, after}
 use Rattle.model.proofs.Lists.{bytes_cases}
 use Rattle.model.specs.Tree as tree
-use Rattle.model.proofs.Runs.{after-append}
 use Rattle.durability.specs.Commit.{need}
-use Rattle.durability.specs.Journal.{Advances, HoldsOnJournal}
+use Rattle.durability.specs.Journal.{HoldsOnJournal}
 use Rattle.durability.specs.Volume.{RecoversTo}
 use Rattle.durability.proofs.Lists.{side}
 use Rattle.udf.specs.Udf.{udf, spelled_length}
@@ -25,15 +24,16 @@ use Rattle.formatting.specs.NewVolume as new_volumes
 use Rattle.formatting.proofs.NewVolumes.{format_long}
 use Rattle.recover.specs.declared.fault.StoreFault.{StoreFault}
 use Rattle.recover.specs.declared.fault.StoreFault.TheVariants as stores
-use Rattle.engine.specs.Losses.{AreCut, IsLost, IsRunCutShort, IsStreamCut, Life, Survives}
+use Rattle.engine.specs.Lives.{IsLifeCut, life_of}
+use Rattle.engine.specs.Losses.{AreCut, IsLost, IsRunCutShort, Life, Survives}
 use Rattle.engine.specs.Said.{model_answers}
 use Rattle.engine.specs.Served.{AllAnswered, ServedHolds, ServedWithstands, brought, frames_of}
 use Rattle.engine.specs.Situation.{Situation, situation, with_store}
 use Rattle.engine.specs.Steps.{HoldsState}
 use Rattle.engine.specs.declared.serving.ServeFault.TheVariants as streams
-use Rattle.engine.proofs.Losses.{losses_reach, served_reach}
+use Rattle.engine.proofs.Lives.{cuts_join, run_ended, run_lost}
+use Rattle.engine.proofs.Losses.{losses_reach}
 use Rattle.engine.proofs.Running.{runs_begin}
-use Rattle.engine.proofs.Withstanding.{held_stands}
 use Rattle.programs.specs.declared.fault.Fault.{Fault}
 use Rattle.programs.specs.declared.fault.Fault.TheVariants.{Usage, Path, Socket, Store, Stream}
 use Rattle.programs.specs.Applied.{AppliesStream, AppliesToImage}
@@ -41,7 +41,7 @@ use Rattle.programs.specs.CutShort.{CutOnMedia, IsTaskCut, LosesApply, LosesDaem
 use Rattle.programs.specs.Images.{AreUntouched, Images, IsThere, IsThereOrMade, OnMedia, Unopened}
 use Rattle.programs.specs.Listening.{Heard, ServesEach}
 use Rattle.programs.specs.NewVolumes.{MakesVolume, MakesOn, MakesOnImage}
-use Rattle.programs.specs.Processes.{AllDid, AllRan, AnswersInput, Did, IsLifeCut, Process, ProcessesAreRuns, Ran, RanCommand, RanUntil, life_of}
+use Rattle.programs.specs.Processes.{AllDid, AllRan, AnswersInput, Did, Process, ProcessesAreRuns, Ran, RanCommand, RanUntil}
 use Rattle.programs.specs.Processes.Process.{Command, CutCommand, CutDaemon, Daemon}
 use Rattle.programs.specs.Questions.{Question, PrintsAnswer, ShowsImage, ShowsPath}
 use Rattle.programs.specs.Questions.Question.{Names_at, Bytes_at, Commits, Soundness}
@@ -112,14 +112,6 @@ record Left (path : List ℕ) (volume : ℕ) (S : State) (before : List Event) (
   pub are : Are lives
   pub cuts : AreCut GREATEST_CAPACITY volume S before lives done afterwards
   pub held_is : new.held path ≡ Some afterwards
-
--- nothing is lost after a run that no power loss cut off
-advances_none : (volume : ℕ) (T T' : State) (journal : List Event) → Once journal → RecoversTo udf GREATEST_CAPACITY volume (held journal) T' → Advances udf GREATEST_CAPACITY volume journal T journal T'
-advances_none volume T T' journal once stands = record {
-  front = take_all (length journal) journal (omega arith);
-  once = once;
-  moves = record { more = ([], sym (append-nil (held journal))); fronts = λ k low high. absurd (omega (arith, low, high)); ends = stands; past = λ commits state was. was };
-}
 
 some_same : (a b : List Event) → Some a ≡ Some b → a ≡ b
 some_same a b e = ap initial_journal e
@@ -248,16 +240,7 @@ module _ (path : List ℕ) (volume : ℕ) (S : State) (J : List Event) (once : O
 
   ran : (Are : List Life → Type 0) (messages : List Message) (answers : List Answer) (K : List Event) → HoldsOnJournal udf (need spelled_length) GREATEST_CAPACITY volume S J K (brought messages) (model_answers answers) → new.held path ≡ Some K
       → Are (life_of messages answers ∷ []) → Left path volume S J new Are
-  ran Are messages answers K run held_is are =
-      let committed : List Request = run.holds.committed in
-      let ends : RecoversTo udf GREATEST_CAPACITY volume (held K) (after S committed) = held_stands volume GREATEST_CAPACITY (brought messages) S J K (model_answers answers) run in
-      let cut : IsRunCutShort GREATEST_CAPACITY volume S J (life_of messages answers) K = record {
-        during = K;
-        run = run;
-        few = inl refl;
-        advances = advances_none volume (after S committed) (after S (committed ++ [])) K run.once (subst (λ (D : List Request). RecoversTo udf GREATEST_CAPACITY volume (held K) (after S D)) (sym (append-nil committed)) ends);
-      } in
-      cut_off Are (life_of messages answers) K cut held_is are
+  ran Are messages answers K run held_is are = cut_off Are (life_of messages answers) K (run_ended GREATEST_CAPACITY volume S J K messages answers run) held_is are
 
   -- the power was lost while messages were answered
   lost_serving : (Are : List Life → Type 0) (messages : List Message) (answers : List Answer) (last : Situation) (all : AllAnswered messages (situation None J 0 GREATEST_CAPACITY true []) answers last) → IsTrue last.honest
@@ -268,23 +251,8 @@ module _ (path : List ℕ) (volume : ℕ) (S : State) (J : List Event) (once : O
       ran Are messages answers lost (subst (λ (K : List Event). HoldsOnJournal udf (need spelled_length) GREATEST_CAPACITY volume S J K (brought messages) (model_answers answers)) (sym same) (holds volume S sure (at_start volume S J once stands last sure))) held_is
       (are (life_of messages answers) (inl refl))
   lost_serving Are messages answers last all sure holds withstands lost (inr loses) held_is are =
-      let start : Situation = situation None J 0 GREATEST_CAPACITY true [] in
-      let at : HoldsState volume S start = at_start volume S J once stands last sure in
-      let each = withstands volume S sure at in
-      let c : IsStreamCut GREATEST_CAPACITY volume S J messages answers lost = served_reach volume messages S start answers last at all each.0 each.1 lost loses in
-      let life : Life = record { said = brought c.done; answers = model_answers c.given; under = c.under } in
-      cut_off Are life lost c.cut held_is (are life (inr (record {
-        done = c.done;
-        now = c.now;
-        later = c.later;
-        order = c.order;
-        given = c.given;
-        others = c.others;
-        answers_are = c.answers_are;
-        under = c.under;
-        asked = c.asked;
-        is = refl;
-      })))
+      let c = run_lost volume S (situation None J 0 GREATEST_CAPACITY true []) messages answers last all sure (at_start volume S J once stands last sure) withstands lost loses in
+      cut_off Are c.0 lost c.2 held_is (are c.0 (inr c.1))
 
   -- ---- on the drive of an image
 
@@ -436,21 +404,6 @@ module _ (path : List ℕ) (volume : ℕ) (S : State) (J : List Event) (once : O
 
 -- ---- one process after another
 
-cut_append : (volume : ℕ) (first second : List Life) (S : State) (before between afterwards : List Event) (done more : List Request) → AreCut GREATEST_CAPACITY volume S before first done between → AreCut GREATEST_CAPACITY volume (after S done) between second more afterwards
-    → AreCut GREATEST_CAPACITY volume S before (first ++ second) (done ++ more) afterwards
-cut_append volume [] second S before between afterwards done more (none, same) s =
-    let at : AreCut GREATEST_CAPACITY volume S between second more afterwards = subst (λ (D : List Request). AreCut GREATEST_CAPACITY volume (after S D) between second more afterwards) none s in
-    subst (λ (D : List Request). AreCut GREATEST_CAPACITY volume S before second (D ++ more) afterwards) (sym none) (subst (λ (j : List Event). AreCut GREATEST_CAPACITY volume S j second more afterwards) same at)
-cut_append volume (life ∷ first) second S before between afterwards done more (next, cut, rest, order, others) s =
-    let now : List Request = cut.run.holds.committed ++ life.under in
-    let state : after S done ≡ after (after S now) rest = ap (λ (D : List Request). after S D) order ∙ after-append now rest S in (
-      next,
-      cut,
-      rest ++ more,
-      ap (λ (D : List Request). D ++ more) order ∙ append_assoc now rest more,
-      cut_append volume first second (after S now) next between afterwards rest more others (subst (λ (T : State). AreCut GREATEST_CAPACITY volume T between second more afterwards) state s),
-    )
-
 all_did : (path : List ℕ) (processes : List Process) (old new : Images) (volume : ℕ) (S : State) (before : List Event) → IsTrue new.honest → AllDid processes old new → old.held path ≡ Some before → Once before → RecoversTo udf GREATEST_CAPACITY volume (held before) S
     → Left path volume S before new (AllRan path processes)
 all_did path [] old new volume S before honest h there once stands = untouched_stays path volume S before once stands old new honest there (AllRan path []) h refl
@@ -463,7 +416,7 @@ all_did path (process ∷ processes) old new volume S before honest (between, fi
       done = one.done ++ more.done;
       afterwards = more.afterwards;
       are = (one.lives, more.lives, refl, one.are, more.are);
-      cuts = cut_append volume one.lives more.lives S before one.afterwards more.afterwards one.done more.done one.cuts more.cuts;
+      cuts = cuts_join GREATEST_CAPACITY volume S before one.afterwards more.afterwards one.lives more.lives one.done more.done one.cuts more.cuts;
       held_is = more.held_is;
     }
 

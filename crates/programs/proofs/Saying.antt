@@ -1,9 +1,10 @@
 -- Texts that are written one after another.
-use Rattle.std.proofs.Common.{◌≡◌, ℕ, ◌≤◌, min, List, ◌++◌, length, take, Option, Result, Ok, Err, sym, ap, subst, ◌∙◌, arith, codes}
-use Rattle.std.specs.Prelude.{IsErrAnd, OnOk, OnErr, decimal}
+use Rattle.std.proofs.Common.{◌≡◌, ℕ, ◌≤◌, min, List, ◌++◌, length, take, Option, Result, Ok, Err, sym, ap, subst, ◌∙◌, inl, inr, arith, codes}
+use Rattle.std.specs.Prelude.{IsErrAnd, OnOk, OnErr, decimal, is_err}
 use Rattle.std.specs.Io.KnownBytes.{Appends, Keeps}
 use Rattle.std.proofs.lemmas.List.{take-append-le, take_min}
 use Rattle.std.proofs.lemmas.Result.{on_ok_weaker, on_err_weaker}
+use Rattle.drive.specs.Journal.{counted}
 use Rattle.engine.specs.Streams.{PutsPrefix}
 use Rattle.engine.proofs.Messages.{appends_more, front_more}
 use Rattle.engine.proofs.Pieces.{keeps_on}
@@ -12,7 +13,7 @@ use Rattle.engine.specs.declared.serving.ServeFault.TheVariants as streams
 use Rattle.programs.specs.declared.fault.Fault.{Fault}
 use Rattle.programs.specs.declared.fault.Fault.TheVariants.{Stream}
 use Rattle.programs.specs.Lines.{PutsBytes}
-use Rattle.programs.specs.FaultLines.{Reports, damage_text, fault_damage, fault_line, fault_name, place_text}
+use Rattle.programs.specs.FaultLines.{Reports, Said, SaysLine, damage_text, fault_damage, fault_line, fault_name, place_text}
 use Rattle.programs.proofs.Copying.{whole_front}
 
 -- a prefix is one of a longer text
@@ -119,11 +120,13 @@ module _ (block cause : ℕ) (a b c : Option (List ℕ)) where
 
 -- ---- the line of an outcome
 
-line_said : {T E : Type 0} (r : Result T E) (x : List ℕ) (o v w : Option (List ℕ)) → OnOk r (Appends o v x) → OnErr r (PutsPrefix o v x) → Keeps v w → PutsPrefix o w x
-line_said (Ok y) x o v w all front kept = whole_front o w x (keeps_on o v w x all kept)
-line_said (Err e) x o v w all front kept = front_kept o v w x front kept
+line_said : {T E : Type 0} (r : Result T E) (x : List ℕ) (o v w : Said) → OnOk r (Appends o.contents v.contents x) → OnErr r (PutsPrefix o.contents v.contents x) → v.failures ≡ counted (is_err r) o.failures
+    → Keeps v.contents w.contents → w.failures ≡ v.failures → SaysLine o w x
+line_said (Ok y) x o v w all front failures kept same = inl (keeps_on o.contents v.contents w.contents x all kept, same ∙ failures)
+line_said (Err e) x o v w all front failures kept same = inr (front_kept o.contents v.contents w.contents x front kept, same ∙ failures)
 
-pub reported : {T U E : Type 0} (name : List ℕ) (outcome : Result T Fault) (fault : Fault) (r : Result U E) (o v w : Option (List ℕ)) → outcome ≡ Err fault
-    → OnOk r (Appends o v (fault_line name fault)) → OnErr r (PutsPrefix o v (fault_line name fault)) → Keeps v w → Reports name outcome o w
-reported {T} name outcome fault r o v w is all front kept =
-    subst (λ (x : Result T Fault). Reports name x o w) (sym is) (line_said r (fault_line name fault) o v w all front kept)
+pub reported : {T U E : Type 0} (name : List ℕ) (outcome : Result T Fault) (fault : Fault) (r : Result U E) (o v w : Said) → outcome ≡ Err fault
+    → OnOk r (Appends o.contents v.contents (fault_line name fault)) → OnErr r (PutsPrefix o.contents v.contents (fault_line name fault)) → v.failures ≡ counted (is_err r) o.failures
+    → Keeps v.contents w.contents → w.failures ≡ v.failures → Reports name outcome o w
+reported {T} name outcome fault r o v w is all front failures kept same =
+    subst (λ (x : Result T Fault). Reports name x o w) (sym is) (line_said r (fault_line name fault) o v w all front failures kept same)

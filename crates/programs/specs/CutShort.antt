@@ -41,7 +41,7 @@ pub record LosesDaemon (old new : Heard) (before afterwards : Situation) (lost :
 -- so a format was, in one of its writes
 abbrev pub LosesFormat : List ℕ → ℕ → ℕ → Situation → Situation → List Event → Type 0
 LosesFormat label moment capacity before afterwards lost =
-    FormatSurvivesPowerLoss capacity (words_on capacity label moment) before.journal before.writes afterwards.writes afterwards.honest × IsLost before afterwards lost
+    FormatSurvivesPowerLoss capacity (words_on capacity label moment) before.journal before.writes afterwards.journal afterwards.writes afterwards.honest × IsLost before afterwards lost
 
 -- and so a command that makes no write
 abbrev pub LosesReading : Situation → Situation → List Event → Type 0

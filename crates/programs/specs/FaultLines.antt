@@ -1,10 +1,14 @@
 -- How a fault is said: as its number and its name.
-use Rattle.std.specs.Prelude.{◌≡◌, ℕ, List, [], ◌++◌, codes, decimal, Option, Some, None, Result, Ok, Err}
+use Rattle.std.specs.Prelude.{◌≡◌, ◌⊎◌, ℕ, true, List, [], ◌++◌, codes, decimal, Option, Some, None, Result, Ok, Err}
+use Rattle.std.specs.Io.KnownBytes.{Appends}
+use Rattle.std.specs.declared.io.Write.{Ghosts}
+use Rattle.drive.specs.Journal.{counted}
 use Rattle.engine.specs.declared.serving.ServeFault.{ServeFault}
 use Rattle.engine.specs.declared.serving.ServeFault.TheVariants as streams
 use Rattle.engine.specs.Streams.{PutsPrefix}
 use Rattle.recover.specs.declared.fault.StoreFault.{StoreFault}
 use Rattle.recover.specs.declared.fault.StoreFault.TheVariants as stores
+use Rattle.programs.specs.declared.errors.ErrorStream.{ErrorStream}
 use Rattle.programs.specs.declared.fault.Fault.{Fault}
 use Rattle.programs.specs.declared.fault.Fault.TheVariants.{Usage, Path, Socket, Store, Stream}
 use Rattle.programs.specs.Status.{status_of}
@@ -72,11 +76,24 @@ damage_text (Some damage) = place_text damage.0 damage.1
 abbrev pub fault_line : List ℕ → Fault → List ℕ
 fault_line name fault = name ++ codes ": " ++ fault_name fault ++ damage_text (fault_damage fault) ++ codes "\n"
 
--- Of an outcome that is a fault its line was said, or a prefix where the stream failed; of another nothing.
-abbrev pub Reports : {T : Type 0} → List ℕ → Result T Fault → Option (List ℕ) → Option (List ℕ) → Type 0
+-- What a stream of errors holds, where that is known, and how many writes to it failed.
+pub record Said : Type 0 where
+  pub contents : Option (List ℕ)
+  pub failures : ℕ
+
+abbrev pub said_on : {W : Type 0} → Ghosts W → ErrorStream W → Said
+said_on write errors = record { contents = write.contents errors.stream; failures = errors.failures }
+
+-- The whole line was said; or a write of it failed, and a prefix was said.
+abbrev pub SaysLine : Said → Said → List ℕ → Type 0
+SaysLine errors told line =
+    (Appends errors.contents told.contents line × (told.failures ≡ errors.failures)) ⊎ (PutsPrefix errors.contents told.contents line × (told.failures ≡ counted true errors.failures))
+
+-- Of an outcome that is a fault its line was said, or a prefix where a write failed; of another nothing.
+abbrev pub Reports : {T : Type 0} → List ℕ → Result T Fault → Said → Said → Type 0
 Reports name (Ok x) errors told = told ≡ errors
-Reports name (Err fault) errors told = PutsPrefix errors told (fault_line name fault)
+Reports name (Err fault) errors told = SaysLine errors told (fault_line name fault)
 
 -- A program with this name ended with this status, which is that of an outcome, and said of it what there is to say.
-abbrev pub ReportsOutcome : List ℕ → ℕ → Option (List ℕ) → Option (List ℕ) → Type 0
+abbrev pub ReportsOutcome : List ℕ → ℕ → Said → Said → Type 0
 ReportsOutcome name status errors told = (outcome : Result (Unit {0}) Fault) × (status ≡ status_of outcome) × Reports name outcome errors told

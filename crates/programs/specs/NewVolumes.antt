@@ -60,7 +60,7 @@ MakesOn label moment capacity outcome before afterwards look output written earl
     Unbegun label moment capacity outcome before afterwards look output written earlier later
     ⊎ (IsBegun capacity label moment before.journal look × AreWordsRefused label capacity outcome × CountsFailures (drive_failures outcome) before.failures afterwards.failures
     × MakesVolume label moment capacity outcome before.journal afterwards.journal afterwards.honest output written
-    × FormatSurvivesPowerLoss capacity (words_on capacity label moment) before.journal before.writes afterwards.writes afterwards.honest)
+    × FormatSurvivesPowerLoss capacity (words_on capacity label moment) before.journal before.writes afterwards.journal afterwards.writes afterwards.honest)
 
 -- the same on the image at a path, which is made where it is missing, by what was found there
 abbrev pub MakesOnImage : {T : Type 0} → List ℕ → List ℕ → ℕ → ℕ → Result T Fault → Images → Images → Option (List ℕ) → Option (List ℕ) → Type 0

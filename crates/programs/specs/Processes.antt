@@ -11,11 +11,10 @@ use Rattle.model.specs.Session.{State, Request}
 use Rattle.durability.specs.Volume.{RecoversTo}
 use Rattle.udf.specs.Udf.{udf}
 use Rattle.recover.specs.declared.fault.StoreFault.TheVariants.{Device}
+use Rattle.engine.specs.Lives.{IsLifeCut, life_of}
 use Rattle.engine.specs.Losses.{AreCut, Life, Survives}
-use Rattle.engine.specs.Said.{model_answers}
-use Rattle.engine.specs.Served.{brought, frames_of}
+use Rattle.engine.specs.Served.{frames_of}
 use Rattle.engine.specs.Streams.{PutsPrefix}
-use Rattle.engine.specs.Withstanding.{AsksFor}
 use Rattle.programs.specs.CutShort.{CutOnMedia, IsTaskCut, LosesDaemon}
 use Rattle.programs.specs.declared.fault.Fault.{Fault}
 use Rattle.programs.specs.declared.fault.Fault.TheVariants.{Store}
@@ -43,28 +42,6 @@ Did (CutDaemon image before afterwards) old new = CutOnMedia IsThere GREATEST_CA
 abbrev pub AllDid : List Process → Images → Images → Type 0
 AllDid [] old new = AreUntouched old new
 AllDid (process ∷ processes) old new = (between : Images) × Did process old between × AllDid processes between new
-
--- what came to a process and was answered, where no power loss cut it off
-abbrev pub life_of : List Message → List Answer → Life
-life_of messages answers = record { said = brought messages; answers = model_answers answers; under = [] }
-
--- The same up to a power loss: the messages that were answered before it, and the request of the one under way, where the disk
--- kept all of its commit.
-pub record IsLifeUntil (messages : List Message) (answers : List Answer) (life : Life) : Type 0 where
-  pub done : List Message
-  pub now : Message
-  pub later : List Message
-  pub order : messages ≡ done ++ now ∷ later
-  pub given : List Answer
-  pub others : List Answer
-  pub answers_are : answers ≡ given ++ others
-  pub under : List Request
-  pub asked : (under ≡ []) ⊎ ((request : Request) × (under ≡ request ∷ []) × AsksFor now request)
-  pub is : life ≡ record { said = brought done; answers = model_answers given; under = under }
-
--- it was lost in one of them, or after the last
-abbrev pub IsLifeCut : List Message → List Answer → Life → Type 0
-IsLifeCut messages answers life = (life ≡ life_of messages answers) ⊎ IsLifeUntil messages answers life
 
 -- A command answered these messages, the first of what it read, and of the answers' frames a front was written.
 pub record AnswersInput (input left output written : Option (List ℕ)) (messages : List Message) (answers : List Answer) : Type 0 where

@@ -1,14 +1,13 @@
 -- Why a program began nothing, or a daemon served nothing, what it says of its connections, and how.
-use Rattle.std.specs.Prelude.{◌≡◌, ◌⊎◌, ⊤, ℕ, List, [], ◌∷◌, codes, Option, Result, Ok, Err}
+use Rattle.std.specs.Prelude.{◌≡◌, ◌⊎◌, ⊤, ℕ, List, [], ◌∷◌, codes, Result, Ok, Err}
 use Rattle.limits.specs.declared.TheConstants.{GREATEST_CAPACITY}
 use Rattle.command_line.specs.declared.daemon.DaemonWords.{DaemonWords}
 use Rattle.command_line.specs.Daemon.{AsksDaemon}
 use Rattle.engine.specs.Situation.{Situation}
-use Rattle.engine.specs.Streams.{PutsPrefix}
 use Rattle.recover.specs.declared.fault.StoreFault.TheVariants as stores
 use Rattle.programs.specs.declared.fault.Fault.{Fault}
 use Rattle.programs.specs.declared.fault.Fault.TheVariants.{Usage, Path, Socket, Store, Stream}
-use Rattle.programs.specs.FaultLines.{fault_line}
+use Rattle.programs.specs.FaultLines.{Said, SaysLine, fault_line}
 use Rattle.programs.specs.Images.{AreUntouched, HasFailed, Images, IsThere, IsUnchanged, OnMedia}
 use Rattle.programs.specs.Status.{fault_status}
 
@@ -37,12 +36,12 @@ ServesImage image Did (Err Socket) old new = OnMedia IsThere GREATEST_CAPACITY i
 ServesImage image Did (Err (Store fault)) old new = AreUntouched old new × (fault ≡ stores.Device) × HasFailed old new
 ServesImage image Did (Err (Stream fault)) old new = ⊥
 
--- this is its status, and the line that is said of it, or a prefix where the stream fails
-pub record ReportsRefusal (words : List (List ℕ)) (status : ℕ) (old new : Images) (errors told : Option (List ℕ)) : Type 0 where
+-- this is its status, and the line that is said of it, or a prefix where a write failed
+pub record ReportsRefusal (words : List (List ℕ)) (status : ℕ) (old new : Images) (errors told : Said) : Type 0 where
   pub fault : Fault
   pub refuses : RefusesDaemon words fault old new
   pub status_is : status ≡ fault_status fault
-  pub line : PutsPrefix errors told (fault_line (codes "udfburnd") fault)
+  pub line : SaysLine errors told (fault_line (codes "udfburnd") fault)
 
 -- why a connection could not be had, or was left
 abbrev pub IsLeaving : Fault → Type 0
@@ -52,14 +51,14 @@ IsLeaving Socket = ⊤
 IsLeaving (Store fault) = fault ≡ stores.Memory
 IsLeaving (Stream fault) = ⊤
 
--- the lines of such faults were said one after another, the last of them first here, or a prefix of one where the stream failed
-abbrev pub ReportsEach : List Fault → Option (List ℕ) → Option (List ℕ) → Type 0
+-- the lines of such faults were said one after another, the last of them first here, or a prefix of one where a write failed
+abbrev pub ReportsEach : List Fault → Said → Said → Type 0
 ReportsEach [] errors told = told ≡ errors
 ReportsEach (fault ∷ earlier) errors told =
-    (between : Option (List ℕ)) × ReportsEach earlier errors between × IsLeaving fault × PutsPrefix between told (fault_line (codes "udfburnd") fault)
+    (between : Said) × ReportsEach earlier errors between × IsLeaving fault × SaysLine between told (fault_line (codes "udfburnd") fault)
 
 -- such lines were said, and nothing else
-pub record ReportsFaults (errors told : Option (List ℕ)) : Type 0 where
+pub record ReportsFaults (errors told : Said) : Type 0 where
   pub faults : List Fault
   pub lines : ReportsEach faults errors told
 
@@ -68,13 +67,13 @@ abbrev pub IsEarly : Fault → Type 0
 IsEarly fault = (fault ≡ Usage) ⊎ ((fault ≡ Store stores.Memory) ⊎ (fault ≡ Store stores.Device))
 
 -- So a program of this name ended before anything was begun.
-pub record ReportsEarly (name : List ℕ) (status : ℕ) (errors told : Option (List ℕ)) : Type 0 where
+pub record ReportsEarly (name : List ℕ) (status : ℕ) (errors told : Said) : Type 0 where
   pub fault : Fault
   pub early : IsEarly fault
   pub status_is : status ≡ fault_status fault
-  pub line : PutsPrefix errors told (fault_line name fault)
+  pub line : SaysLine errors told (fault_line name fault)
 
 -- why the process of a daemon served nothing: before it had its words, or with these
-abbrev pub IsDaemonReported : ℕ → Images → Images → Option (List ℕ) → Option (List ℕ) → Type 0
+abbrev pub IsDaemonReported : ℕ → Images → Images → Said → Said → Type 0
 IsDaemonReported status old new errors told =
     (AreUntouched old new × ReportsEarly (codes "udfburnd") status errors told) ⊎ ((words : List (List ℕ)) × ReportsRefusal words status old new errors told)

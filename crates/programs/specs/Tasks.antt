@@ -9,7 +9,7 @@ use Rattle.programs.specs.declared.fault.Fault.{Fault}
 use Rattle.programs.specs.declared.fault.Fault.TheVariants.{Stream}
 use Rattle.programs.specs.Applied.{AppliesToImage, AnswersInMemory}
 use Rattle.programs.specs.Copies.{SendsFrames}
-use Rattle.programs.specs.FaultLines.{Reports}
+use Rattle.programs.specs.FaultLines.{Said, Reports}
 use Rattle.programs.specs.Images.{AreUntouched, Images}
 use Rattle.programs.specs.NewVolumes.{MakesOnImage}
 use Rattle.programs.specs.Questions.{ShowsImage, ShowsPath}
@@ -60,7 +60,7 @@ IsReading (Check image) = ⊤
 IsReading Send = ⊤
 
 -- There is an outcome by which that was done. It has this status, and a fault's line was said.
-pub record Ends (task : Task) (status : ℕ) (old new : Images) (input left output written errors told : Option (List ℕ)) : Type 0 where
+pub record Ends (task : Task) (status : ℕ) (old new : Images) (input left output written : Option (List ℕ)) (errors told : Said) : Type 0 where
   pub outcome : Result (Unit {0}) Fault
   pub does : IsTaskDone task outcome old new input left output written
   pub status_is : status ≡ status_of outcome
@@ -78,7 +78,7 @@ IsToldAs outcome told = (told ≡ outcome) ⊎ (IsOk outcome × (told ≡ Err (S
 
 -- Something was done by an outcome, and of what was written with it a prefix is there. The status and the line are those of
 -- what is reported of it.
-pub record HasPrefix (task : Task) (status : ℕ) (old new : Images) (input left output written errors told : Option (List ℕ)) : Type 0 where
+pub record HasPrefix (task : Task) (status : ℕ) (old new : Images) (input left output written : Option (List ℕ)) (errors told : Said) : Type 0 where
   pub outcome : Result (Unit {0}) Fault
   pub gathered : Option (List ℕ)
   pub does : IsTaskDone task outcome old new input left output gathered
@@ -89,14 +89,14 @@ pub record HasPrefix (task : Task) (status : ℕ) (old new : Images) (input left
   pub reports : Reports (codes "udfburn") told_as errors told
 
 -- There are words of a command, and all was done that they ask for.
-pub record IsWhollyDone (old new : Images) (input left output written errors told : Option (List ℕ)) : Type 0 where
+pub record IsWhollyDone (old new : Images) (input left output written : Option (List ℕ)) (errors told : Said) : Type 0 where
   pub words : List (List ℕ)
   pub asked : Command
   pub asks : Asks words asked
   pub ends : Ends (task_of asked) 0 old new input left output written errors told
 
 -- There are words of a command, and of what was written for them a prefix is there.
-pub record IsPartlyDone (status : ℕ) (old new : Images) (input left output written errors told : Option (List ℕ)) : Type 0 where
+pub record IsPartlyDone (status : ℕ) (old new : Images) (input left output written : Option (List ℕ)) (errors told : Said) : Type 0 where
   pub words : List (List ℕ)
   pub asked : Command
   pub asks : Asks words asked

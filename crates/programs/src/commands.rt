@@ -4,11 +4,12 @@ ghost use Rattle.std.specs.Prelude.{◌≡◌, ◌≤◌, ◌↔◌, map, codes,
 ghost use Rattle.command_line.specs.Commands.{Asks};
 ghost use Rattle.media.specs.Held.{Same};
 ghost use Rattle.programs.specs.Asked.{IsInRange};
-ghost use Rattle.programs.specs.FaultLines.{ReportsOutcome};
+ghost use Rattle.programs.specs.FaultLines.{ReportsOutcome, said_on};
 ghost use Rattle.programs.specs.Images.{AreUntouched, images_on};
 ghost use Rattle.programs.specs.Status.{IsRefusal};
 ghost use Rattle.programs.specs.Tasks.{IsTaskDone, Ends, IsReading, task_of};
 
+use crate::errors::ErrorStream;
 use crate::fault::{Fault, report};
 use crate::questions::{check_image, get_image, list_image, log_image};
 use crate::requests::{apply_in_memory, apply_to_image};
@@ -28,7 +29,7 @@ pub fn command_on<M, R, I, O, E>(
     words: &[&str],
     input: &mut I,
     output: &mut O,
-    errors: &mut E,
+    errors: &mut ErrorStream<E>,
 ) -> u8
 where
     M: Media,
@@ -41,7 +42,7 @@ where
     ensures status { result ≤ 2 }
     ensures asks { result ≤ 1 → (asked : _) × Asks (map (λ w. w.now) words.now) asked }
     // Nothing is reported except why it was refused.
-    ensures reports { ReportsOutcome (codes "udfburn") result (E.contents errors.old) (E.contents errors.new) }
+    ensures reports { ReportsOutcome (codes "udfburn") result (said_on E.Write errors.old) (said_on E.Write errors.new) }
     // For other words nothing is read, nothing is written, and no image is changed.
     ensures unread { result ≡ 2 → I.remaining input.new ≡ I.remaining input.old }
     ensures unwritten { result ≡ 2 → O.contents output.new ≡ O.contents output.old }
@@ -49,7 +50,7 @@ where
     // On honest media, a command that writes to no image leaves what they hold as it was.
     ensures unchanged { (asked : _) → Asks (map (λ w. w.now) words.now) asked → IsReading (task_of asked) → IsTrue (M.honest media.new) → Same (M.held media.old) (M.held media.new) }
     // What they ask for was done, or refused.
-    ensures does { (asked : _) → Asks (map (λ w. w.now) words.now) asked → Ends (task_of asked) result (images_on M.Media media.old) (images_on M.Media media.new) (I.remaining input.old) (I.remaining input.new) (O.contents output.old) (O.contents output.new) (E.contents errors.old) (E.contents errors.new) }
+    ensures does { (asked : _) → Asks (map (λ w. w.now) words.now) asked → Ends (task_of asked) result (images_on M.Media media.old) (images_on M.Media media.new) (I.remaining input.old) (I.remaining input.new) (O.contents output.old) (O.contents output.new) (said_on E.Write errors.old) (said_on E.Write errors.new) }
 {
     let outcome = match read_command(words) {
         Some(asked) => carry_out(rt, media, asked, input, output),

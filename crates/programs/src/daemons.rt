@@ -5,12 +5,14 @@ ghost use Rattle.drive.specs.Reads.{ReadsAndWrites};
 ghost use Rattle.engine.specs.Situation.{IsReady, seen_on, situation_on};
 ghost use Rattle.engine.specs.Served.{ServesAll};
 ghost use Rattle.programs.specs.Connections.{ServesMessages, LeavesConnection, LeavesStream};
+ghost use Rattle.programs.specs.FaultLines.{said_on};
 ghost use Rattle.programs.specs.Images.{IsUnchanged, images_on};
 ghost use Rattle.programs.specs.Listening.{EndsOne, LetsGo, ServesEach, heard_on};
 ghost use Rattle.programs.specs.Outputs.{IsBlank};
 ghost use Rattle.programs.specs.Refusals.{OnAsked, RefusesDaemon, ReportsFaults, ServesImage, ReportsRefusal};
 ghost use Rattle.programs.specs.Status.{IsRefusal};
 
+use crate::errors::ErrorStream;
 use crate::fault::{Fault, report};
 use crate::images::{open_image, put_back};
 use crate::listening::Listener;
@@ -38,7 +40,7 @@ pub fn daemon_on<M, L, R, E>(
     media: &mut M,
     listener: &mut L,
     words: &[&str],
-    errors: &mut E,
+    errors: &mut ErrorStream<E>,
 ) -> u8
 where
     M: Media,
@@ -50,9 +52,9 @@ where
     // that they name, one after another, as one run.
     ensures run { result ≡ 0 → OnAsked (map (λ w. w.now) words.now) (λ asked. ServesEach (unwrap_or asked.connections (2 ^ 64 - 1)) (heard_on L.Listener listener.old) (heard_on L.Listener listener.new)) (images_on M.Media media.old) (images_on M.Media media.new) }
     // It then reported only why connections could not be accepted, or were left.
-    ensures described { result ≡ 0 → ReportsFaults (E.contents errors.old) (E.contents errors.new) }
+    ensures described { result ≡ 0 → ReportsFaults (said_on E.Write errors.old) (said_on E.Write errors.new) }
     // If it was refused, it reported why, and nothing else, and asked for no connection.
-    ensures reports { 1 ≤ result → ReportsRefusal (map (λ w. w.now) words.now) result (images_on M.Media media.old) (images_on M.Media media.new) (E.contents errors.old) (E.contents errors.new) }
+    ensures reports { 1 ≤ result → ReportsRefusal (map (λ w. w.now) words.now) result (images_on M.Media media.old) (images_on M.Media media.new) (said_on E.Write errors.old) (said_on E.Write errors.new) }
     ensures unheard { 1 ≤ result → heard_on L.Listener listener.new ≡ heard_on L.Listener listener.old }
 {
     let outcome = serve_words(rt, media, listener, words, errors);
@@ -65,7 +67,7 @@ fn serve_words<M, L, R, E>(
     media: &mut M,
     listener: &mut L,
     words: &[&str],
-    errors: &mut E,
+    errors: &mut ErrorStream<E>,
 ) -> Result<(), Fault>
 where
     M: Media,
@@ -73,9 +75,9 @@ where
     R: Clock + AllocGlobal,
     E: Write,
     ensures run { OnOk result (OnAsked (map (λ w. w.now) words.now) (λ asked. ServesEach (unwrap_or asked.connections (2 ^ 64 - 1)) (heard_on L.Listener listener.old) (heard_on L.Listener listener.new)) (images_on M.Media media.old) (images_on M.Media media.new)) }
-    ensures described { OnOk result (ReportsFaults (E.contents errors.old) (E.contents errors.new)) }
+    ensures described { OnOk result (ReportsFaults (said_on E.Write errors.old) (said_on E.Write errors.new)) }
     ensures refused { IfErr result (λ fault. RefusesDaemon (map (λ w. w.now) words.now) fault (images_on M.Media media.old) (images_on M.Media media.new)) }
-    ensures unreported { OnErr result (E.contents errors.new ≡ E.contents errors.old) }
+    ensures unreported { OnErr result (said_on E.Write errors.new ≡ said_on E.Write errors.old) }
     ensures unheard { OnErr result (heard_on L.Listener listener.new ≡ heard_on L.Listener listener.old) }
 {
     match read_daemon(rt.alloc(), words) {
@@ -91,7 +93,7 @@ fn serve_image<M, L, R, E>(
     media: &mut M,
     listener: &mut L,
     asked: &DaemonWords<'_>,
-    errors: &mut E,
+    errors: &mut ErrorStream<E>,
 ) -> Result<(), Fault>
 where
     M: Media,
@@ -99,8 +101,8 @@ where
     R: Clock + AllocGlobal,
     E: Write,
     ensures serves { ServesImage asked.now.image.now (ServesEach (unwrap_or asked.now.connections (2 ^ 64 - 1)) (heard_on L.Listener listener.old) (heard_on L.Listener listener.new)) result (images_on M.Media media.old) (images_on M.Media media.new) }
-    ensures described { OnOk result (ReportsFaults (E.contents errors.old) (E.contents errors.new)) }
-    ensures unreported { OnErr result (E.contents errors.new ≡ E.contents errors.old) }
+    ensures described { OnOk result (ReportsFaults (said_on E.Write errors.old) (said_on E.Write errors.new)) }
+    ensures unreported { OnErr result (said_on E.Write errors.new ≡ said_on E.Write errors.old) }
     ensures unheard { OnErr result (heard_on L.Listener listener.new ≡ heard_on L.Listener listener.old) }
 {
     let mut drive = open_image(media, asked.image)?;
@@ -115,7 +117,7 @@ fn serve_all<L, R, D, E>(
     listener: &mut L,
     asked: &DaemonWords<'_>,
     drive: &mut D,
-    errors: &mut E,
+    errors: &mut ErrorStream<E>,
 ) -> Result<(), Fault>
 where
     L: Listener,
@@ -125,8 +127,8 @@ where
     ensures refused { IfErr result (λ fault. fault ≡ Fault.Socket) }
     ensures unchanged { OnErr result (IsUnchanged (situation_on D.Drive None drive.old) (situation_on D.Drive None drive.new)) }
     ensures run { OnOk result (ServesEach (unwrap_or asked.now.connections (2 ^ 64 - 1)) (heard_on L.Listener listener.old) (heard_on L.Listener listener.new) (situation_on D.Drive None drive.old) (situation_on D.Drive None drive.new)) }
-    ensures described { OnOk result (ReportsFaults (E.contents errors.old) (E.contents errors.new)) }
-    ensures unreported { OnErr result (E.contents errors.new ≡ E.contents errors.old) }
+    ensures described { OnOk result (ReportsFaults (said_on E.Write errors.old) (said_on E.Write errors.new)) }
+    ensures unreported { OnErr result (said_on E.Write errors.new ≡ said_on E.Write errors.old) }
     ensures unheard { OnErr result (heard_on L.Listener listener.new ≡ heard_on L.Listener listener.old) }
 {
     listen(listener, asked.socket)?;
@@ -147,14 +149,20 @@ fn listen<L: Listener>(listener: &mut L, socket: &str) -> Result<(), Fault>
 }
 
 /// Serves this many connections, each from where the one before it left the engine and the drive.
-fn serve_each<L, R, D, E>(rt: &R, listener: &mut L, drive: &mut D, connections: u64, errors: &mut E)
+fn serve_each<L, R, D, E>(
+    rt: &R,
+    listener: &mut L,
+    drive: &mut D,
+    connections: u64,
+    errors: &mut ErrorStream<E>,
+)
 where
     L: Listener,
     R: Clock + AllocGlobal,
     D: Drive,
     E: Write,
     ensures run { ServesEach connections (heard_on L.Listener listener.old) (heard_on L.Listener listener.new) (situation_on D.Drive None drive.old) (situation_on D.Drive None drive.new) }
-    ensures described { ReportsFaults (E.contents errors.old) (E.contents errors.new) }
+    ensures described { ReportsFaults (said_on E.Write errors.old) (said_on E.Write errors.new) }
 {
     let mut engine = Engine::new();
     let mut left = connections;
@@ -178,8 +186,8 @@ where
 }
 
 /// Reports that a connection could not be accepted, unless that is reported already.
-fn tell_once<E: Write>(is_told: bool, errors: &mut E)
-    ensures { ReportsFaults (E.contents errors.old) (E.contents errors.new) }
+fn tell_once<E: Write>(is_told: bool, errors: &mut ErrorStream<E>)
+    ensures { ReportsFaults (said_on E.Write errors.old) (said_on E.Write errors.new) }
 {
     if is_told {
         return;

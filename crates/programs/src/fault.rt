@@ -1,16 +1,18 @@
 //! Why a program did not do what it was asked for, and how it reports that.
 
-ghost use Rattle.std.specs.Prelude.{◌≡◌, OnOk, OnErr};
+ghost use Rattle.std.specs.Prelude.{◌≡◌, OnOk, OnErr, is_err};
 ghost use Rattle.std.specs.Io.KnownBytes.{Appends};
+ghost use Rattle.drive.specs.Journal.{counted};
 ghost use Rattle.engine.specs.Streams.{PutsPrefix};
 ghost use Rattle.recover.specs.declared.fault.StoreFault.TheVariants.{Memory};
-ghost use Rattle.programs.specs.FaultLines.{Reports, damage_text, fault_line, place_text};
+ghost use Rattle.programs.specs.FaultLines.{Reports, said_on, damage_text, fault_line, place_text};
 ghost use Rattle.programs.specs.FaultLines as said;
 ghost use Rattle.programs.specs.Status.{status_of, AreWordsTold, IsPathTold};
 ghost use Rattle.programs.specs.declared.fault.Fault.TheVariants.{Store, Stream};
 
+use crate::errors::ErrorStream;
 use command_line::WordsFault;
-use engine::{ServeFault, put_all};
+use engine::ServeFault;
 use itoa::Buffer;
 use request::PathFault;
 use std::alloc::AllocError;
@@ -139,18 +141,18 @@ impl From<WordsFault> for Fault {
     }
 }
 
-/// Reports on `errors` why the program of this name was refused, and returns its status. A failure to write to `errors`
-/// is ignored.
-pub fn report<E: Write>(name: &str, outcome: Result<(), Fault>, errors: &mut E) -> u8
+/// Reports on `errors` why the program of this name was refused, and returns its status. The line is whole unless a
+/// write of it failed, which changes no status.
+pub fn report<E: Write>(name: &str, outcome: Result<(), Fault>, errors: &mut ErrorStream<E>) -> u8
     ensures status { result ≡ status_of outcome }
-    ensures describes { Reports name.now outcome (E.contents errors.old) (E.contents errors.new) }
+    ensures describes { Reports name.now outcome (said_on E.Write errors.old) (said_on E.Write errors.new) }
 {
     let fault = match outcome {
         Ok(()) => return DONE,
         Err(fault) => fault,
     };
     let _ = say(name, fault, errors);
-    let _ = errors.flush();
+    errors.flush();
     match fault {
         Fault::Usage => USAGE,
         _ => REFUSED,
@@ -158,21 +160,26 @@ pub fn report<E: Write>(name: &str, outcome: Result<(), Fault>, errors: &mut E) 
 }
 
 /// Writes the line of a fault.
-fn say<E: Write>(name: &str, fault: Fault, errors: &mut E) -> Result<(), ServeFault>
-    ensures ok { OnOk result (Appends (E.contents errors.old) (E.contents errors.new) (fault_line name.now fault)) }
-    ensures err { OnErr result (PutsPrefix (E.contents errors.old) (E.contents errors.new) (fault_line name.now fault)) }
+fn say<E: Write>(name: &str, fault: Fault, errors: &mut ErrorStream<E>) -> Result<(), ServeFault>
+    ensures ok { OnOk result (Appends (E.contents errors.old.stream) (E.contents errors.new.stream) (fault_line name.now fault)) }
+    ensures err { OnErr result (PutsPrefix (E.contents errors.old.stream) (E.contents errors.new.stream) (fault_line name.now fault)) }
+    ensures failures { errors.new.failures ≡ counted (is_err result) errors.old.failures }
 {
-    put_all(errors, name.as_bytes())?;
-    put_all(errors, b": ")?;
-    put_all(errors, fault.name().as_bytes())?;
+    errors.put(name.as_bytes())?;
+    errors.put(b": ")?;
+    errors.put(fault.name().as_bytes())?;
     say_damage(fault.damage(), errors)?;
-    put_all(errors, b"\n")
+    errors.put(b"\n")
 }
 
 /// Writes what is damaged, and how.
-fn say_damage<E: Write>(damage: Option<(u32, u8)>, errors: &mut E) -> Result<(), ServeFault>
-    ensures ok { OnOk result (Appends (E.contents errors.old) (E.contents errors.new) (damage_text damage)) }
-    ensures err { OnErr result (PutsPrefix (E.contents errors.old) (E.contents errors.new) (damage_text damage)) }
+fn say_damage<E: Write>(
+    damage: Option<(u32, u8)>,
+    errors: &mut ErrorStream<E>,
+) -> Result<(), ServeFault>
+    ensures ok { OnOk result (Appends (E.contents errors.old.stream) (E.contents errors.new.stream) (damage_text damage)) }
+    ensures err { OnErr result (PutsPrefix (E.contents errors.old.stream) (E.contents errors.new.stream) (damage_text damage)) }
+    ensures failures { errors.new.failures ≡ counted (is_err result) errors.old.failures }
 {
     match damage {
         Some((block, cause)) => say_place(block, cause, errors),
@@ -180,12 +187,13 @@ fn say_damage<E: Write>(damage: Option<(u32, u8)>, errors: &mut E) -> Result<(),
     }
 }
 
-fn say_place<E: Write>(block: u32, cause: u8, errors: &mut E) -> Result<(), ServeFault>
-    ensures ok { OnOk result (Appends (E.contents errors.old) (E.contents errors.new) (place_text block cause)) }
-    ensures err { OnErr result (PutsPrefix (E.contents errors.old) (E.contents errors.new) (place_text block cause)) }
+fn say_place<E: Write>(block: u32, cause: u8, errors: &mut ErrorStream<E>) -> Result<(), ServeFault>
+    ensures ok { OnOk result (Appends (E.contents errors.old.stream) (E.contents errors.new.stream) (place_text block cause)) }
+    ensures err { OnErr result (PutsPrefix (E.contents errors.old.stream) (E.contents errors.new.stream) (place_text block cause)) }
+    ensures failures { errors.new.failures ≡ counted (is_err result) errors.old.failures }
 {
-    put_all(errors, b" block ")?;
-    put_all(errors, Buffer::new().format(block).as_bytes())?;
-    put_all(errors, b" cause ")?;
-    put_all(errors, Buffer::new().format(cause).as_bytes())
+    errors.put(b" block ")?;
+    errors.put(Buffer::new().format(block).as_bytes())?;
+    errors.put(b" cause ")?;
+    errors.put(Buffer::new().format(cause).as_bytes())
 }

@@ -2,7 +2,7 @@
 
 ghost use Rattle.std.specs.Prelude.{◌≡◌, ◌≤◌, ◌-◌, ◌^◌, unwrap_or, map, codes, IfErr, IfNone, IfOk, IfSome, IsSomeAnd, OnErr};
 ghost use Rattle.command_line.specs.Commands.{Asks};
-ghost use Rattle.programs.specs.FaultLines.{ReportsOutcome};
+ghost use Rattle.programs.specs.FaultLines.{ReportsOutcome, said_on};
 ghost use Rattle.programs.specs.Images.{AreUntouched, images_on};
 ghost use Rattle.programs.specs.Listening.{ServesEach, heard_on};
 ghost use Rattle.programs.specs.Refusals.{IsDaemonReported, IsEarly, OnAsked, ReportsFaults, ReportsEarly};
@@ -10,6 +10,7 @@ ghost use Rattle.programs.specs.Tasks.{Ends, HasPrefix, IsPartlyDone, IsWhollyDo
 
 use crate::commands::command_on;
 use crate::daemons::daemon_on;
+use crate::errors::ErrorStream;
 use crate::fault::{Fault, report};
 use crate::listening::Listener;
 use engine::put_all;
@@ -35,7 +36,7 @@ pub fn run_command<M, R, I, O, E>(
     media: &mut M,
     input: &mut I,
     output: O,
-    errors: &mut E,
+    errors: &mut ErrorStream<E>,
 ) -> (u8, Option<O>)
 where
     M: Media,
@@ -43,11 +44,11 @@ where
     I: Read,
     O: Write + Drop,
     E: Write,
-    ensures reports { ReportsOutcome (codes "udfburn") result.0 (E.contents errors.old) (E.contents errors.new) }
+    ensures reports { ReportsOutcome (codes "udfburn") result.0 (said_on E.Write errors.old) (said_on E.Write errors.new) }
     // At status 0 the words are those of a command, and the whole output of what was done is written.
-    ensures done { result.0 ≡ 0 → IsSomeAnd result.1 (λ written. IsWhollyDone (images_on M.Media media.old) (images_on M.Media media.new) (I.remaining input.old) (I.remaining input.new) (O.contents output) (O.contents written) (E.contents errors.old) (E.contents errors.new)) }
+    ensures done { result.0 ≡ 0 → IsSomeAnd result.1 (λ written. IsWhollyDone (images_on M.Media media.old) (images_on M.Media media.new) (I.remaining input.old) (I.remaining input.new) (O.contents output) (O.contents written) (said_on E.Write errors.old) (said_on E.Write errors.new)) }
     // At status 1 they are too, unless the output was dropped, and a prefix is written.
-    ensures begun { result.0 ≤ 1 → IfSome result.1 (λ written. IsPartlyDone result.0 (images_on M.Media media.old) (images_on M.Media media.new) (I.remaining input.old) (I.remaining input.new) (O.contents output) (O.contents written) (E.contents errors.old) (E.contents errors.new)) }
+    ensures begun { result.0 ≤ 1 → IfSome result.1 (λ written. IsPartlyDone result.0 (images_on M.Media media.old) (images_on M.Media media.new) (I.remaining input.old) (I.remaining input.new) (O.contents output) (O.contents written) (said_on E.Write errors.old) (said_on E.Write errors.new)) }
     // For other words nothing is read and nothing is written.
     ensures unread { result.0 ≡ 2 → I.remaining input.new ≡ I.remaining input.old }
     ensures unwritten { result.0 ≡ 2 → IfSome result.1 (λ written. IsPrefixOf (O.contents output) (O.contents written)) }
@@ -55,7 +56,7 @@ where
     // If the output was dropped, nothing was read, no image changed, and it reports why nothing was begun.
     ensures let_go { IfNone result.1 (I.remaining input.new ≡ I.remaining input.old) }
     ensures left { IfNone result.1 (AreUntouched (images_on M.Media media.old) (images_on M.Media media.new)) }
-    ensures early { IfNone result.1 (ReportsEarly (codes "udfburn") result.0 (E.contents errors.old) (E.contents errors.new)) }
+    ensures early { IfNone result.1 (ReportsEarly (codes "udfburn") result.0 (said_on E.Write errors.old) (said_on E.Write errors.new)) }
 {
     match try_command(rt, media, input, output, errors) {
         Ok(ended) => ended,
@@ -65,7 +66,12 @@ where
 
 /// Runs `udfburnd` on the words of the process. Returns the status.
 #[tactic(auto, using(crate::proofs::Telling::refused_not))]
-pub fn run_daemon<M, L, R, E>(rt: &R, media: &mut M, listener: &mut L, errors: &mut E) -> u8
+pub fn run_daemon<M, L, R, E>(
+    rt: &R,
+    media: &mut M,
+    listener: &mut L,
+    errors: &mut ErrorStream<E>,
+) -> u8
 where
     M: Media,
     L: Listener,
@@ -76,10 +82,10 @@ where
     // that they name, as one run.
     ensures run { result ≡ 0 → (words : _) × OnAsked words (λ asked. ServesEach (unwrap_or asked.connections (2 ^ 64 - 1)) (heard_on L.Listener listener.old) (heard_on L.Listener listener.new)) (images_on M.Media media.old) (images_on M.Media media.new) }
     // It then reported only why connections could not be accepted, or were left.
-    ensures described { result ≡ 0 → ReportsFaults (E.contents errors.old) (E.contents errors.new) }
+    ensures described { result ≡ 0 → ReportsFaults (said_on E.Write errors.old) (said_on E.Write errors.new) }
     // If it was refused, it reported why, and nothing else, and asked for no connection.
     ensures unheard { 1 ≤ result → heard_on L.Listener listener.new ≡ heard_on L.Listener listener.old }
-    ensures reports { 1 ≤ result → IsDaemonReported result (images_on M.Media media.old) (images_on M.Media media.new) (E.contents errors.old) (E.contents errors.new) }
+    ensures reports { 1 ≤ result → IsDaemonReported result (images_on M.Media media.old) (images_on M.Media media.new) (said_on E.Write errors.old) (said_on E.Write errors.new) }
 {
     match try_daemon(rt, media, listener, errors) {
         Ok(status) => status,
@@ -92,7 +98,7 @@ fn try_command<M, R, I, O, E>(
     media: &mut M,
     input: &mut I,
     output: O,
-    errors: &mut E,
+    errors: &mut ErrorStream<E>,
 ) -> Result<(u8, Option<O>), Fault>
 where
     M: Media,
@@ -100,10 +106,10 @@ where
     I: Read,
     O: Write + Drop,
     E: Write,
-    ensures unreported { IfErr result (λ _. E.contents errors.new ≡ E.contents errors.old) }
-    ensures reports { IfOk result (λ ended. ReportsOutcome (codes "udfburn") ended.0 (E.contents errors.old) (E.contents errors.new)) }
-    ensures done { IfOk result (λ ended. ended.0 ≡ 0 → IsSomeAnd ended.1 (λ written. IsWhollyDone (images_on M.Media media.old) (images_on M.Media media.new) (I.remaining input.old) (I.remaining input.new) (O.contents output) (O.contents written) (E.contents errors.old) (E.contents errors.new))) }
-    ensures begun { IfOk result (λ ended. ended.0 ≤ 1 → IfSome ended.1 (λ written. IsPartlyDone ended.0 (images_on M.Media media.old) (images_on M.Media media.new) (I.remaining input.old) (I.remaining input.new) (O.contents output) (O.contents written) (E.contents errors.old) (E.contents errors.new))) }
+    ensures unreported { IfErr result (λ _. said_on E.Write errors.new ≡ said_on E.Write errors.old) }
+    ensures reports { IfOk result (λ ended. ReportsOutcome (codes "udfburn") ended.0 (said_on E.Write errors.old) (said_on E.Write errors.new)) }
+    ensures done { IfOk result (λ ended. ended.0 ≡ 0 → IsSomeAnd ended.1 (λ written. IsWhollyDone (images_on M.Media media.old) (images_on M.Media media.new) (I.remaining input.old) (I.remaining input.new) (O.contents output) (O.contents written) (said_on E.Write errors.old) (said_on E.Write errors.new))) }
+    ensures begun { IfOk result (λ ended. ended.0 ≤ 1 → IfSome ended.1 (λ written. IsPartlyDone ended.0 (images_on M.Media media.old) (images_on M.Media media.new) (I.remaining input.old) (I.remaining input.new) (O.contents output) (O.contents written) (said_on E.Write errors.old) (said_on E.Write errors.new))) }
     ensures unheard { OnErr result (I.remaining input.new ≡ I.remaining input.old) }
     ensures unread { IfOk result (λ ended. ended.0 ≡ 2 → I.remaining input.new ≡ I.remaining input.old) }
     ensures unwritten { IfOk result (λ ended. ended.0 ≡ 2 → IfSome ended.1 (λ written. IsPrefixOf (O.contents output) (O.contents written))) }
@@ -112,7 +118,7 @@ where
     ensures untouched { IfOk result (λ ended. ended.0 ≡ 2 → AreUntouched (images_on M.Media media.old) (images_on M.Media media.new)) }
     ensures let_go { IfOk result (λ ended. IfNone ended.1 (I.remaining input.new ≡ I.remaining input.old)) }
     ensures left { IfOk result (λ ended. IfNone ended.1 (AreUntouched (images_on M.Media media.old) (images_on M.Media media.new))) }
-    ensures early { IfOk result (λ ended. IfNone ended.1 (ReportsEarly (codes "udfburn") ended.0 (E.contents errors.old) (E.contents errors.new))) }
+    ensures early { IfOk result (λ ended. IfNone ended.1 (ReportsEarly (codes "udfburn") ended.0 (said_on E.Write errors.old) (said_on E.Write errors.new))) }
 {
     hold_standard_streams(rt)?;
     let words = own_words(rt)?;
@@ -128,7 +134,7 @@ fn gathered<M, R, I, O, E>(
     words: &[&str],
     input: &mut I,
     output: O,
-    errors: &mut E,
+    errors: &mut ErrorStream<E>,
 ) -> (u8, Option<O>)
 where
     M: Media,
@@ -136,11 +142,11 @@ where
     I: Read,
     O: Write + Drop,
     E: Write,
-    ensures reports { ReportsOutcome (codes "udfburn") result.0 (E.contents errors.old) (E.contents errors.new) }
+    ensures reports { ReportsOutcome (codes "udfburn") result.0 (said_on E.Write errors.old) (said_on E.Write errors.new) }
     ensures asks { result.0 ≤ 1 → IfSome result.1 (λ _. (asked : _) × Asks (map (λ w. w.now) words.now) asked) }
     ensures kept { result.0 ≡ 0 → IsSomeAnd result.1 (λ _. (asked : _) × Asks (map (λ w. w.now) words.now) asked) }
     // At status 0 the whole output is written, and otherwise a prefix of it.
-    ensures all { (asked : _) → Asks (map (λ w. w.now) words.now) asked → result.0 ≡ 0 → IsSomeAnd result.1 (λ written. Ends (task_of asked) 0 (images_on M.Media media.old) (images_on M.Media media.new) (I.remaining input.old) (I.remaining input.new) (O.contents output) (O.contents written) (E.contents errors.old) (E.contents errors.new)) }
+    ensures all { (asked : _) → Asks (map (λ w. w.now) words.now) asked → result.0 ≡ 0 → IsSomeAnd result.1 (λ written. Ends (task_of asked) 0 (images_on M.Media media.old) (images_on M.Media media.new) (I.remaining input.old) (I.remaining input.new) (O.contents output) (O.contents written) (said_on E.Write errors.old) (said_on E.Write errors.new)) }
     // For other words nothing is read and nothing is written.
     ensures unread { result.0 ≡ 2 → I.remaining input.new ≡ I.remaining input.old }
     ensures unwritten { result.0 ≡ 2 → IfSome result.1 (λ written. IsPrefixOf (O.contents output) (O.contents written)) }
@@ -148,8 +154,8 @@ where
     // If the output was dropped, nothing is read and no image changed, since memory is short.
     ensures let_go { IfNone result.1 (I.remaining input.new ≡ I.remaining input.old) }
     ensures left { IfNone result.1 (AreUntouched (images_on M.Media media.old) (images_on M.Media media.new)) }
-    ensures early { IfNone result.1 (ReportsEarly (codes "udfburn") result.0 (E.contents errors.old) (E.contents errors.new)) }
-    ensures front { (asked : _) → Asks (map (λ w. w.now) words.now) asked → IfSome result.1 (λ written. HasPrefix (task_of asked) result.0 (images_on M.Media media.old) (images_on M.Media media.new) (I.remaining input.old) (I.remaining input.new) (O.contents output) (O.contents written) (E.contents errors.old) (E.contents errors.new)) }
+    ensures early { IfNone result.1 (ReportsEarly (codes "udfburn") result.0 (said_on E.Write errors.old) (said_on E.Write errors.new)) }
+    ensures front { (asked : _) → Asks (map (λ w. w.now) words.now) asked → IfSome result.1 (λ written. HasPrefix (task_of asked) result.0 (images_on M.Media media.old) (images_on M.Media media.new) (I.remaining input.old) (I.remaining input.new) (O.contents output) (O.contents written) (said_on E.Write errors.old) (said_on E.Write errors.new)) }
 {
     let mut writer = match BufWriter::new(rt.alloc(), output) {
         Ok(writer) => writer,
@@ -175,22 +181,22 @@ fn try_daemon<M, L, R, E>(
     rt: &R,
     media: &mut M,
     listener: &mut L,
-    errors: &mut E,
+    errors: &mut ErrorStream<E>,
 ) -> Result<u8, Fault>
 where
     M: Media,
     L: Listener,
     R: Files<File = File> + Clock + Env + AllocGlobal,
     E: Write,
-    ensures unreported { IfErr result (λ _. E.contents errors.new ≡ E.contents errors.old) }
+    ensures unreported { IfErr result (λ _. said_on E.Write errors.new ≡ said_on E.Write errors.old) }
     ensures status { IfOk result (λ status. status ≤ 2) }
     ensures run { IfOk result (λ status. status ≡ 0 → (words : _) × OnAsked words (λ asked. ServesEach (unwrap_or asked.connections (2 ^ 64 - 1)) (heard_on L.Listener listener.old) (heard_on L.Listener listener.new)) (images_on M.Media media.old) (images_on M.Media media.new)) }
     ensures unopened { OnErr result (AreUntouched (images_on M.Media media.old) (images_on M.Media media.new)) }
-    ensures described { IfOk result (λ status. status ≡ 0 → ReportsFaults (E.contents errors.old) (E.contents errors.new)) }
+    ensures described { IfOk result (λ status. status ≡ 0 → ReportsFaults (said_on E.Write errors.old) (said_on E.Write errors.new)) }
     ensures refused { IfErr result IsEarly }
     ensures unasked { OnErr result (heard_on L.Listener listener.new ≡ heard_on L.Listener listener.old) }
     ensures unheard { IfOk result (λ status. 1 ≤ status → heard_on L.Listener listener.new ≡ heard_on L.Listener listener.old) }
-    ensures reports { IfOk result (λ status. 1 ≤ status → IsDaemonReported status (images_on M.Media media.old) (images_on M.Media media.new) (E.contents errors.old) (E.contents errors.new)) }
+    ensures reports { IfOk result (λ status. 1 ≤ status → IsDaemonReported status (images_on M.Media media.old) (images_on M.Media media.new) (said_on E.Write errors.old) (said_on E.Write errors.new)) }
 {
     hold_standard_streams(rt)?;
     let words = own_words(rt)?;

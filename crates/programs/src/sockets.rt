@@ -10,24 +10,28 @@ use std::io::{self, Read, Write};
 use std::net::Net;
 use std::os::unix::net::{UnixListener, UnixStream};
 use std::rc::Rc;
-use std::time::Duration;
+use std::time::{Clock, Duration, Instant};
 
-/// How long a client may neither send a byte nor take one, in seconds.
+/// How long a client may neither send a byte nor take one, in seconds. It is waited for as long, and as long again for
+/// each mebibyte, while it sends a message, and while it takes answers.
 const PATIENCE: u64 = 60;
+
+/// The bytes of a mebibyte.
+const MEBIBYTE: u64 = 1_048_576;
 
 /// How many bytes of an answer are given to a socket at once.
 const PIECE_BYTES: usize = 8192;
 
 /// The connections of one Unix socket, once it listens.
 #[derive(Drop)]
-pub struct Sockets<'a, R: Files<File = File> + Net> {
+pub struct Sockets<'a, R: Files<File = File> + Net + Clock> {
     rt: &'a R,
     listener: Option<UnixListener>,
     given: u64,
     missed: u64,
 }
 
-impl<'a, R: Files<File = File> + Net> Sockets<'a, R> {
+impl<'a, R: Files<File = File> + Net + Clock> Sockets<'a, R> {
     /// A socket that does not listen yet.
     pub fn new(rt: &'a R) -> Sockets<'a, R> {
         Sockets {
@@ -39,7 +43,7 @@ impl<'a, R: Files<File = File> + Net> Sockets<'a, R> {
     }
 
     /// The next connection, and how many connections there are with it.
-    fn next(&self, alloc: Global) -> Option<(u64, Incoming, Pieces<Outgoing>)>
+    fn next(&self, alloc: Global) -> Option<(u64, Incoming<'a, R>, Pieces<Outgoing<'a, R>>)>
         ensures { IfSome result (λ next. next.0 ≡ self.now.given + 1) }
     {
         let given = self.given.checked_add(1)?;
@@ -49,14 +53,26 @@ impl<'a, R: Files<File = File> + Net> Sockets<'a, R> {
             Some(stream) => stream.clone().ok(),
             None => None,
         };
-        Some((given, Incoming(incoming), Pieces(Outgoing(outgoing))))
+        let input = Incoming {
+            rt: self.rt,
+            stream: incoming,
+            frame: Frame::none(),
+            waited: Duration::ZERO,
+        };
+        let output = Outgoing {
+            rt: self.rt,
+            stream: outgoing,
+            written: 0,
+            waited: Duration::ZERO,
+        };
+        Some((given, input, Pieces(output)))
     }
 }
 
-impl<'a, R: Files<File = File> + Net> Listener for Sockets<'a, R> {
-    type Input = Incoming;
+impl<'a, R: Files<File = File> + Net + Clock> Listener for Sockets<'a, R> {
+    type Input = Incoming<'a, R>;
 
-    type Output = Pieces<Outgoing>;
+    type Output = Pieces<Outgoing<'a, R>>;
 
     ghost given = { λ s. replicate s.given None };
 
@@ -78,7 +94,10 @@ impl<'a, R: Files<File = File> + Net> Listener for Sockets<'a, R> {
         }
     }
 
-    fn accept(&mut self, alloc: Global) -> Result<(Incoming, Pieces<Outgoing>), NoConnection> {
+    fn accept(
+        &mut self,
+        alloc: Global,
+    ) -> Result<(Incoming<'a, R>, Pieces<Outgoing<'a, R>>), NoConnection> {
         match self.next(alloc) {
             Some((given, input, output)) => {
                 self.given = given;
@@ -91,9 +110,9 @@ impl<'a, R: Files<File = File> + Net> Listener for Sockets<'a, R> {
         }
     }
 
-    fn limit(&self, input: &Incoming) -> Result<(), NoConnection> {
+    fn limit(&self, input: &Incoming<'a, R>) -> Result<(), NoConnection> {
         let patience = Some(Duration::from_secs(PATIENCE));
-        let Some(shared) = &input.0 else {
+        let Some(shared) = &input.stream else {
             return Err(NoConnection);
         };
         let stream: &UnixStream = shared;
@@ -104,40 +123,146 @@ impl<'a, R: Files<File = File> + Net> Listener for Sockets<'a, R> {
     }
 
     // The stream is closed when the last of its halves is dropped.
-    fn end(&mut self, output: Pieces<Outgoing>) {
+    fn end(&mut self, output: Pieces<Outgoing<'a, R>>) {
         drop(output);
     }
 }
 
-/// The reading half of a connection. If there was no memory for what both halves share, the connection is closed, and
-/// every read fails.
-#[derive(Drop)]
-pub struct Incoming(Option<Rc<UnixStream>>);
+/// How long a client may still be waited for, that was waited for so long over so many bytes. `TimedOut`: no longer.
+fn time_left(waited: Duration, bytes: u64) -> io::Result<Duration> {
+    let allowed = (bytes / MEBIBYTE)
+        .saturating_add(1)
+        .saturating_mul(PATIENCE);
+    let left = allowed.saturating_sub(waited.as_secs());
+    if left == 0 {
+        return Err(io::Error::from(io::ErrorKind::TimedOut));
+    }
+    Ok(Duration::from_secs(left.min(PATIENCE)))
+}
 
-impl Read for Incoming {
+/// Where a stream of frames stands.
+#[derive(Clone, Copy)]
+struct Frame {
+    /// How many bytes came of the length of the frame that has begun.
+    length_bytes: u8,
+    /// These bytes, and then the length.
+    length: u32,
+    /// How many bytes of the payload are missing.
+    missing: u32,
+}
+
+impl Frame {
+    /// A stream at its beginning.
+    fn none() -> Frame {
+        Frame {
+            length_bytes: 0,
+            length: 0,
+            missing: 0,
+        }
+    }
+
+    /// Whether a frame has begun that has not ended.
+    fn is_begun(&self) -> bool {
+        self.length_bytes > 0 || self.missing > 0
+    }
+
+    /// The bytes of its payload, once they are known.
+    fn bytes(&self) -> u64 {
+        if self.missing > 0 {
+            u64::from(self.length)
+        } else {
+            0
+        }
+    }
+
+    /// Takes a byte of the stream. Returns whether a frame ends with it.
+    fn take(&mut self, byte: u8) -> bool {
+        if self.missing > 0 {
+            self.missing -= 1;
+            return self.missing == 0;
+        }
+        self.length = (self.length >> 8) | (u32::from(byte) << 24);
+        if self.length_bytes < 3 {
+            self.length_bytes += 1;
+            return false;
+        }
+        self.length_bytes = 0;
+        self.missing = self.length;
+        self.missing == 0
+    }
+
+    /// Takes these bytes. Returns whether a frame ends among them.
+    fn take_all(&mut self, bytes: &[u8]) -> bool {
+        let mut is_ended = false;
+        for byte in bytes {
+            if self.take(*byte) {
+                is_ended = true;
+            }
+        }
+        is_ended
+    }
+}
+
+/// The reading half of a connection. If there was no memory for what both halves share, the connection is closed, and
+/// every read fails. A client that sends a message byte by byte is waited for no longer than the message may take.
+#[derive(Drop)]
+pub struct Incoming<'a, R: Clock> {
+    rt: &'a R,
+    stream: Option<Rc<UnixStream>>,
+    frame: Frame,
+    /// How long the client was waited for since the frame began.
+    waited: Duration,
+}
+
+impl<'a, R: Clock> Read for Incoming<'a, R> {
     fn read(&mut self, bytes: &mut [u8]) -> io::Result<usize> {
-        let Some(shared) = &self.0 else {
+        let Some(shared) = &self.stream else {
             return Err(io::Error::from(io::ErrorKind::OutOfMemory));
         };
         let mut stream: &UnixStream = shared;
-        stream.read(bytes)
+        stream.set_read_timeout(Some(time_left(self.waited, self.frame.bytes())?))?;
+        let begin = Instant::now(self.rt)?;
+        let count = stream.read(bytes)?;
+        let time = begin.elapsed(self.rt)?;
+        let was_begun = self.frame.is_begun();
+        let is_ended = self.frame.take_all(&bytes[..count]);
+        self.waited = if was_begun && !is_ended {
+            self.waited.saturating_add(time)
+        } else {
+            Duration::ZERO
+        };
+        Ok(count)
     }
 }
 
 /// The writing half of a connection. If there was no memory for what both halves share, every write fails.
 #[derive(Drop)]
-pub struct Outgoing(Option<Rc<UnixStream>>);
+pub struct Outgoing<'a, R: Clock> {
+    rt: &'a R,
+    stream: Option<Rc<UnixStream>>,
+    /// How many bytes the client took since the last flush.
+    written: u64,
+    /// How long it was waited for meanwhile.
+    waited: Duration,
+}
 
-impl Write for Outgoing {
+impl<'a, R: Clock> Write for Outgoing<'a, R> {
     fn write(&mut self, bytes: &[u8]) -> io::Result<usize> {
-        let Some(shared) = &self.0 else {
+        let Some(shared) = &self.stream else {
             return Err(io::Error::from(io::ErrorKind::OutOfMemory));
         };
         let mut stream: &UnixStream = shared;
-        stream.write(bytes)
+        stream.set_write_timeout(Some(time_left(self.waited, self.written)?))?;
+        let begin = Instant::now(self.rt)?;
+        let count = stream.write(bytes)?;
+        self.waited = self.waited.saturating_add(begin.elapsed(self.rt)?);
+        self.written = self.written.saturating_add(count as u64);
+        Ok(count)
     }
 
     fn flush(&mut self) -> io::Result<()> {
+        self.written = 0;
+        self.waited = Duration::ZERO;
         Ok(())
     }
 }

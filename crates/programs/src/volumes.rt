@@ -76,7 +76,7 @@ fn make<D: Drive, O: Write>(
     ensures refusal { IfErr result IsRefusal }
     ensures makes { MakesVolume label.now moment (D.capacity drive.old) result (D.journal drive.old) (D.journal drive.new) (D.honest drive.new) (O.contents output.old) (O.contents output.new) }
     ensures words { AreWordsRefused label.now (D.capacity drive.old) result }
-    ensures withstands { FormatSurvivesPowerLoss (D.capacity drive.old) (words_on (D.capacity drive.old) label.now moment) (D.journal drive.old) (D.writes drive.old) (D.writes drive.new) (D.honest drive.new) }
+    ensures withstands { FormatSurvivesPowerLoss (D.capacity drive.old) (words_on (D.capacity drive.old) label.now moment) (D.journal drive.old) (D.writes drive.old) (D.journal drive.new) (D.writes drive.new) (D.honest drive.new) }
     ensures failures { CountsFailures (drive_failures result) (D.failures drive.old) (D.failures drive.new) }
 {
     format(alloc, drive, label, moment)?;

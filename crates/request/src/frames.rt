@@ -100,6 +100,20 @@ impl Frames {
         }
     }
 
+    /// A reader that holds the same bytes.
+    pub fn copy(&self) -> Result<Frames, AllocError>
+        ensures { IfOk result (λ copy. copy ≡ self.now) }
+    {
+        let bytes = Vec::from_slice(*self.bytes.allocator(), self.waiting())?;
+        let end = bytes.len();
+        Ok(Frames {
+            bytes,
+            taken: 0,
+            end,
+            failed: self.failed,
+        })
+    }
+
     /// Whether a frame had a length that no payload can have, so that nothing more is read.
     pub fn is_over(&self) -> bool
         ensures { result ≡ is_none self.now }

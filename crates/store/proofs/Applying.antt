@@ -1,12 +1,12 @@
 -- What becomes of a new request, by where its commit ends.
-use Rattle.std.proofs.Common.{◌≡◌, ◌⊎◌, inl, inr, ℕ, ◌+◌, ◌<◌, ◌≤◌, true, false, List, [], ◌∷◌, ◌++◌, length, refl, sym, ap, subst, subst₂, ◌∙◌, arith, append_assoc, append-nil}
+use Rattle.std.proofs.Common.{◌≡◌, ◌⊎◌, inl, inr, ℕ, ◌+◌, ◌<◌, ◌≤◌, true, List, [], ◌∷◌, ◌++◌, length, refl, sym, ap, subst, ◌∙◌, arith, append_assoc, append-nil}
 use Rattle.std.specs.Prelude.{Result, Ok, Err, IfOk, IfErr, is_err}
 use Rattle.std.proofs.lemmas.Bool.{false≢true}
 use Rattle.std.proofs.lemmas.List.{take_all}
 use Rattle.drive.specs.Journal.{AddsPrefix, Event, held, next_of, written}
-use Rattle.drive.proofs.Fronts.{front_whole, held_write}
+use Rattle.drive.proofs.Fronts.{held_write}
 use Rattle.drive.specs.Sending.{SendsAlone}
-use Rattle.drive.specs.Writes.{joined}
+use Rattle.drive.specs.Writes.{joined, LastIsCut, WritesInTurn}
 use Rattle.drive.specs.declared.Drive.{Ghosts}
 use Rattle.model.specs.Addresses.{free_address}
 use Rattle.model.specs.Session.{State, after_one, reply_to}
@@ -16,7 +16,7 @@ use Rattle.durability.specs.Journal.{Advances}
 use Rattle.durability.specs.Plan.{IsPlanned}
 use Rattle.durability.specs.Volume.{Medium, RecoversTo}
 use Rattle.durability.proofs.OnJournals.{torn_advances}
-use Rattle.durability.proofs.Writes.{joined_writes, left_more}
+use Rattle.durability.proofs.Writes.{left_more}
 use Rattle.udf.proofs.Formats.{exact, bounded, distinct}
 use Rattle.recover.specs.Faults.{IsShortage, devices, device_failures}
 use Rattle.recover.specs.declared.fault.StoreFault.{StoreFault}
@@ -62,10 +62,9 @@ module _ (capacity volume : ℕ) (J : List Event) (S : State) (store : Store) (k
   pub unwritten : (r : asking.Request) (W : List (List Block)) (failed : ℕ) (J' : List Event) (W' : List (List Block)) → J' ≡ J → W' ≡ W → CommitSurvivesPowerLoss capacity volume J S (model_request r) W failed J' W'
   unwritten r W failed J' W' same kept = record {
     added = [];
-    others = [];
     writes_are = kept ∙ sym (append-nil W);
-    front = (0, omega arith, same ∙ sym (append-nil J));
     whole = λ ok. same ∙ sym (append-nil J);
+    cut = λ more. inl (refl, same);
     torn = λ left afterwards none there. inl (subst (λ (K : List Event). Advances udf capacity volume J S K S) (sym (there ∙ ap (λ (bs : List Block). J ++ written (length J) bs) none ∙ append-nil J)) stays);
   }
 
@@ -129,37 +128,31 @@ module _ (capacity volume : ℕ) (J : List Event) (S : State) (store : Store) (k
           }
 
       -- what its writes leave, and what a power loss leaves of them
-      pub withstands : {D : Type 0} {drive : Ghosts D} (result : Result told.Reply StoreFault) (d e : D) (W : List (List Block)) → drive.writes d ≡ W → SendsAlone drive (node_list plan ++ table_data plan.table) plan.table.entry (is_err result) d e
-          → drive.journal d ≡ J → (old now : Store) → IfOk result (KeepsPlan plan (drive.journal d) (drive.journal e) old now) → IfErr result (BreaksPlan plan (drive.journal d) (drive.journal e) old now)
-          → CommitSurvivesPowerLoss capacity volume J S (model_request r) W (devices result) (drive.journal e) (drive.writes e)
-      withstands {D} {drive} result d e W kept sends same old now all broken = record {
+      pub withstands : {D : Type 0} {drive : Ghosts D} (result : Result told.Reply StoreFault) (d e : D) (W : List (List Block)) → drive.writes d ≡ W
+          → SendsAlone drive (next_of (drive.journal d)) (node_list plan ++ table_data plan.table) plan.table.entry (is_err result) d e → drive.journal d ≡ J
+          → (old now : Store) → IfErr result (BreaksPlan plan (drive.journal d) (drive.journal e) old now) → CommitSurvivesPowerLoss capacity volume J S (model_request r) W (devices result) (drive.journal e) (drive.writes e)
+      withstands {D} {drive} result d e W kept sends same old now broken = record {
         added = sends.added;
-        others = sends.others;
         writes_are = sends.writes ∙ ap (λ (ws : List (List Block)). ws ++ sends.added) kept;
-        front = front_of result (subst (λ (L : List Event). IfOk result (KeepsPlan plan L (drive.journal e) old now)) same all) (subst (λ (L : List Event). IfErr result (BreaksPlan plan L (drive.journal e) old now)) same broken);
-        whole = λ ok. whole_of result ok (subst (λ (L : List Event). IfOk result (KeepsPlan plan L (drive.journal e) old now)) same all) (subst (λ (L : List Event). IfErr result (BreaksPlan plan L (drive.journal e) old now)) same broken) sends.whole;
+        whole = λ ok. whole_of result ok broken in_turn;
+        cut = λ more. inr (cut_of result more in_turn);
         torn = λ left afterwards cut there.
             elim (torn_advances udf capacity volume exact bounded distinct J afterwards S (model_request r) blocks plan.table.entry knows.once knows.stands plans (sends.added ++ sends.others) left sends.alone
             (left_more sends.added sends.others left cut) there) [ inl stood ↦ inl stood | inr done ↦ inr done.1 ];
       }
         where
-          planned_is : plan_blocks plan ≡ joined (sends.added ++ sends.others)
-          planned_is = all_is ∙ sym (joined_writes blocks plan.table.entry (sends.added ++ sends.others) sends.alone)
+          in_turn : WritesInTurn (length J) (is_err result) J sends.added (drive.journal e)
+          in_turn = subst (λ (n : ℕ). WritesInTurn n (is_err result) J sends.added (drive.journal e)) next
+              (subst (λ (L : List Event). WritesInTurn (next_of L) (is_err result) L sends.added (drive.journal e)) same sends.in_turn)
 
-          front_of : (answer : Result told.Reply StoreFault) → IfOk answer (KeepsPlan plan J (drive.journal e) old now) → IfErr answer (BreaksPlan plan J (drive.journal e) old now)
-              → AddsPrefix J (length J) (joined (sends.added ++ sends.others)) (drive.journal e)
-          front_of (Ok reply) done part =
-              subst (λ (L : List Event). AddsPrefix J (length J) (joined (sends.added ++ sends.others)) L) (sym (done.journal ∙ (λ i. J ++ written (next i) (planned_is i))))
-              (front_whole J (length J) (joined (sends.added ++ sends.others)))
-          front_of (Err refusal) done part =
-              subst₂ (λ (n : ℕ) (bs : List Block). AddsPrefix J n bs (drive.journal e)) next planned_is part.front
+          whole_of : (answer : Result told.Reply StoreFault) → devices answer ≡ 0 → IfErr answer (BreaksPlan plan (drive.journal d) (drive.journal e) old now) → WritesInTurn (length J) (is_err answer) J sends.added (drive.journal e)
+              → drive.journal e ≡ J ++ written (length J) (joined sends.added)
+          whole_of (Ok reply) ok part turn = turn.all refl
+          whole_of (Err refusal) ok part turn = let bad : 1 ≡ 0 = ap device_failures (sym part.device) ∙ ok in absurd (omega (arith, bad))
 
-          whole_of : (answer : Result told.Reply StoreFault) → devices answer ≡ 0 → IfOk answer (KeepsPlan plan J (drive.journal e) old now) → IfErr answer (BreaksPlan plan J (drive.journal e) old now)
-              → (is_err answer ≡ false → sends.others ≡ []) → drive.journal e ≡ J ++ written (length J) (joined sends.added)
-          whole_of (Ok reply) ok done part none =
-              let every : plan_blocks plan ≡ joined sends.added = planned_is ∙ ap (λ (ws : List (List Block)). joined (sends.added ++ ws)) (none refl) ∙ ap joined (append-nil sends.added) in
-              done.journal ∙ (λ i. J ++ written (next i) (every i))
-          whole_of (Err refusal) ok done part none = let bad : 1 ≡ 0 = ap device_failures (sym part.device) ∙ ok in absurd (omega (arith, bad))
+          cut_of : (answer : Result told.Reply StoreFault) → 0 < devices answer → WritesInTurn (length J) (is_err answer) J sends.added (drive.journal e) → LastIsCut (length J) J sends.added (drive.journal e)
+          cut_of (Ok reply) more turn = absurd (omega (arith, more))
+          cut_of (Err refusal) more turn = turn.cut refl
 
       -- all is written
       module _ (J' : List Event) (whole_is : J' ≡ J ++ written (next_of J) (plan_blocks plan)) where

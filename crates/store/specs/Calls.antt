@@ -1,7 +1,7 @@
 -- What the calls of a store say on a drive that is honest, of the recovered state on its journal.
 use Rattle.std.specs.Prelude.{◌≡◌, ◌⊎◌, ℕ, ◌+◌, ◌<◌, ◌≤◌, false, List, [], ◌∷◌, ◌++◌, length, Result, Ok, Err}
-use Rattle.drive.specs.Journal.{AddsPrefix, Event, held, written, Once}
-use Rattle.drive.specs.Writes.{IsLeft, joined}
+use Rattle.drive.specs.Journal.{Event, held, written, Once}
+use Rattle.drive.specs.Writes.{IsLeft, LastIsCut, joined}
 use Rattle.request.specs.declared.answer.Reply as told
 use Rattle.request.specs.declared.answer.Listed.{Listed}
 use Rattle.request.specs.declared.answer.NodeStatus.{NodeStatus}
@@ -81,15 +81,15 @@ abbrev pub Applies : (capacity volume : ℕ) → List Event → State → Reques
 Applies capacity volume before S request (Ok reply) afterwards store = IsCommitDone capacity volume before S request reply afterwards store
 Applies capacity volume before S request (Err refusal) afterwards store = RefusesRequest capacity volume before S request refusal afterwards store
 
--- The writes that a call made, and those that it would still have made had none failed. The journal goes on by a prefix of
--- their blocks, and by all blocks of the writes that were made where none failed. Whatever a power loss leaves of the
--- writes that were made, the state before the call is recovered, or the one after the request.
+-- The writes that a call made, each once the one before it was whole. Where none failed, the journal goes on by the blocks of
+-- all. Where the drive failed, there was no write, or the journal goes on by the blocks of all but the last and a prefix of
+-- the last. Whatever a power loss leaves of them, each from where it began, the state before the call is recovered, or the
+-- one after the request.
 pub record CommitSurvivesPowerLoss (capacity volume : ℕ) (before : List Event) (S : State) (request : Request) (writes : List (List (List ℕ))) (failed : ℕ) (afterwards : List Event) (later : List (List (List ℕ))) : Type 0 where
   pub added : List (List (List ℕ))
-  pub others : List (List (List ℕ))
   pub writes_are : later ≡ writes ++ added
-  pub front : AddsPrefix before (length before) (joined (added ++ others)) afterwards
   pub whole : failed ≡ 0 → afterwards ≡ before ++ written (length before) (joined added)
+  pub cut : 0 < failed → ((added ≡ []) × (afterwards ≡ before)) ⊎ LastIsCut (length before) before added afterwards
   pub torn : (left : List (List ℕ)) (journal : List Event) → IsLeft added left → journal ≡ before ++ written (length before) left
       → Advances udf capacity volume before S journal S ⊎ Advances udf capacity volume before S journal (after_one S request)
 

@@ -74,7 +74,7 @@ impl Store {
         ensures agrees { IsStoreOn (D.journal drive.new) (D.capacity drive.new) self.new }
         ensures done { IfOk result (KeepsPlan plan.entry (D.journal drive.old) (D.journal drive.new) self.old self.new) }
         ensures failed { IfErr result (BreaksPlan plan.entry (D.journal drive.old) (D.journal drive.new) self.old self.new) }
-        ensures alone { SendsAlone D.Drive (node_list plan.entry ++ table_data plan.entry.table) plan.entry.table.entry (is_err result) drive.old drive.new }
+        ensures alone { SendsAlone D.Drive (next_of (D.journal drive.old)) (node_list plan.entry ++ table_data plan.entry.table) plan.entry.table.entry (is_err result) drive.old drive.new }
         ensures kept { Once (D.journal drive.old) → AreKept (D.journal drive.old) self.old.directories → AreKept (D.journal drive.new) self.new.directories }
         ensures follows { ReadsAndWrites D.Drive (devices result) drive.old drive.new }
     {

@@ -3,14 +3,14 @@
 #![tactic(auto)]
 
 use media::FileMedia;
-use programs::run_command;
+use programs::{ErrorStream, run_command};
 use std::process::ExitCode;
 
 fn main(rt: HostRuntime) -> ExitCode {
     let mut media = FileMedia::of(&rt);
     let mut input = rt.stdin();
     let output = rt.stdout();
-    let mut errors = rt.stderr();
+    let mut errors = ErrorStream::new(rt.stderr());
     let (status, _) = run_command(&rt, &mut media, &mut input, output, &mut errors);
     ExitCode::from(status)
 }

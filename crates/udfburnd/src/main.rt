@@ -3,12 +3,12 @@
 #![tactic(auto)]
 
 use media::FileMedia;
-use programs::{Sockets, run_daemon};
+use programs::{ErrorStream, Sockets, run_daemon};
 use std::process::ExitCode;
 
 fn main(rt: HostRuntime) -> ExitCode {
     let mut media = FileMedia::of(&rt);
     let mut sockets = Sockets::new(&rt);
-    let mut errors = rt.stderr();
+    let mut errors = ErrorStream::new(rt.stderr());
     ExitCode::from(run_daemon(&rt, &mut media, &mut sockets, &mut errors))
 }

@@ -6,24 +6,23 @@ import os
 from contextlib import closing, contextmanager
 from typing import Iterator, List, Optional, Tuple
 
-from ..beneath import is_own
-from ..operations import now
-from ..own_files import copy, from_top, move, remove, set_mode
-from ..sources import shown
+from ..base.own_files import copy, from_top, move, remove, set_mode
+from ..base.scratch import room, sweep
+from ..local.sources import shown
+from ..wire.operations import now
+from . import same_rows
 from .batch import sound_length
 from .catalogue import CLOSED, FULL, NEW, OPEN, Catalogue, VolumeRow
 from .claims import Claims
-from .close import SIDECARS, beside
+from .close import beside, own_sidecars
 from .config import Config
 from .contents import Contents
 from .errors import LOST, NotAtHand, VolumeDiffers
 from .names import name_back
 from .remotes import Print, print_of_file
-from .tell import plural
-from .volume import CLIENTS_MOST, OpenVolume, is_damaged
-
-LEDGER = (".ledger", ".ledger-wal", ".ledger-shm", ".ledger.lock")
-"""The files of the ledger beside an open image."""
+from .same import rows_on
+from .tell import Tell, plural
+from .volume import CLIENTS_MOST, LEDGER, OpenVolume, is_damaged
 
 BEFORE = ".before"
 """How the names end that files have which were there before, until the adoption is over."""
@@ -50,14 +49,17 @@ def require_whole(config: Config, catalogue: Catalogue, row: VolumeRow, image: s
         volume.require_own(contents)
         there = {file.commit for file in contents.files()}
         lacking = [held for held in catalogue.of_volume(row.number) if held.commit not in there]
+        lines = {held.key() for held in rows_on(contents, row.number)}
+        lacking += [held for held in same_rows.of_volume(catalogue.base, row.number) if held.key() not in lines]
     if lacking:
         raise VolumeDiffers(f"{shown(image)}: lacks {plural(len(lacking), 'file', 'files')} that the catalogue has of {row.label}: it is an older copy")
     if row.state == CLOSED and print_of_file(image) != Print(row.length or 0, row.sha256 or b""):
         raise VolumeDiffers(f"{shown(image)}: is not {row.label} as it was closed: its length or SHA-256 differs")
 
 
-def adopt(config: Config, catalogue: Catalogue, claims: Claims, row: VolumeRow, given: Optional[str]) -> VolumeRow:
-    """Takes a volume over. The image is copied; a new ledger, with a client of its own, goes on with it."""
+def adopt(config: Config, catalogue: Catalogue, claims: Claims, row: VolumeRow, given: Optional[str], tell: Tell, failures: List[str]) -> VolumeRow:
+    """Takes a volume over. The image is copied; a new ledger, with a client of its own, goes on with it. Where no image of an open volume is
+    found its newest copy is taken, and `failures` gets what that lacks."""
     claims.volume(row.number, row.label)
     row = catalogue.volume(row.number) or row
     target = config.path("closed" if row.state == CLOSED else "open", row.label + ".img")
@@ -68,8 +70,15 @@ def adopt(config: Config, catalogue: Catalogue, claims: Claims, row: VolumeRow, 
         row = row._replace(holder=config.id)
         catalogue.save(row)
         return row
+    if image is None and given is None and row.state != CLOSED and config.copies:
+        return from_copies(config, catalogue, claims, row, target, tell, failures)
     if image is None:
         raise NotAtHand(f"{row.label}: its image was not found: name it on the command line")
+    return taken(config, catalogue, row, image, target)
+
+
+def taken(config: Config, catalogue: Catalogue, row: VolumeRow, image: str, target: str) -> VolumeRow:
+    """Takes a volume over whose image was found."""
     require_whole(config, catalogue, row, image)
     row = row._replace(holder=config.id)
     if os.path.realpath(image) == os.path.realpath(target):
@@ -80,6 +89,22 @@ def adopt(config: Config, catalogue: Catalogue, claims: Claims, row: VolumeRow, 
             return go_on(config, catalogue, row)
     except VolumeDiffers as error:
         raise VolumeDiffers(f"{shown(image)}: was not taken over, and all is as before: {error}") from error
+
+
+def from_copies(
+    config: Config, catalogue: Catalogue, claims: Claims, row: VolumeRow, target: str, tell: Tell, failures: List[str],
+) -> VolumeRow:
+    """Takes an open volume over from its newest copy."""
+    from .bring_back import BringBack
+    from .open_copies import OpenCopies
+
+    work = BringBack(config, catalogue, tell, OpenCopies(config, catalogue, claims, tell))
+    sweep(config.folder, config.room_name("repair"))
+    with room(config.folder, config.room_name("repair")) as folder:
+        best = work.newest(row, folder)
+        work.forget(row, best)
+        failures += work.failures
+        return taken(config, catalogue, catalogue.volume(row.number) or row, best.path, target)
 
 
 def go_on(config: Config, catalogue: Catalogue, row: VolumeRow) -> VolumeRow:
@@ -146,9 +171,8 @@ def copy_to(config: Config, image: str, target: str, closed: bool) -> None:
     if print_of_file(new, fresh=True) != print_of_file(image, most=length):
         raise VolumeDiffers(f"{shown(new)}: differs from {shown(image)}: it was written meanwhile, or a disk is failing")
     if closed:
-        for end in SIDECARS:
-            if is_own(beside(image, end)):
-                copied_to(beside(image, end), beside(target, end))
+        for path in own_sidecars(image):
+            copied_to(path, os.path.join(os.path.dirname(target), os.path.basename(path)))
         set_mode(new, config.mode & 0o444)
     move(new, target)
 

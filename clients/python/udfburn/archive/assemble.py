@@ -11,11 +11,12 @@ from collections import Counter
 from contextlib import ExitStack
 from hashlib import sha256
 from itertools import product
-from typing import List, Optional, Sequence
+from typing import List, NamedTuple, Optional, Sequence, Tuple
 
-from ..beneath import open_own
-from ..own_files import from_top, remove
+from ..base.beneath import open_own
+from ..base.own_files import from_top, remove
 from ..protocol import limits
+from ..reader.basics import address_of
 from .contents import Contents
 from .errors import VolumeDiffers
 from .remotes import Print, print_of_file
@@ -28,6 +29,9 @@ TRIALS = 64
 
 LOOKS = 400
 """Times that the files are compared, at most."""
+
+FILE_TRIALS, FILE_BYTES = 1 << 14, 1 << 35
+"""Choices that are tried for one file that is damaged in several places, at most, and the bytes that are read for it."""
 
 
 class Run:
@@ -114,7 +118,7 @@ def badness(path: str) -> int:
         with Contents(path) as contents:
             manifest = contents.manifest()
             nodes = [contents.nodes.get(name) for name in manifest]
-            bad = sum(1 for node, digest in zip(nodes, manifest.values()) if node is None or sha256(contents.volume.read(node).data).digest() != digest)
+            bad = sum(1 for node, digest in zip(nodes, manifest.values()) if node is None or contents.sha256_of(node) != digest)
             return bad + (0 if manifest else limits.NODES)
     except VolumeDiffers:
         return 2 * limits.NODES
@@ -157,6 +161,7 @@ def decided(target: str, new: int, runs: List[Run], wanted: Print) -> bool:
         write_at(new, best, run.at)
         if not told:
             left.append(run)
+    left = without_those_of_files(target, new, left)
     choices = 1
     for run in left:
         choices *= len(run.variants)
@@ -166,6 +171,63 @@ def decided(target: str, new: int, runs: List[Run], wanted: Print) -> bool:
         if print_of_file(target) == wanted:
             return True
     return print_of_file(target) == wanted
+
+
+class Bytes(NamedTuple):
+    """A file of the image: its SHA-256, and where its bytes are, each piece with its place and its length in bytes."""
+
+    sha256: bytes
+    pieces: List[Tuple[int, int]]
+
+    def has(self, run: Run) -> bool:
+        """Whether a run is in it."""
+        return any(run.at < at + length and at < run.at + len(run.variants[0]) for at, length in self.pieces)
+
+    def is_right(self, descriptor: int) -> bool:
+        """Whether an image has its bytes."""
+        whole = sha256()
+        for at, length in self.pieces:
+            whole.update(read_at(descriptor, length, at) or b"")
+        return whole.digest() == self.sha256
+
+
+def files_of(path: str) -> List[Bytes]:
+    """The files that a manifest of the image lists, as far as it can be read."""
+    try:
+        with Contents(path) as contents:
+            nodes = [(contents.nodes.get(name), digest) for name, digest in contents.manifest().items()]
+            return [
+                Bytes(digest, [(address_of(extent.first) * limits.BLOCK, extent.size) for extent in node.extents])
+                for node, digest in nodes if node is not None
+            ]
+    except VolumeDiffers:
+        return []
+
+
+def without_those_of_files(target: str, new: int, runs: List[Run]) -> List[Run]:
+    """Chooses what runs have that are in one file: a single one of them does not make it right. Gives the others."""
+    for file in files_of(target):
+        own = [run for run in runs if file.has(run)]
+        if own and settled(new, file, own):
+            runs = [run for run in runs if run not in own]
+    return runs
+
+
+def settled(new: int, file: Bytes, runs: List[Run]) -> bool:
+    """Tries what each run of a file may have, the likeliest first. Whether the file has its digest then."""
+    choices = 1
+    for run in runs:
+        choices *= len(run.variants)
+    if choices > FILE_TRIALS or choices * sum(length for _, length in file.pieces) > FILE_BYTES:
+        return False
+    for chosen in sorted(product(*[range(len(run.variants)) for run in runs]), key=sum):
+        for run, index in zip(runs, chosen):
+            write_at(new, run.variants[index], run.at)
+        if file.is_right(new):
+            return True
+    for run in runs:
+        write_at(new, run.variants[0], run.at)
+    return False
 
 
 __all__ = ["assembled"]

@@ -1,11 +1,11 @@
-"""What a bag (RFC 8493) takes beside its manifests, which `udfburn.manifest` has."""
+"""What a bag (RFC 8493) takes beside its manifests, which `udfburn.base.manifest` has."""
 
 from __future__ import annotations
 
 from hashlib import sha256
 from typing import Mapping
 
-from ..manifest import Line, bag_manifest
+from ..base.manifest import Line, bag_manifest
 from ..protocol import Path
 
 

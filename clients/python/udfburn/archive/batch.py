@@ -9,7 +9,6 @@ from __future__ import annotations
 
 import atexit
 import errno
-import fcntl
 import os
 import stat
 from contextlib import suppress
@@ -17,14 +16,15 @@ from functools import lru_cache
 from shutil import rmtree
 from typing import IO, Optional, Type
 
-from ..beneath import open_own
-from ..disk import room_left
-from ..ledger_file import remove
-from ..own_files import from_top, opened
+from ..base.beneath import open_own
+from ..base.disk import room_left
+from ..base.locks import lock_or_close
+from ..base.own_files import from_top, opened
+from ..base.scratch import own_folder, sweep
+from ..ledger.file import remove
+from ..local.saving import write_all, write_file
+from ..local.sources import shown
 from ..protocol import limits
-from ..scratch import own_folder, sweep
-from ..sources import shown
-from .config import write_file
 from .errors import ArchiveError, VolumeDiffers
 
 FOLDER = "/dev/shm"
@@ -94,11 +94,8 @@ def forget_tail(image: str) -> None:
 def locked(image: str) -> int:
     """A descriptor of an image that no other process writes meanwhile."""
     descriptor = opened(image)
-    try:
-        fcntl.flock(descriptor, fcntl.LOCK_EX | fcntl.LOCK_NB)
-    except BlockingIOError as error:
-        os.close(descriptor)
-        raise VolumeDiffers(f"{shown(image)}: another program is writing it") from error
+    if not lock_or_close(descriptor):
+        raise VolumeDiffers(f"{shown(image)}: another program is writing it")
     return descriptor
 
 
@@ -205,7 +202,7 @@ class Batch:
             new.seek(self.length)
             os.lseek(self._descriptor, self.length, os.SEEK_SET)
             for piece in iter(lambda: new.read(PIECE), b""):
-                write_whole(self._descriptor, piece)
+                write_all(self._descriptor, piece)
             os.fsync(self._descriptor)
         except OSError:
             # What cannot even be cut off now is cut off by the next run.
@@ -214,13 +211,6 @@ class Batch:
             forget_tail(self.image)
             raise
         forget_tail(self.image)
-
-
-def write_whole(descriptor: int, piece: bytes) -> None:
-    """Writes all of a piece."""
-    left = memoryview(piece)
-    while left:
-        left = left[os.write(descriptor, left) :]
 
 
 def private(path: str, flags: int) -> int:

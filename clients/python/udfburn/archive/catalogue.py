@@ -8,13 +8,16 @@ from __future__ import annotations
 
 import socket
 import uuid
-from typing import Dict, Iterable, Iterator, List, NamedTuple, Optional, Sequence, Tuple
+from typing import Dict, Iterator, List, NamedTuple, Optional, Sequence, Tuple
 
-from ..beneath import is_own, is_there
-from ..protocol import Path, limits
+from ..base.beneath import is_own, is_there
+from ..protocol import Path
+from ..protocol.units import Commit, Moment, Size
+from . import same_rows
 from .base import Base, Row, open_base
 from .config import Config
 from .errors import CatalogueError
+from .held import Held, as_of, below, folder_back, folder_text, held_row, is_whole, order, part_count, versions, volume_and_commit
 from .names import kept_name, name_back
 from .schema import COMMITS, VERSION, statements
 
@@ -25,31 +28,6 @@ FOLDERS = 100_000
 """Ids of folders that are remembered, at most."""
 
 
-class Held(NamedTuple):
-    """A row: a version of a file, or those of its parts that a volume has.
-
-    `size` has bytes, `moment` and `added` are in microseconds from 1970-01-01 UTC. `first` is the first part that is here, and
-    `parts` how many are; both are None where the file is whole.
-    """
-
-    volume: int
-    commit: int
-    path: Path
-    size: int
-    moment: int
-    sha256: bytes
-    added: int
-    first: Optional[int] = None
-    parts: Optional[int] = None
-
-    def id(self) -> int:
-        return self.volume * COMMITS + self.commit
-
-    def version(self) -> Tuple[Path, int, int, bytes]:
-        """What distinguishes one version from another."""
-        return self.path, self.size, self.moment, self.sha256
-
-
 class VolumeRow(NamedTuple):
     """What the catalogue keeps of a volume."""
 
@@ -58,19 +36,19 @@ class VolumeRow(NamedTuple):
     state: str
     holder: str
     capacity: int
-    formatted: int
-    closed: Optional[int] = None
-    last_commit: int = 0
+    formatted: Moment
+    closed: Optional[Moment] = None
+    last_commit: Commit = Commit(0)
     files: int = 0
     nodes: int = 1
     blocks: int = 0
     clients: int = 0
     manifest: int = 0
     fullest_folder: int = 0
-    length: Optional[int] = None
+    length: Optional[Size] = None
     sha256: Optional[bytes] = None
-    checked: Optional[int] = None
-    data_checked: Optional[int] = None
+    checked: Optional[Moment] = None
+    data_checked: Optional[Moment] = None
     trouble: Optional[str] = None
 
 
@@ -91,8 +69,8 @@ class Copy(NamedTuple):
 
     volume: int
     remote: str
-    made: int
-    checked: int
+    made: Moment
+    checked: Moment
     trouble: Optional[str]
 
     def disc(self) -> Optional[str]:
@@ -269,24 +247,29 @@ class Catalogue:
 
     def _insert(self, rows: Sequence[Held]) -> None:
         # Sorted, so that two processes that make the same folders make them in one order, and none waits for the other.
-        folders = {text: self._folder_id(text) for text in sorted({folder_text(row.path[:-1]) for row in rows})}
+        folders = {text: self.folder_id(text) for text in sorted({folder_text(row.path[:-1]) for row in rows})}
         kept = []
         for row in rows:
             folder = folders[folder_text(row.path[:-1])]
             kept.append((row.id(), folder, kept_name(row.path[-1]), row.size, row.moment, row.sha256, row.added, row.first, row.parts))
         self.base.many(KEPT_FILE, kept)
-        if self.base.has_names:
-            self._insert_names(rows)
+        self.keep_names(rows)
 
-    def _insert_names(self, rows: Sequence[Held]) -> None:
-        """Keeps names that no file has yet for the index, and then those of the files."""
+    def keep_names(self, rows: Sequence[Held]) -> None:
+        """Keeps names that no file has yet for the index, and then those of the files. Only inside a transaction."""
+        if not self.base.has_names:
+            return
         new = "INSERT INTO known_name (name) SELECT ? WHERE NOT EXISTS (SELECT 1 FROM by_name WHERE name = ?)"
         self.base.many(new, [(name, name) for name in sorted({kept_name(row.path[-1]) for row in rows})])
         for table, column in NAMES:
-            self.base.many(KEPT_NAME.format(table=table, column=column), sorted((*name_key(column, row), row.parts) for row in rows))
+            self.base.many(KEPT_NAME.format(table=table, column=column), sorted((*name_key(column, row), parts_of_name(row)) for row in rows))
 
     def _delete(self, rows: Sequence[Held]) -> None:
         self.base.many("DELETE FROM file WHERE id = ?", [(row.id(),) for row in rows])
+        self.forget_names(rows)
+
+    def forget_names(self, rows: Sequence[Held]) -> None:
+        """Keeps no names of files. Only inside a transaction."""
         for table, column in NAMES if self.base.has_names else ():
             self.base.many(f"DELETE FROM {table} WHERE {column} = ? AND path = ? AND id = ?", [name_key(column, row) for row in rows])
 
@@ -304,11 +287,14 @@ class Catalogue:
         return mended
 
     def _mend(self, table: str, column: str) -> int:
-        name = "name" if column == "name" else "reverse(name)"
-        files = f"SELECT {name} AS {column}, path, file.id AS id, part_count FROM folder JOIN file ON file.folder = folder.id"
+        name, back = ("name", "one.name") if column == "name" else ("reverse(name)", "reverse(one.ending)")
+        files = f"""SELECT {name} AS {column}, path, file.id AS id, part_count FROM folder JOIN file ON file.folder = folder.id
+        UNION ALL SELECT DISTINCT {name}, path, -(volume * {COMMITS} + commit_number), part_count * 0 FROM folder JOIN same ON same.folder = folder.id"""
         same = " AND ".join(f"one.{field} IS other.{field}" for field in (column, "path", "id", "part_count"))
         stale = f"""FROM {table} AS one WHERE NOT EXISTS (SELECT 1 FROM file JOIN folder ON folder.id = file.folder
-        WHERE file.id = one.id AND {name} = one.{column} AND path = one.path AND part_count IS one.part_count)"""
+        WHERE file.id = one.id AND {name} = one.{column} AND path = one.path AND part_count IS one.part_count)
+        AND NOT EXISTS (SELECT 1 FROM folder JOIN same ON same.folder = folder.id WHERE folder.path = one.path AND same.name = {back}
+        AND one.id < 0 AND volume * {COMMITS} + commit_number = -one.id AND part_count * 0 IS one.part_count)"""
         missing = f"FROM ({files}) AS one WHERE NOT EXISTS (SELECT 1 FROM {table} AS other WHERE {same})"
         found = [int(self.base.run(f"SELECT count(*) {what}")[0][0]) for what in (stale, missing)]
         if any(found):
@@ -316,7 +302,7 @@ class Catalogue:
             self.base.run(f"INSERT INTO {table} SELECT * {missing}")
         return max(found)
 
-    def _folder_id(self, text: str) -> int:
+    def folder_id(self, text: str) -> int:
         """The id of a folder, which is made where it is missing."""
         if text not in self._folders:
             if len(self._folders) >= FOLDERS:
@@ -336,6 +322,8 @@ class Catalogue:
         for row in self.base.run(statement, (folder_text(path),)):
             held = held_row(path, row)
             found.setdefault(held.path[-1], []).append(held)
+        for held in same_rows.in_folder(self.base, path):
+            found.setdefault(held.path[-1], []).append(held)
         for rows in found.values():
             rows.sort(key=order, reverse=True)
         return found
@@ -348,19 +336,19 @@ class Catalogue:
         statement = f"""SELECT {FILE} FROM folder JOIN file ON file.folder = folder.id WHERE folder.path = ?
         AND file.id IN (SELECT id FROM by_name WHERE name = ? AND path = ?)"""
         rows = [held_row(path[:-1], row) for row in self.base.run(statement, (folder, name, folder))]
-        return sorted(rows, key=order, reverse=True)
+        return sorted(rows + same_rows.of_path(self.base, path), key=order, reverse=True)
 
-    def last_added(self, path: Path) -> int:
+    def last_added(self, path: Path) -> Moment:
         """The latest moment at which something at a path or below it was added; 0 where nothing was."""
-        held = max((row.added for row in self.of_path(path)), default=0)
+        held = max((row.added for row in self.of_path(path)), default=Moment(0))
         low, high = below(path)
         statement = """SELECT max(file.added) FROM folder JOIN file ON file.folder = folder.id
         WHERE folder.path = ? OR (folder.path >= ? AND folder.path < ?)"""
         found = self.base.run(statement, (folder_text(path), low, high))
-        return max(held, int(found[0][0] or 0))
+        return max(held, Moment(int(found[0][0] or 0)), same_rows.last_added(self.base, path))
 
     def of_volume(self, number: int) -> List[Held]:
-        """The rows of a volume, in order of their commits."""
+        """The rows of the files that a volume has, in order of their commits."""
         statement = f"""SELECT {FILE}, folder.path FROM file JOIN folder ON folder.id = file.folder
         WHERE file.id >= ? AND file.id < ? ORDER BY file.id"""
         values = (number * COMMITS, (number + 1) * COMMITS)
@@ -389,33 +377,15 @@ class Catalogue:
             low, than = (text + name, ">") if found[0][0] == text + name else (text + name + "0", ">=")
 
 
-def below(path: Path) -> Tuple[str, str]:
-    """The texts of all folders below one: from the first one on, and before the second one."""
-    text = folder_text(path)
-    return text + "/", text + "0" if text else "0"
-
-
-def folder_text(path: Path) -> str:
-    """A folder as the catalogue has it: the root is the empty text."""
-    return "".join("/" + kept_name(name) for name in path)
-
-
-def folder_back(text: str) -> Path:
-    """The folder that the catalogue has."""
-    return tuple(name_back(name) for name in text.split("/")[1:])
-
-
 def name_key(column: str, row: Held) -> Tuple[str, str, int]:
     """The key of a file in a table of names."""
     name = kept_name(row.path[-1])
     return name if column == "name" else name[::-1], folder_text(row.path[:-1]), row.id()
 
 
-def held_row(folder: Path, row: Row) -> Held:
-    """A row of files."""
-    id, name, size, moment, sha256, added, first, count = row
-    volume, commit = divmod(int(id), COMMITS)
-    return Held(volume, commit, folder + (name_back(name),), int(size), int(moment), bytes(sha256), int(added), first, count)
+def parts_of_name(row: Held) -> Optional[int]:
+    """The count of parts in a table of names. Of the rows of a line it says only that there are parts."""
+    return row.parts if row.noted is None else None if row.parts is None else 0
 
 
 def volume_row(row: Row) -> VolumeRow:
@@ -439,48 +409,7 @@ def odd_image(config: Config, row: VolumeRow) -> Optional[str]:
     return image if row.state == CLOSED and is_there(image) and not is_own(image) else None
 
 
-def order(held: Held) -> Tuple[int, int]:
-    """By which rows of one path are older or newer: when they were added, then by volume and commit."""
-    return held.added, held.id()
-
-
-def versions(rows: Iterable[Held]) -> List[List[Held]]:
-    """The versions of one path, the newest first, each with its rows in order of their parts. One that lacks parts is left out."""
-    found: Dict[Tuple[Path, int, int, bytes], List[Held]] = {}
-    for row in rows:
-        found.setdefault(row.version(), []).append(row)
-    whole = [sorted(group, key=lambda row: row.first or 0) for group in found.values() if is_whole(group)]
-    return sorted(whole, key=lambda group: max(map(order, group)), reverse=True)
-
-
-def as_of(groups: Sequence[List[Held]], moment: Optional[int]) -> Optional[List[Held]]:
-    """The newest version, or the newest that was there at a moment."""
-    for group in groups:
-        if moment is None or max(held.added for held in group) <= moment:
-            return group
-    return None
-
-
-def part_count(size: int) -> int:
-    """The parts of a file of this size; 0 where it is kept whole."""
-    return 0 if size <= limits.FILE else -(-size // limits.FILE)
-
-
-def is_whole(group: Sequence[Held]) -> bool:
-    """Whether rows of one version have all its parts."""
-    wanted = part_count(group[0].size)
-    if not wanted:
-        return True
-    have = 0
-    for row in sorted(group, key=lambda row: (row.first or 0, -(row.parts or 0))):
-        if (row.first or 0) > have:
-            return False
-        have = max(have, (row.first or 0) + (row.parts or 0))
-    return have >= wanted
-
-
 __all__ = [
-    "CLOSED", "CLOSING", "Catalogue", "Copy", "DISC", "DISC_NAME", "FULL", "Held", "NEW", "OPEN", "RETIRED", "VolumeRow", "as_of", "image_of", "is_disc_name", "is_whole",
-    "odd_image",
-    "part_count", "versions",
+    "CLOSED", "CLOSING", "Catalogue", "Copy", "DISC", "DISC_NAME", "FULL", "Held", "NEW", "OPEN", "RETIRED", "VolumeRow", "as_of", "below", "folder_back",
+    "folder_text", "held_row", "image_of", "is_disc_name", "is_whole", "odd_image", "part_count", "versions", "volume_and_commit",
 ]

@@ -6,22 +6,27 @@ import os
 import random
 from contextlib import closing, suppress
 from hashlib import sha256
-from typing import Any, Dict, List, NamedTuple, Optional, Sequence, Tuple
+from typing import Any, Dict, Iterator, List, NamedTuple, Optional, Sequence, Set, Tuple
 
-from ..beneath import is_own, is_there
-from ..operations import now
-from ..own_files import Told, from_top, move, remove, set_mode, untold
+from ..base.beneath import is_own, is_there
+from ..base.own_files import Told, from_top, move, remove, set_mode, untold
+from ..base.scratch import room, sweep
+from ..local.sources import shown
 from ..protocol import Path, limits
-from ..scratch import room, sweep
-from ..sources import shown
+from ..wire.operations import now
+from . import same_rows
 from .assemble import assembled
+from .bring_back import BringBack
 from .catalogue import CLOSED, DISC, RETIRED, Catalogue, Copy, Held, VolumeRow, image_of, odd_image, part_count
 from .claims import Claims
 from .close import SIDECARS, beside, complete, send
 from .config import Config
 from .contents import Contents, File
-from .errors import Claimed, CopyFailed, NotAtHand, VolumeDiffers
+from .errors import ArchiveError, Claimed, CopyFailed, NotAtHand, VolumeDiffers
+from .open_copies import GROWING, OpenCopies
+from .parity import durable, gathered, mended, parity_names, require_program
 from .remotes import Print, Remote, print_of_file, remote_of
+from .same import rows_on
 from .status import loss
 from .tell import Tell, plural, shown_path
 
@@ -64,6 +69,8 @@ class Checker:
         self.volumes = self.files = self.copies = 0
         self.failures: List[str] = []
         self.away: List[VolumeRow] = []
+        self.bad: Set[Tuple[str, str]] = set()
+        """The labels of volumes of which the image is damaged, or the copy on a remote, which is named then."""
         self._begun: Dict[object, Tuple[int, Any]] = {}
         """Files of which the first parts were read: how many, and their digest so far."""
 
@@ -99,6 +106,7 @@ class Checker:
             data = time if self.options.data else fresh.data_checked
             self.catalogue.save(fresh._replace(checked=time, data_checked=data, trouble=trouble if row.state == CLOSED else fresh.trouble))
         if trouble:
+            self.bad.add((row.label, ""))
             self.failures.append(f"{row.label}: {trouble}: {self._cure(row)}")
         self.tell.say_step(f"{row.label}: {trouble or 'is intact'}", did="checked", volume=row.label, trouble=trouble)
 
@@ -139,11 +147,12 @@ class Checker:
             same = self._is_as_stored(held, contents, file, manifest)
             if not same or held is not None and (file.path, file.parts) != (held.path, held.parts):
                 bad.append(shown_path(file.path))
-        for held in known.values():
+        lines = {held.key(): held for held in rows_on(contents, row.number)}
+        for held in [*known.values(), *(held for held in same_rows.of_volume(self.catalogue.base, row.number) if lines.get(held.key()) != held._replace(there=True))]:
             bad.append(shown_path(held.path))
         for path, digest in manifest.items():
             node = contents.nodes.get(path)
-            if node is None or sha256(contents.volume.read(node).data).digest() != digest:
+            if node is None or contents.sha256_of(node) != digest:
                 bad.append("/".join(path))
         return list(dict.fromkeys(bad))
 
@@ -153,11 +162,13 @@ class Checker:
         have, whole = (0, sha256()) if held is None else self._begun.pop(held.version(), (0, sha256()))
         same = True
         for node in file.nodes:
-            data = contents.volume.read(node).data
-            self.tell.passed(len(data))
-            whole.update(data)
+            part = sha256()
+            for run in contents.volume.pieces(node):
+                self.tell.passed(len(run.data))
+                whole.update(run.data)
+                part.update(run.data)
             wanted = manifest.pop(node.path, None)
-            same = same and wanted in (None, sha256(data).digest())
+            same = same and wanted in (None, part.digest())
         if held is None or have != (held.first or 0):
             return same
         have += held.parts or 0
@@ -178,6 +189,7 @@ class Checker:
         self.copies += 1
         self.catalogue.save_copy(copy._replace(checked=now(), trouble=trouble))
         if trouble:
+            self.bad.add((row.label, copy.remote))
             self.failures.append(f"{row.label}: the copy on {copy.remote} {trouble}: 'udfburn-archive repair {row.label}'")
         self.tell.say_step(f"{row.label} on {copy.remote}: {trouble or 'is intact'}", did="checked", volume=row.label, remote=copy.remote, trouble=trouble)
 
@@ -215,6 +227,9 @@ class Repairer:
         sweep(self.config.folder, self.config.room_name("repair"))
         self.tell.begin(0, sum(map(self._bytes, rows)))
         for row in rows:
+            if row.state in GROWING and row.holder == self.config.id and self.config.copies:
+                self._open(row)
+                continue
             if row.state != CLOSED and image_of(self.config, row) is None:
                 self.failures.append(f"{row.label}: {loss(row, [], self.config)}")
                 continue
@@ -228,6 +243,19 @@ class Repairer:
                     self._volume(self.catalogue.volume(row.number) or row)
             except (Claimed, CopyFailed, OSError) as error:
                 self.failures.append(f"{row.label}: {error}")
+
+    def _open(self, row: VolumeRow) -> None:
+        """Repairs a volume that this folder fills, from its copies or these from it."""
+        copies = OpenCopies(self.config, self.catalogue, self.claims, self.tell)
+        work = BringBack(self.config, self.catalogue, self.tell, copies)
+        try:
+            self.claims.volume(row.number, row.label)
+            with closing(copies.places):
+                work.run(self.catalogue.volume(row.number) or row)
+        except (ArchiveError, OSError) as error:
+            self.failures.append(f"{row.label}: {error}")
+        self.repaired += work.repaired
+        self.failures += work.failures
 
     def _bytes(self, row: VolumeRow) -> int:
         """The bytes that are read in any case: the image, where it is there, and each copy."""
@@ -279,7 +307,7 @@ class Repairer:
             self._did(row, "the image", copy.remote)
             return
         remove(new)
-        if self._assemble(row, image, wanted):
+        if self._assemble(row, image, wanted) or self._by_parity(row, image, wanted):
             return
         told = "; ".join(f"{remote}: {text}" for remote, text in why.items())
         discs = [copy.disc() for copy in self.catalogue.copies(row.number) if copy.disc() is not None and copy.trouble is None]
@@ -287,7 +315,7 @@ class Repairer:
             raise CopyFailed(f"no copy on a remote is good ({told or 'none is known'}): put the disc {discs[0]} in, and run 'repair {row.label} --disc {discs[0]}'")
         raise CopyFailed(
             f"no copy is good ({told or 'none is known'}): 'add' stores the sources of what is damaged again, and 'udfburn-client salvage' copies out "
-            f"what is intact. Then 'retire {row.label}' takes the volume out of what is asked for"
+            f"what is intact. Then 'retire {row.label}' takes the volume out of use"
         )
 
     def _assemble(self, row: VolumeRow, image: str, wanted: Print) -> bool:
@@ -311,6 +339,35 @@ class Repairer:
         self._did(row, "the image", f"{len(damaged)} damaged images together")
         return True
 
+    def _by_parity(self, row: VolumeRow, image: str, wanted: Print) -> bool:
+        """Makes the image of a damaged one, or of a damaged copy, by the parity that is kept of it. Whether that was done."""
+        name = row.label + ".img"
+        remotes = [remote_of(self.catalogue, copy.remote) for copy in self.catalogue.on_remotes(row.number)]
+        with room(self.config.folder, self.config.room_name("repair")) as folder, room(self.config.folder, self.config.room_name("repair")) as other:
+            for source, files in gathered(image, remotes, folder):
+                for damaged in self._damaged(name, image, remotes, other):
+                    self.tell.working(f"repairing {row.label} by {source}")
+                    require_program()
+                    if mended(damaged, files, folder, wanted, name):
+                        durable(os.path.join(folder, name))
+                        self._put(image, os.path.join(folder, name))
+                        self._did(row, "the image", source)
+                        return True
+        return False
+
+    def _damaged(self, name: str, image: str, remotes: Sequence[Remote], folder: str) -> Iterator[str]:
+        """What is left of an image: where it is at hand, in folders for copies, and brought from other remotes."""
+        if is_own(image):
+            yield image
+        for index, remote in enumerate(remotes):
+            path = remote.path_of(name)
+            if path is None:
+                path = os.path.join(folder, str(index))
+                with suppress(CopyFailed), from_top(path) as place:
+                    remote.fetch(name, place)
+            if is_own(path):
+                yield path
+
     def _put(self, image: str, new: str) -> None:
         if is_there(image):
             move(image, f"{image}.damaged-{now()}")
@@ -328,6 +385,14 @@ class Repairer:
                     move(path + ".new", path)
                 except (CopyFailed, OSError) as error:
                     self.tell.note(f"{shown(path)}: {error}", did="not repaired", path=path)
+        with suppress(CopyFailed):
+            place_of_copy = remote_of(self.catalogue, remote)
+            for name in parity_names(row.label, place_of_copy.names()):
+                path = os.path.join(os.path.dirname(image), name)
+                if not is_there(path):
+                    with from_top(path + ".new") as place:
+                        place_of_copy.fetch(name, place)
+                    move(path + ".new", path)
 
     def _did(self, row: VolumeRow, what: str, source: str) -> None:
         self.repaired += 1

@@ -7,12 +7,12 @@ a row, held by a transaction that stays open on a connection of its own.
 
 from __future__ import annotations
 
-import fcntl
 import os
 from hashlib import sha256
-from typing import Any, List
+from typing import Any, List, Set
 
-from ..own_files import from_top
+from ..base.locks import lock_or_close
+from ..base.own_files import from_top
 from ..protocol import Path
 from .base import Base, PostgresBase, connect, trouble
 from .errors import CatalogueLost, Claimed
@@ -27,7 +27,7 @@ class Claims:
         raise NotImplementedError
 
     def try_volume(self, number: int) -> bool:
-        """Claims a volume; False where another process has it."""
+        """Claims a volume, which this process may have already; False where another one has it."""
         raise NotImplementedError
 
     def require(self) -> None:
@@ -57,23 +57,23 @@ class FileClaims(Claims):
     def __init__(self, folder: str):
         self._folder = folder
         self._held: List[int] = []
+        self._volumes: Set[int] = set()
 
     def _lock(self, name: str, alone: bool) -> bool:
         with from_top(os.path.join(self._folder, name)) as place:
             descriptor = place.root.lock_file(place.names)
-        try:
-            fcntl.flock(descriptor, (fcntl.LOCK_EX if alone else fcntl.LOCK_SH) | fcntl.LOCK_NB)
-        except BlockingIOError:
-            os.close(descriptor)
-            return False
-        self._held.append(descriptor)
-        return True
+        if lock_or_close(descriptor, shared=not alone):
+            self._held.append(descriptor)
+            return True
+        return False
 
     def try_path(self, path: str, alone: bool) -> bool:
         return self._lock(f"path-{sha256(path.encode()).hexdigest()[:32]}", alone)
 
     def try_volume(self, number: int) -> bool:
-        return self._lock(f"volume-{number:06}", True)
+        if number not in self._volumes and self._lock(f"volume-{number:06}", True):
+            self._volumes.add(number)
+        return number in self._volumes
 
     def require(self) -> None:
         """Locks of files stay with the process."""
@@ -81,7 +81,7 @@ class FileClaims(Claims):
     def close(self) -> None:
         for descriptor in self._held:
             os.close(descriptor)
-        self._held = []
+        self._held, self._volumes = [], set()
 
 
 class RowClaims(Claims):

@@ -5,14 +5,15 @@ from __future__ import annotations
 import argparse
 import errno
 import sys
-from typing import TYPE_CHECKING, Any, Callable, Dict, List, Optional
+from typing import TYPE_CHECKING, Callable, List, Optional
 
 from .. import __version__
-from ..completion import complete
-from ..errors import OutputFailed, UdfburnError, UsageError
+from ..base.completion import complete
+from ..base.errors import OutputFailed, UdfburnError, UsageError
+from ..base.sizes import capacity, percent
+from ..base.streams import drop_output, parsed, take_any_name, take_descriptors
 from ..protocol import limits, shown
-from ..sizes import capacity
-from ..streams import drop_output, parsed, take_any_name, take_descriptors
+from .config import NODES, NODES_LEAST, node_count
 from .tell import Tell
 
 if TYPE_CHECKING:
@@ -60,10 +61,11 @@ def add_writers(subs: "Subs") -> None:
     init.add_argument("--catalogue", metavar="URL", default=None, help="a PostgreSQL database, postgresql://HOST/DATABASE (default: a SQLite file in the folder)")
     init.add_argument("--catalogue-file", metavar="FILE", help="a file that has the URL, which may have a password (or set UDFBURN_CATALOGUE)")
     init.add_argument("--capacity", type=capacity, default=limits.CAPACITY[1], metavar="N", help="the size of a volume: blocks of 2,048 bytes, from 512 to 450,000, or a size such as 700MiB (default: 450,000 blocks)")
+    init.add_argument("--nodes", type=node_count, default=NODES, metavar="N", help=f"how many files and folders a volume takes while its files have less than 64 KiB on average, from {NODES_LEAST} to {limits.NODES:,}; with fewer the archive takes less room, with more it has fewer volumes (default: {NODES:,})")
     init.add_argument("--label", default="ARCHIVE", help="the name of the archive; its volumes are called LABEL-000001, LABEL-000002, .. (default: ARCHIVE)")
     init.add_argument("--copies", nargs="+", default=[], metavar="REMOTE", help="where closed volumes are copied to: absolute paths of folders, or rclone remotes as NAME:PATH")
     init.add_argument("--copies-wanted", type=int, metavar="N", help="how many remotes must have a volume before its sources are deleted (default: all)")
-    init.add_argument("--delete", choices=("acknowledged", "copied"), help="when --delete-source may delete: once a volume has acknowledged the file, or once that volume is closed and copied (default: copied if there are remotes)")
+    init.add_argument("--delete", choices=("acknowledged", "copied"), help="when --delete-source may delete: once a volume has acknowledged the file, or once as many remotes have it as are wanted (default: copied if there are remotes)")
     init.add_argument("--same-device", action="store_true", help="allow folders for copies on the disk of the archive itself: copies there are lost with it")
     init.add_argument("--json", action="store_true", help="print a line of JSON with the result")
     init.add_argument("--quiet", action="store_true", help="print nothing but errors")
@@ -76,17 +78,24 @@ def add_writers(subs: "Subs") -> None:
     add.add_argument("--each", action="store_true", help="write each file to the disk before the next one, instead of in batches: slower, and needs no memory for a copy of the volume")
     add.add_argument("--skip-odd", action="store_true", help="leave out links, pipes, sockets and devices without counting them as failures")
     add.add_argument("--dry-run", action="store_true", help="print what would be stored, and change nothing")
+    add.add_argument("--deletions", action="store_true", help="record which files below PATH are not at the source any more: they stay in the archive, and are shown only as of earlier times")
+    add.add_argument("--again", action="store_true", help="store each new file, also one whose bytes the archive has under another path or time")
+    add.add_argument("--no-copy", action="store_true", help="do not copy to the remotes what the open volumes have more; 'copy' does it later")
     add_rules(add)
 
-    diff = command(subs, "diff", "print which local files the archive lacks or has otherwise, and which of its files are gone there")
+    diff = command(subs, "diff", "print which local files are new or changed, and which files of the archive are gone there")
     diff.add_argument("folder", nargs="+", metavar="FOLDER", help="a local folder or file")
     diff.add_argument("--at", default="/", metavar="PATH", help="the path in the archive, as for add (default: /)")
     add_rules(diff)
+
+    command(subs, "copy", "copy to each remote what the open volumes have more than their copies there, as each add does at its end")
 
     close = command(subs, "close", "close volumes: complete the bag, make the image read-only, and copy it to each remote")
     close.add_argument("volume", nargs="*", metavar="VOLUME", help="labels of volumes (default: all of this folder that have files)")
     close.add_argument("--full", action="store_true", help="close only full volumes, and make missing copies")
     close.add_argument("--without-damaged", action="store_true", help="first take damaged files off their volumes; otherwise such a volume is not closed")
+
+    close.add_argument("--parity", type=percent, metavar="PERCENT", help="also keep parity of so many percent beside each closed image and its copies, by par2; 'repair' uses it")
 
     repair = command(subs, "repair", "replace damaged or lost images by good copies, and damaged copies by good images")
     repair.add_argument("volume", nargs="*", metavar="VOLUME", help="labels of volumes (default: all in which check found damage)")
@@ -100,7 +109,7 @@ def add_writers(subs: "Subs") -> None:
     away.add_argument("volume", metavar="VOLUME", help="the label of the volume")
     away.add_argument("place", nargs="?", metavar="PLACE", help="where it is, in your words; without it the volume is not put away any more")
 
-    retire = command(subs, "retire", "take a volume that is damaged or lost out of what is asked for; 'add' stores its files again")
+    retire = command(subs, "retire", "take a volume that is damaged or lost out of use; 'add' stores its files again")
     retire.add_argument("volume", metavar="VOLUME", help="the label of the volume")
 
     remote = command(subs, "remote", "list, add or remove the places for copies")
@@ -162,6 +171,7 @@ def add_readers(subs: "Subs") -> None:
     check.add_argument("--remotes", action="store_true", help="also compare the copies on remotes")
     check.add_argument("--sample", type=int, metavar="N", help="check N volumes, chosen at random")
     check.add_argument("--oldest", action="store_true", help="check the volume whose last check is longest ago, or N of them with --sample")
+    check.add_argument("--stale", metavar="AGE", help="then also fail for all that 'status --check --stale AGE' names")
 
     add_disc(check, False)
 
@@ -169,24 +179,52 @@ def add_readers(subs: "Subs") -> None:
     report.add_argument("out", metavar="OUT.html", help="the page; an earlier one is replaced")
 
     mount = command(subs, "mount", "show the archive as a file tree, read only, until Ctrl-C or 'fusermount3 -u DIR'")
-    mount.add_argument("dir", metavar="DIR", help="an empty folder, where 'latest', 'volumes/LABEL' and 'runs/TIME' are shown; this takes pyfuse3 (Debian: python3-pyfuse3)")
+    mount.add_argument("dir", metavar="DIR", help="an empty folder, where 'latest', 'volumes/LABEL' and 'runs/TIME' are shown; this needs pyfuse3 (Debian: python3-pyfuse3)")
 
-    command(subs, "status", "show how full each volume is, its copies, and what needs attention")
-
-
-COMMANDS: Dict[str, str] = {
-    "init": "commands", "add": "commands", "diff": "commands", "rebuild": "commands", "ls": "lookups", "find": "lookups", "history": "lookups", "where": "lookups",
-    "get": "queries", "status": "queries", "report": "queries", "adopt": "closing", "close": "closing", "burn": "discs", "check": "closing", "repair": "closing",
-    "remote": "remote_command", "put-away": "closing", "retire": "closing", "mount": "mount",
-}
+    status = command(subs, "status", "show how full each volume is, its copies, and what needs attention")
+    status.add_argument("--check", action="store_true", help="print a line for each thing that needs attention, and nothing else; the status is 1 if there is one")
+    status.add_argument("--stale", metavar="AGE", help="what was not checked for so long needs attention: 12h, 180d or 26w (default: 400d)")
+    status.add_argument("--prometheus", metavar="FILE", help="also write the state as metrics, for the textfile collector of node exporter, which reads names that end in .prom")
 
 
-def function(name: str) -> Callable[[Any], int]:
-    """What a command does."""
-    from importlib import import_module
+def function(name: str) -> Callable[[argparse.Namespace], int]:
+    """What a command does. Its own module alone is loaded: who asks the catalogue loads nothing that reads a volume."""
+    if name in ("ls", "find", "history", "where"):
+        from .lookups import find, history, ls, where
 
-    found: Callable[[Any], int] = getattr(import_module(f".{COMMANDS[name]}", __package__), name.replace("-", "_"))
-    return found
+        return {"ls": ls, "find": find, "history": history, "where": where}[name]
+    if name in ("get", "status", "report"):
+        from .queries import get, report, status
+
+        return {"get": get, "status": status, "report": report}[name]
+    if name in ("init", "add", "diff", "rebuild"):
+        from .commands import add, diff, init, rebuild
+
+        return {"init": init, "add": add, "diff": diff, "rebuild": rebuild}[name]
+    if name in ("adopt", "close", "copy", "check", "repair", "put-away", "retire"):
+        from .closing import adopt, check, close, copy, put_away, repair, retire
+
+        return {
+            "adopt": adopt, "close": close, "copy": copy, "check": check, "repair": repair, "put-away": put_away, "retire": retire,
+        }[name]
+    return other(name)
+
+
+def other(name: str) -> Callable[[argparse.Namespace], int]:
+    """What a command does that has a module of its own."""
+    if name == "burn":
+        from .discs import burn
+
+        return burn
+    if name == "remote":
+        from .remote_command import remote
+
+        return remote
+    if name == "mount":
+        from .mount import mount
+
+        return mount
+    raise NotImplementedError(name)
 
 
 INTERRUPTED = "interrupted: run the same command again to continue"

@@ -5,27 +5,32 @@ Each step is durable before the next, and each is done again by the same command
 
 from __future__ import annotations
 
-import fcntl
 import os
-import time
 from contextlib import closing
 from hashlib import sha256
 from tempfile import TemporaryDirectory
 from typing import Dict, List, Mapping, NamedTuple, Optional, Sequence, Tuple
 
-from ..beneath import is_own, open_own, place_of
-from ..connection import find_program, run_program
-from ..manifest import BAG_DECLARATION, BAG_INFO, DECLARATION, MANIFEST, PAYLOAD, TAG_MANIFEST, Line, bag_manifest
-from ..operations import Operation, now
-from ..own_files import Told, move, opened, remove, untold
+from ..base.beneath import is_own, open_own, place_of
+from ..base.manifest import BAG_DECLARATION, BAG_INFO, DECLARATION, MANIFEST, PAYLOAD, TAG_MANIFEST, Line, bag_manifest
+from ..base.own_files import Told, move, remove, untold
+from ..base.unfinished import is_unfinished
+from ..local.saving import write_file
+from ..local.sources import shown
 from ..protocol import Code, Create, Path, Remove, Replace, limits
-from ..sources import shown
+from ..protocol.units import Moment, Size
+from ..wire.connection import find_program, run_program
+from ..wire.operations import Operation, now
+from . import same_rows
 from .bag import info, tag_manifest
+from .batch import locked
 from .catalogue import CLOSED, CLOSING, Catalogue, Copy, Held, VolumeRow, image_of
 from .claims import Claims
-from .config import Config, write_file
+from .config import Config
 from .contents import SIZE, Contents, File, number, read_fields
 from .errors import ArchiveError, CopyFailed, NotAtHand, VolumeDiffers
+from .parity import make as make_parity
+from .parity import parity_beside
 from .remotes import Print, Remote, print_of_file, remote_of
 from .tell import Tell, plural, shown_path, stamp
 from .volume import OpenVolume
@@ -42,7 +47,7 @@ def beside(image: str, end: str) -> str:
     return image[: -len(".img")] + end
 
 
-def sidecar(image: str) -> Tuple[int, bytes]:
+def sidecar(image: str) -> Tuple[Size, bytes]:
     """The length and the digest that an image had when it was closed; of one that has none kept, those that it has now."""
     try:
         with open(open_own(beside(image, ".info")), "rb") as file:
@@ -50,17 +55,19 @@ def sidecar(image: str) -> Tuple[int, bytes]:
         digest = bytes.fromhex(fields["sha256"])
         if len(digest) != sha256().digest_size:
             raise ValueError("no SHA-256")
-        return number(fields["length"], SIZE), digest
+        return Size(number(fields["length"], SIZE)), digest
     except (OSError, KeyError, ValueError):
         found = print_of_file(image)
-        return found.length, found.sha256
+        return Size(found.length), found.sha256
 
 
 class Closer:
     """A run of `close`."""
 
-    def __init__(self, config: Config, catalogue: Catalogue, claims: Claims, tell: Tell, without_damaged: bool = False):
+    def __init__(self, config: Config, catalogue: Catalogue, claims: Claims, tell: Tell, without_damaged: bool = False, parity: Optional[int] = None):
         self.config, self.catalogue, self.claims, self.tell, self.without_damaged = config, catalogue, claims, tell, without_damaged
+        self.parity = parity
+        """The percentage of parity that each volume gets."""
         self.program = find_program()
         self.failures: List[str] = []
         self.closed = self.copied = 0
@@ -80,7 +87,7 @@ class Closer:
 
     def _run(self, row: VolumeRow) -> None:
         # Two processes that send to one remote would take each other's copies away.
-        if row.state != CLOSED or self._lacking(row):
+        if row.state != CLOSED or self._lacking(row) or self.parity is not None:
             self.claims.volume(row.number, row.label)
             row = self.catalogue.volume(row.number) or row
         if row.state != CLOSED:
@@ -89,6 +96,8 @@ class Closer:
             row = self._close(row)
             self.closed += 1
             self.tell.say_step(f"closed {row.label}", did="closed", volume=row.label, length=row.length, sha256=row.sha256.hex() if row.sha256 else None)
+        if self.parity is not None:
+            self._add_parity(row, self.parity)
         self._send(row)
 
     # ---- closed
@@ -131,6 +140,7 @@ class Closer:
         volume = OpenVolume(self.config, self.catalogue, row)
         with closing(volume):
             volume.take_up()
+            volume.remove_unfinished()
             if self.without_damaged:
                 self._remove_damaged(volume)
             volume.row = volume.row._replace(state=CLOSING)
@@ -162,7 +172,7 @@ class Closer:
                 "without them, and then 'add' stores them again"
             )
         digests, size = found.lines, found.size
-        date = stamp(contents.closed() or time.time_ns() // 1000)[:10]
+        date = stamp(contents.closed() or now())[:10]
         fields = {
             "Bagging-Date": self._date(contents) or date, "External-Identifier": volume.row.label, "Bag-Group-Identifier": self.catalogue.id,
             "Bag-Software-Agent": "udfburn-archive",
@@ -186,13 +196,23 @@ class Closer:
             if outcome.code is not Code.DONE:
                 raise VolumeDiffers(f"{volume.row.label}: {outcome.operation.path}: {outcome.code.name}: run the command again")
         with closing(Contents(volume.image)) as contents:
-            rows = contents.rows(volume.row.number, {held.commit: held for held in self.catalogue.of_volume(volume.row.number)})
-            self.catalogue.replace(volume.row._replace(last_commit=contents.last_commit, files=len(rows)), rows)
+            known = self.catalogue.of_volume(volume.row.number)
+            rows = contents.rows(volume.row.number, {held.commit: held for held in known})
+            files = volume.row.files - len(known) + len(rows)
+            self.catalogue.replace(volume.row._replace(last_commit=contents.last_commit, files=files), rows)
+        there = {held.id() for held in rows}
+        self._name_others(volume, [held for held in known if held.id() not in there])
         for file in damaged:
             line = f"{volume.row.label}: {shown_path(file.path)} is not as it was stored, and was taken off"
             self.tell.say_step(line, did="taken off", volume=volume.row.label, path=shown_path(file.path))
         volume.row = self.catalogue.volume(volume.row.number) or volume.row
         volume.load()
+
+    def _name_others(self, volume: OpenVolume, lost: Sequence[Held]) -> None:
+        """Names the files of which another one had the bytes that were taken off."""
+        for path in dict.fromkeys(held.path for held in same_rows.of_targets(self.catalogue.base, lost)):
+            line = f"{volume.row.label}: {shown_path(path)} had its bytes there, and lacks them: 'add' stores them again"
+            self.tell.say_step(line, did="lacks", volume=volume.row.label, path=shown_path(path))
 
     def _date(self, contents: Contents) -> Optional[str]:
         """The date that an earlier run began with."""
@@ -202,9 +222,8 @@ class Closer:
     def _end(self, image: str, contents: Contents) -> None:
         """Ends the image after its last VAT ICB, looks at all of it, and makes it read-only."""
         end = (contents.last_address + 1) * limits.BLOCK
-        descriptor = opened(image)
+        descriptor = locked(image)
         try:
-            fcntl.flock(descriptor, fcntl.LOCK_EX | fcntl.LOCK_NB)
             if os.fstat(descriptor).st_size > end:
                 os.ftruncate(descriptor, end)
             os.fchmod(descriptor, os.fstat(descriptor).st_mode & 0o444)
@@ -215,13 +234,13 @@ class Closer:
 
     def _keep_beside(self, image: str, target: str, contents: Contents) -> None:
         """Writes the files beside the image, where it will be."""
-        from ..map import draw_map
+        from ..image.map import draw_map
 
         found = print_of_file(image, fresh=True, told=self.tell.passed)
         about, commits, closed = contents.about(), contents.last_commit, contents.closed()
         name = os.path.basename(target)
         text = (
-            f"archive: {about.archive}\nlabel: {about.label}\nvolume: {about.number}\nclosed: {stamp(closed or 0)}\ncommits: {commits}\n"
+            f"archive: {about.archive}\nlabel: {about.label}\nvolume: {about.number}\nclosed: {stamp(closed or Moment(0))}\ncommits: {commits}\n"
             f"length: {found.length}\nsha256: {found.sha256.hex()}\n"
         )
         mode = self.config.mode
@@ -235,6 +254,25 @@ class Closer:
         ledger = self.config.path("open", row.label + ".ledger")
         for end in ("", "-wal", "-shm", ".lock"):
             remove(ledger + end)
+
+    # ---- parity
+
+    def _add_parity(self, row: VolumeRow, redundancy: int) -> None:
+        """Makes parity where there is none, of an image that is seen to be good, and sends it to the remotes that have the image."""
+        image = image_of(self.config, row)
+        if image is None:
+            return
+        self.tell.working(f"making parity of {row.label}")
+        if print_of_file(image, fresh=True) != Print(row.length or 0, row.sha256 or b""):
+            raise VolumeDiffers(f"{shown(image)}: is not as it was closed, so no parity was made: 'repair {row.label}'")
+        if make_parity(self.config, image, redundancy):
+            self.tell.say_step(f"made parity of {row.label}, {redundancy} %", did="parity", volume=row.label, percent=redundancy)
+        for copy in self.catalogue.on_remotes(row.number):
+            if copy.trouble is None and copy.remote in self.config.copies:
+                try:
+                    complete(remote_of(self.catalogue, copy.remote), image)
+                except CopyFailed as error:
+                    self.failures.append(f"{row.label}: its parity is not on {copy.remote}: {error}")
 
     # ---- sent
 
@@ -280,11 +318,13 @@ def read_payload(contents: Contents, rows: Sequence[Held], sent: Mapping[int, by
     for file in contents.files():
         whole = sha256()
         for node in file.nodes:
-            data = contents.bytes_of(node)
-            whole.update(data)
-            digests[node.path] = sha256(data).digest()
-            size += len(data)
-            told(len(data))
+            part = sha256()
+            for piece in contents.pieces_of(node):
+                whole.update(piece)
+                part.update(piece)
+                told(len(piece))
+            digests[node.path] = part.digest()
+            size += node.size
         if contents.has_all(file):
             same = file.commit not in known or known[file.commit].sha256 == whole.digest()
         else:
@@ -293,9 +333,8 @@ def read_payload(contents: Contents, rows: Sequence[Held], sent: Mapping[int, by
             damaged.append(file)
     for node in contents.payload():
         if node.path not in digests:
-            data = contents.bytes_of(node)
-            digests[node.path] = sha256(data).digest()
-            size += len(data)
+            digests[node.path] = sha256(contents.bytes_of(node)).digest()
+            size += node.size
     return Payload([Line(digests[node.path], node.path) for node in contents.payload()], size, damaged)
 
 
@@ -306,19 +345,30 @@ def send(catalogue: Catalogue, row: VolumeRow, image: str, name: str, told: Told
     remote.require_own()
     if remote.is_file(image, base):
         raise CopyFailed("what is there is the image itself, and no copy")
-    if remote.look(base) != wanted:
-        require_no_other(remote, row)
-        remote.send(image, base)
+    if remote.look(base) != wanted or not remote.counts(base, wanted.length):
+        if not completed(remote, image, wanted.length):
+            require_no_other(remote, row, name in [copy.remote for copy in catalogue.copies(row.number)])
+            remote.send(image, base)
         found = remote.look(base)
         if found != wanted:
             raise CopyFailed(f"what arrived is not what was sent, by its {'SHA-256' if found and found.length == wanted.length else 'length'}")
+    remote.drop_tails(base)
     for path in own_sidecars(image):
         remote.send(path, os.path.basename(path))
 
 
+def completed(remote: Remote, image: str, length: int) -> bool:
+    """Whether the copy that an image had while it was open is the whole of it now."""
+    descriptor = open_own(image)
+    try:
+        return remote.complete(descriptor, os.path.basename(image), length)
+    finally:
+        os.close(descriptor)
+
+
 def own_sidecars(image: str) -> List[str]:
     """The files that are beside an image, and are regular ones."""
-    return [beside(image, end) for end in SIDECARS if is_own(beside(image, end))]
+    return [beside(image, end) for end in SIDECARS if is_own(beside(image, end))] + parity_beside(image)
 
 
 def complete(remote: Remote, image: str) -> None:
@@ -330,10 +380,13 @@ def complete(remote: Remote, image: str) -> None:
             remote.send(path, name)
 
 
-def require_no_other(remote: Remote, row: VolumeRow) -> None:
-    """Raises where a remote has another volume with the name of this one, as one of an archive with the same label: it is not replaced."""
+def require_no_other(remote: Remote, row: VolumeRow, known: bool) -> None:
+    """Raises where a remote has another volume with the name of this one, as one of an archive with the same label: it is not replaced.
+    What nothing there describes may be a copy of an open volume: it is replaced only where it is `known` to the catalogue as one of this one."""
     name = row.label + ".info"
     if remote.look(name) is None:
+        if remote.grows and not known and remote.length(row.label + ".img") is not None:
+            raise CopyFailed(f"what it has as {row.label}.img is no beginning of this image, and is not replaced: move it away, if nobody needs it")
         return
     with TemporaryDirectory() as folder:
         there = os.path.join(folder, name)
@@ -346,4 +399,4 @@ def require_no_other(remote: Remote, row: VolumeRow) -> None:
 
 def is_tag(path: Path, kind: str) -> bool:
     """Whether a file of the volume is a tag file beside those of a bag (RFC 8493 2.2.4)."""
-    return kind == "FILE" and path[0] != PAYLOAD and path[0] not in (BAG_DECLARATION, BAG_INFO, MANIFEST, TAG_MANIFEST)
+    return kind == "FILE" and path[0] != PAYLOAD and not is_unfinished(path) and path[0] not in (BAG_DECLARATION, BAG_INFO, MANIFEST, TAG_MANIFEST)

@@ -4,16 +4,19 @@ from __future__ import annotations
 
 import argparse
 from contextlib import closing
-from typing import List
+from typing import Container, List, Sequence, Tuple
 
-from ..operations import now
+from ..wire.operations import now
+from . import same_rows
 from .catalogue import CLOSED, CLOSING, FULL, RETIRED, Catalogue, VolumeRow, image_of
 from .check import Checker, Options, Repairer, chosen
 from .claims import claims_of
 from .close import Closer
 from .config import Config, config_of
 from .errors import ArchiveError, Claimed
-from .status import is_lost, loss
+from .open_copies import OpenCopies
+from .parity import require_program
+from .status import HURT, age, incomplete, is_lost, lines, loss, needed_lines
 from .tell import Tell, plural, tell_of
 
 
@@ -30,8 +33,10 @@ def to_close(config: Config, catalogue: Catalogue, names: List[str], full: bool)
 def close(arguments: argparse.Namespace) -> int:
     """Closes volumes."""
     config, tell = config_of(arguments), tell_of(arguments)
+    if arguments.parity is not None:
+        require_program()
     with Catalogue(config) as catalogue, closing(claims_of(catalogue.base, config.path("locks"), config.catalogue)) as claims:
-        closer = Closer(config, catalogue, claims, tell, arguments.without_damaged)
+        closer = Closer(config, catalogue, claims, tell, arguments.without_damaged, arguments.parity)
         rows = to_close(config, catalogue, arguments.volume, arguments.full)
         tell.begin(0, sum(map(closer.bytes_of, rows)))
         for row in rows:
@@ -48,6 +53,16 @@ def close(arguments: argparse.Namespace) -> int:
     return ended(tell, words, closer.failures, closed=closer.closed, copied=closer.copied)
 
 
+def copy(arguments: argparse.Namespace) -> int:
+    """Copies what open volumes have more than their copies."""
+    config, tell = config_of(arguments), tell_of(arguments)
+    with Catalogue(config) as catalogue, closing(claims_of(catalogue.base, config.path("locks"), config.catalogue)) as claims:
+        copies = OpenCopies(config, catalogue, claims, tell)
+        with closing(copies.places):
+            copies.run()
+    return ended(tell, f"made or continued {plural(copies.made, 'copy', 'copies')}", copies.failures, copied=copies.made)
+
+
 def check(arguments: argparse.Namespace) -> int:
     """Checks volumes, or a disc."""
     if arguments.disc is not None or arguments.device is not None:
@@ -55,29 +70,55 @@ def check(arguments: argparse.Namespace) -> int:
 
         return check_disc(arguments)
     config, tell = config_of(arguments), tell_of(arguments)
+    stale = None if arguments.stale is None else age(arguments.stale)
     options = Options(arguments.data, arguments.remotes, arguments.sample, arguments.oldest)
     with Catalogue(config) as catalogue:
         checker = Checker(config, catalogue, tell, options)
         checker.run(chosen(catalogue.volumes(), arguments.volume, options))
+        if options.remotes:
+            check_open(checker, arguments.volume)
         places = catalogue.put_away()
         for row in checker.away:
             if is_lost(row, config, False, places.get(row.number)):
+                checker.bad.add((row.label, ""))
                 checker.failures.append(f"{row.label}: {loss(row, catalogue.copies(row.number), config)}")
             elif arguments.volume:
                 checker.failures.append(f"{row.label}: is not at hand: put its image into the folder 'closed' of the archive")
             else:
                 where = f" (put away at {places[row.number]})" if row.number in places else ""
                 tell.note(f"{row.label}: is not at hand{where}, and was not checked", did="away", volume=row.label, place=places.get(row.number))
+        intact = not checker.failures
+        if stale is not None:
+            checker.failures += needed_besides(config, catalogue, stale, checker.bad)
     whole = not (arguments.volume or checker.away or options.oldest or options.sample is not None)
     words = f"checked {plural(checker.volumes, 'volume', 'volumes')}"
     words += f" and {plural(checker.files, 'file', 'files')}" if options.data else ""
     words += f", {plural(checker.copies, 'copy', 'copies')}" if options.remotes else ""
     words += f"; {plural(len(checker.away), 'volume is', 'volumes are')} not at hand" if checker.away else ""
-    if not checker.failures and checker.volumes + checker.copies:
+    if intact and checker.volumes + checker.copies:
         words += ": everything is intact" if whole else ": what was looked at is intact"
     return ended(
         tell, words, checker.failures, volumes=checker.volumes, files=checker.files, copies=checker.copies, away=[row.label for row in checker.away],
     )
+
+
+def check_open(checker: Checker, names: Sequence[str]) -> None:
+    """Compares the copies of open volumes: of those that are named, or of all."""
+    config, catalogue = checker.config, checker.catalogue
+    with closing(claims_of(catalogue.base, config.path("locks"), config.catalogue)) as claims:
+        copies = OpenCopies(config, catalogue, claims, checker.tell)
+        copies.check([row for row in catalogue.volumes() if not names or row.label in names])
+    checker.copies += copies.made
+    checker.failures += copies.failures
+
+
+def needed_besides(config: Config, catalogue: Catalogue, stale: int, said: Container[Tuple[str, str]]) -> List[str]:
+    """A line for each thing that needs somebody, but for damage that was said already: of an image, or of a copy on a remote."""
+    found = [
+        line._replace(needs=[need for need in line.needs if need.kind not in HURT or (line.row.label, need.remote) not in said])
+        for line in lines(config, catalogue, stale)
+    ]
+    return needed_lines(found, incomplete(catalogue))
 
 
 def repair(arguments: argparse.Namespace) -> int:
@@ -110,9 +151,10 @@ def adopt(arguments: argparse.Namespace) -> int:
     config, tell = config_of(arguments), tell_of(arguments)
     with Catalogue(config) as catalogue, closing(claims_of(catalogue.base, config.path("locks"), config.catalogue)) as claims:
         (row,) = chosen(catalogue.volumes(), [arguments.volume], Options())
-        row = take(config, catalogue, claims, row, arguments.image)
-    tell.result(f"took over {row.label} with {plural(row.files, 'file', 'files')}", volume=row.label, files=row.files, state=row.state)
-    return 0
+        failures: List[str] = []
+        row = take(config, catalogue, claims, row, arguments.image, tell, failures)
+    words = f"took over {row.label} with {plural(row.files, 'file', 'files')}"
+    return ended(tell, words, failures, volume=row.label, files=row.files, state=row.state)
 
 
 def put_away(arguments: argparse.Namespace) -> int:
@@ -129,7 +171,7 @@ def put_away(arguments: argparse.Namespace) -> int:
 
 
 def retire(arguments: argparse.Namespace) -> int:
-    """Takes a closed volume out of what is asked for."""
+    """Takes a closed volume out of use."""
     config, tell = config_of(arguments), tell_of(arguments)
     with Catalogue(config) as catalogue, closing(claims_of(catalogue.base, config.path("locks"), config.catalogue)) as claims:
         (row,) = chosen(catalogue.volumes(), [arguments.volume], Options())
@@ -140,7 +182,10 @@ def retire(arguments: argparse.Namespace) -> int:
         if not row.trouble and image_of(config, row) is not None:
             raise ArchiveError(f"{row.label}: is at hand, and no damage is known: 'check --data {row.label}' looks for it")
         catalogue.save(row._replace(state=RETIRED))
-    tell.result(f"retired {row.label}: 'add' stores its files again where their sources are there", volume=row.label, files=row.files)
+        others = same_rows.count_named(catalogue.base, row.number)
+    words = f"retired {row.label}: 'add' stores its files again where their sources are there"
+    words += f", and {plural(others, 'other file', 'other files')} that had the same bytes" if others else ""
+    tell.result(words, volume=row.label, files=row.files, others=others)
     return 0
 
 

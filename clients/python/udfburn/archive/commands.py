@@ -8,25 +8,27 @@ import uuid
 from contextlib import closing
 from typing import Dict, Tuple
 
-from ..beneath import open_given
-from ..errors import UsageError
-from ..ledger_file import make_folder
-from ..sources import shown
+from ..base.beneath import open_given
+from ..base.durable import make_folder
+from ..base.errors import UsageError
+from ..local.sources import shown
 from .add import Adder, Options
 from .catalogue import Catalogue
-from .config import FILE, LOCAL, check_label, check_remote, checked, config_of, has_password, is_url, strange, without_password, write
+from .config import FILE, LOCAL, check_label, check_remote, checked, config_of, has_password, is_url, strange, volume_label, without_password, write
+from .content import Content
 from .errors import BadConfig, NoArchive
 from .exclude import rules_of
 from .fresh import Fresh
 from .markers import Owner, require_place, write_marker
 from .places import Places
-from .preview import Preview
+from .preview import SAME_AS, Change, Preview
 from .rebuild import Rebuilder
 from .remake import open_or_make, open_to_compare
 from .remotes import owner_of
 from .scan import targets
 from .seen import Seen
-from .tell import plural, printed_path, shown_path, size, tell_of
+from .status import lacking_words
+from .tell import Tell, plural, printed_path, shown_path, size, tell_of
 
 
 def init(arguments: argparse.Namespace) -> int:
@@ -41,7 +43,7 @@ def init(arguments: argparse.Namespace) -> int:
     copies = [check_remote(copy if ":" in copy else os.path.abspath(copy)) for copy in arguments.copies]
     wanted = len(copies) if arguments.copies_wanted is None else arguments.copies_wanted
     table = {
-        "format": 1, "id": str(uuid.uuid4()), "label": check_label(arguments.label), "catalogue": catalogue, "capacity": arguments.capacity,
+        "format": 1, "id": str(uuid.uuid4()), "label": check_label(arguments.label), "catalogue": catalogue, "capacity": arguments.capacity, "nodes": arguments.nodes,
         "copies": copies, "copies_wanted": wanted, "delete": arguments.delete or ("copied" if wanted else "acknowledged"),
         "same_device": arguments.same_device,
     }
@@ -77,11 +79,13 @@ def catalogue_of(arguments: argparse.Namespace) -> str:
 
 def add(arguments: argparse.Namespace) -> int:
     """Stores folders."""
+    if arguments.deletions and arguments.delete_source:
+        raise UsageError("--deletions records what is gone at the source, and --delete-source deletes it there: give one of them")
     if arguments.dry_run:
         return preview(arguments)
     config, tell = config_of(arguments), tell_of(arguments)
     wanted = targets(arguments.folder, arguments.at)
-    options = Options(arguments.delete_source, arguments.skip_odd, arguments.each, rules_of(arguments), arguments.trust_times)
+    options = Options(arguments.delete_source, arguments.skip_odd, arguments.each, rules_of(arguments), arguments.trust_times, arguments.deletions, not arguments.no_copy, arguments.again)
     with Catalogue(config) as catalogue:
         adder = Adder(config, catalogue, options, tell)
         try:
@@ -94,14 +98,17 @@ def add(arguments: argparse.Namespace) -> int:
             for why, count in adder.deleter.waiting.items():
                 tell.note(f"{plural(count, 'source stays', 'sources stay')} {why}", did="stays", files=count, message=why)
     words = [f"stored {plural(summary.files, 'file', 'files')}, {size(summary.bytes)}"]
+    words += [f"{summary.same_as} the same as others"] if summary.same_as else []
     words += [f"{summary.same} were there"] if summary.same else []
     words += [f"deleted {summary.deleted}"] if arguments.delete_source else []
+    words += [f"{summary.gone} gone"] if summary.gone else []
+    words += [f"{summary.back} there again"] if summary.back else []
     words += [f"did not keep {plural(summary.empty, 'empty folder', 'empty folders')}"] if summary.empty else []
     words += [f"left {summary.excluded} out"] if summary.excluded else []
     words += [f"{plural(len(summary.failures), 'failure', 'failures')}"] if summary.failures else []
     tell.result(
-        ", ".join(words), files=summary.files, bytes=summary.bytes, same=summary.same, deleted=summary.deleted,
-        kept=sum(adder.deleter.waiting.values()), empty=summary.empty, excluded=summary.excluded,
+        ", ".join(words), files=summary.files, bytes=summary.bytes, same=summary.same, same_as=summary.same_as, deleted=summary.deleted,
+        kept=sum(adder.deleter.waiting.values()), empty=summary.empty, excluded=summary.excluded, gone=summary.gone, back=summary.back,
     )
     return 1 if summary.failures else 0
 
@@ -111,15 +118,19 @@ def preview(arguments: argparse.Namespace) -> int:
     if arguments.delete_source:
         raise UsageError("--dry-run deletes nothing: leave --delete-source out")
     found, counts, sizes = differing(arguments, False, arguments.skip_odd)
+    same_as, _ = counts.pop(SAME_AS), sizes.pop(SAME_AS)
     files = sum(counts.values())
-    words = [f"would store {plural(files, 'file', 'files')}, {size(sum(sizes.values()))}"] + ([f"{found.same} are there"] if found.same else [])
-    tell_of(arguments).result(", ".join(words), files=files, bytes=sum(sizes.values()), same=found.same, excluded=found.excluded)
+    words = [f"would store {plural(files, 'file', 'files')}, {size(sum(sizes.values()))}"]
+    words += [f"{same_as} the same as others"] if same_as else []
+    words += [f"{found.same} are there"] if found.same else []
+    tell_of(arguments).result(", ".join(words), files=files, bytes=sum(sizes.values()), same=found.same, same_as=same_as, excluded=found.excluded)
     return 1 if found.failures else 0
 
 
 def diff(arguments: argparse.Namespace) -> int:
     """Prints how folders differ from the archive."""
     found, counts, _ = differing(arguments, True, True)
+    counts.pop(SAME_AS)
     words = [f"{counts[kind]} {kind}" for kind in KINDS] + [f"{found.same} the same"]
     tell_of(arguments).result(", ".join(words), **counts, same=found.same, excluded=found.excluded)
     return 1 if found.failures or any(counts.values()) else 0
@@ -129,17 +140,19 @@ KINDS = ("new", "changed", "gone")
 
 
 def differing(arguments: argparse.Namespace, gone: bool, skip_odd: bool) -> "Tuple[Preview, Dict[str, int], Dict[str, int]]":
-    """Prints the files that differ; gives how many of each kind, and their bytes."""
+    """Prints the files that differ; gives how many of each kind, and their bytes. Where files that are gone are asked for, none counts as the
+    same as another one: its path differs."""
     config, tell = config_of(arguments), tell_of(arguments)
     wanted, rules = targets(arguments.folder, arguments.at), rules_of(arguments)
-    counts, sizes = dict.fromkeys(KINDS, 0), dict.fromkeys(KINDS, 0)
+    counts, sizes = dict.fromkeys((*KINDS, SAME_AS), 0), dict.fromkeys((*KINDS, SAME_AS), 0)
+    again = gone or arguments.again
     with Catalogue(config) as catalogue, closing(Places(config, catalogue)) as places:
-        with closing(Fresh(catalogue, places, Seen(config) if arguments.trust_times else None)) as fresh:
-            found = Preview(catalogue, fresh, rules)
+        with closing(Fresh(catalogue, places, Seen(config) if arguments.trust_times else None, again and not gone)) as fresh:
+            found = Preview(catalogue, fresh, rules, None if again else Content(config, catalogue))
             for change in found.changes(wanted, gone):
                 counts[change.kind] += 1
                 sizes[change.kind] += change.size
-                tell.say(f"{change.kind} {printed_path(change.path)}", did=change.kind, path=shown_path(change.path), bytes=change.size)
+                show_change(tell, change)
     for line in found.odd:
         if skip_odd:
             tell.left_out(line)
@@ -148,6 +161,15 @@ def differing(arguments: argparse.Namespace, gone: bool, skip_odd: bool) -> "Tup
     for line in found.failures:
         tell.fail(line)
     return found, counts, sizes
+
+
+def show_change(tell: Tell, change: Change) -> None:
+    """Prints a file that differs."""
+    path = printed_path(change.path)
+    if change.at is None:
+        tell.say(f"{change.kind} {path}", did=change.kind, path=shown_path(change.path), bytes=change.size)
+    else:
+        tell.say(f"same {path} as {printed_path(change.at)}", did=SAME_AS, path=shown_path(change.path), bytes=change.size, **{"as": shown_path(change.at)})
 
 
 def rebuild(arguments: argparse.Namespace) -> int:
@@ -167,6 +189,9 @@ def rebuild(arguments: argparse.Namespace) -> int:
         tell.note(words, did="lacking", volume=label)
     for label in summary.away:
         tell.note(f"{label} is not at hand: what the catalogue says of it stays as it is", did="away", volume=label)
+    for one in summary.without_bytes:
+        words = f"{shown_path(one.first)}: {lacking_words(config.label, one)}: bring that volume, and run 'rebuild' again, or 'add' what lacks them"
+        tell.note(words, did="without bytes", volume=volume_label(config.label, one.volume), files=one.files, path=shown_path(one.first))
     if summary.names:
         tell.note(f"{plural(summary.names, 'name', 'names')} in the tables of names differed from the files, and were repaired", did="mended", names=summary.names)
     count = len(summary.differences) + sum(summary.unknown.values())

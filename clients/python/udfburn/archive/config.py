@@ -9,13 +9,12 @@ from contextlib import suppress
 from importlib import import_module
 from typing import Any, Dict, Iterable, List, NamedTuple, Optional, Set, Tuple
 
-from ..beneath import open_given
-from ..ledger_file import make_folder
-from ..own_files import from_top
+from ..base.beneath import open_given
+from ..base.durable import make_folder
+from ..local.saving import write_file
+from ..local.sources import shown
 from ..protocol import is_bytes, limits
 from ..protocol.names import name_fault, spelled_size
-from ..saving import save_at
-from ..sources import shown
 from .errors import BadConfig, NoArchive
 
 FILE = "archive.toml"
@@ -32,14 +31,17 @@ REMOTE = re.compile("[A-Za-z0-9_.+@][A-Za-z0-9_.+@ -]*")
 """The names that rclone gives remotes. What else it takes before a colon would have it do other things."""
 
 DELETIONS = ("acknowledged", "copied")
-KEYS = {"format", "id", "label", "catalogue", "capacity", "copies", "copies_wanted", "delete", "mode", "same_device"}
+KEYS = {"format", "id", "label", "catalogue", "capacity", "nodes", "copies", "copies_wanted", "delete", "mode", "same_device"}
+
+NODES_LEAST, NODES = 100, 1000
+"""Nodes of a volume of small files: the fewest that may be asked for, and those of a new archive."""
 
 
 class Config(NamedTuple):
     """What `archive.toml` says.
 
-    `id` is drawn once a folder. `capacity` is the blocks of a new volume. `copies` are the places where closed volumes are
-    sent. `wanted` of them have to have a volume before a source is deleted by `delete = "copied"`. `same_device` allows folders for
+    `id` is drawn once a folder. `capacity` is the blocks of a new volume, and `nodes` the files and folders that one of small files takes.
+    `copies` are the places where closed volumes are sent. `wanted` of them have to have a volume before a source is deleted by `delete = "copied"`. `same_device` allows folders for
     copies on the archive's own disk.
     """
 
@@ -54,6 +56,7 @@ class Config(NamedTuple):
     same_device: bool = False
     mode: int = 0o600
     """The permissions of new images, and of what is known of them."""
+    nodes: int = limits.NODES
 
     def path(self, *names: str) -> str:
         """A path in the archive's folder."""
@@ -173,6 +176,10 @@ def checked(folder: str, table: Dict[str, Any], where: str) -> Config:
     if unknown:
         raise BadConfig(f"{where}: has unknown fields: {', '.join(unknown)}")
     copies = field(table, "copies", list, where)
+    # Folders of archives that were made before have no such field.
+    nodes = field({"nodes": limits.NODES, **table}, "nodes", int, where)
+    if not NODES_LEAST <= nodes <= limits.NODES:
+        raise BadConfig(f"{where}: nodes must be from {NODES_LEAST} to {limits.NODES}")
     same_device = table.get("same_device", False)
     if not isinstance(same_device, bool):
         raise BadConfig(f"{where}: same_device must be true or false")
@@ -181,7 +188,7 @@ def checked(folder: str, table: Dict[str, Any], where: str) -> Config:
     found = Config(
         folder, field(table, "id", str, where), check_label(field(table, "label", str, where)), field(table, "catalogue", str, where),
         field(table, "capacity", int, where), tuple(check_remote(copy) for copy in copies), field(table, "copies_wanted", int, where),
-        field(table, "delete", str, where), same_device, mode_of(table.get("mode", "600"), where),
+        field(table, "delete", str, where), same_device, mode_of(table.get("mode", "600"), where), nodes,
     )
     check_different(found.copies, where)
     if not limits.CAPACITY[0] <= found.capacity <= limits.CAPACITY[1]:
@@ -203,13 +210,15 @@ def mode_of(value: object, where: str) -> int:
 def text(config: Config) -> str:
     """`archive.toml` of an archive."""
     same_device = "\n# Folders for copies may be on the disk of the archive itself.\nsame_device = true" if config.same_device else ""
-    return f"""# An archive of udfburn-archive(1). `copies_wanted`, `delete`, `capacity` and `mode` may be changed. 'remote' changes `copies`.
+    return f"""# An archive of udfburn-archive(1). `copies_wanted`, `delete`, `capacity`, `nodes` and `mode` may be changed. 'remote' changes `copies`.
 format = {FORMAT}
 id = {quoted(config.id)}
 label = {quoted(config.label)}
 catalogue = {quoted(config.catalogue)}
 # Blocks of 2,048 bytes of a new volume.
 capacity = {config.capacity}
+# Files and folders of a volume while its files have less than 64 KiB on average; of others 4,096. With fewer the archive takes less room.
+nodes = {config.nodes}
 # Where closed volumes are sent: absolute paths of folders, or remotes of rclone.
 copies = {quoted_list(config.copies)}
 # How many of them have to have a volume before a source is deleted, where delete is "copied".
@@ -224,6 +233,13 @@ mode = {quoted(f"{config.mode:o}")}{same_device}
 def quoted_list(values: Iterable[str]) -> str:
     """An array of strings of TOML."""
     return "[" + ", ".join(map(quoted, values)) + "]"
+
+
+def node_count(text: str) -> int:
+    """The nodes that a word asks for."""
+    if not (text.isascii() and text.isdigit() and len(text) <= 6 and NODES_LEAST <= int(text) <= limits.NODES):
+        raise argparse.ArgumentTypeError(f"{text!r} is not a number of files and folders from {NODES_LEAST} to {limits.NODES:,}")
+    return int(text)
 
 
 def with_field(text: str, key: str, value: str) -> str:
@@ -266,12 +282,6 @@ def write(config: Config) -> None:
     for name in FOLDERS:
         make_folder(config.path(name))
     write_file(config.path(FILE), text(config).encode(), 0o600 if has_password(config.catalogue) else 0o666)
-
-
-def write_file(path: str, data: bytes, mode: int = 0o666) -> None:
-    """Writes a file that has its name once it is whole and on the disk. It has at most the permissions of the mode."""
-    with from_top(path) as place:
-        save_at(place, [data], None, True, mode)
 
 
 def strange(folder: str) -> List[str]:

@@ -6,15 +6,18 @@ from __future__ import annotations
 import re
 from bisect import bisect_left, bisect_right
 from hashlib import sha256
-from typing import Dict, Iterator, List, NamedTuple, Optional, Set, Tuple
+from typing import Dict, Iterator, List, Mapping, NamedTuple, Optional, Set, Tuple
 
-from ..manifest import MANIFEST, PAYLOAD, TAG_MANIFEST, read_manifest
+from ..base.manifest import MANIFEST, PAYLOAD, TAG_MANIFEST, read_manifest
 from ..protocol import Path, limits
-from ..reader import Kind, Medium, Node, NoVolume, State, Volume
+from ..protocol.units import Commit, Moment, Size
+from ..reader import Kind, Medium, Node, NoVolume, Run, State, Volume
+from ..reader.basics import address_of, blocks_of
 from .batch import sound_length
 from .catalogue import Held, part_count
 from .errors import CannotStore, VolumeDiffers
 from .names import DESCRIPTION, kept_name, read_back, text_of
+from .older_parts import older_start
 from .schema import COMMITS, NUMBERS
 
 TITLE = "udfburn-archive 1"
@@ -24,6 +27,10 @@ NUMBER, ARCHIVE = re.compile("[0-9]{1,19}"), re.compile("[0-9a-f-]{36}")
 
 ABOUT = "volume.txt"
 RUNS = "runs"
+GONE = "gone"
+"""The folder of the texts that say what was deleted at its source."""
+SAME = "same"
+"""The folder of the texts that say which files have the bytes of others."""
 
 
 class About(NamedTuple):
@@ -35,17 +42,18 @@ class About(NamedTuple):
 
 
 class File(NamedTuple):
-    """A file of the archive on a volume: its path, the nodes of its bytes in order, and its row but for the digest."""
+    """A file of the archive on a volume: its path, the nodes of its bytes in order, and its row but for the digest. `first` and `parts`
+    count mebibytes, as those of a row do."""
 
     path: Path
     version: int
     whole: Path
     """Its stored path, which is a folder's where it has parts."""
     nodes: Tuple[Node, ...]
-    size: int
-    moment: int
-    commit: int
-    added: int
+    size: Size
+    moment: Moment
+    commit: Commit
+    added: Moment
     sha256: Optional[bytes]
     first: Optional[int]
     parts: Optional[int]
@@ -65,6 +73,17 @@ def read_fields(data: bytes) -> Dict[str, str]:
         if colon:
             found[name] = value
     return found
+
+
+def first_piece(fields: Mapping[str, str], size: int) -> int:
+    """With which mebibyte of a file the parts on a volume begin, by its description; `ValueError` or `KeyError` where it does not say so."""
+    older = older_start(fields)
+    if older is not None:
+        return number(older, part_count(size))
+    start = number(fields["first byte"], size)
+    if start % limits.FILE:
+        raise ValueError(f"{start} is no multiple of {limits.FILE}")
+    return start // limits.FILE
 
 
 SIZE = (1 << 62) - 1
@@ -141,13 +160,13 @@ class Contents:
         if not 0 <= self.first_commit <= self.last_commit < COMMITS:
             raise VolumeDiffers(f"{self.image}: says that it has {self.last_commit} commits, which no volume has")
         self.last_address = chain[0].address
-        self.label, self.formatted = self.volume.label or "", self.volume.moment or 0
+        self.label, self.formatted = self.volume.label or "", self.volume.moment or Moment(0)
         self.capacity = self.volume.capacity or limits.CAPACITY[1]
         self.state: State = self.volume.state()
         self.nodes: Dict[Path, Node] = {node.path: node for node in self.state.walk()}
         if self.state.broken:
             raise VolumeDiffers(f"{self.image}: is damaged: {len(self.state.broken)} files or folders cannot be read: repair it from a copy, or use 'udfburn-client salvage'")
-        self._runs = sorted((self.commit_of(node), node.moment or 0) for path, node in self.nodes.items() if len(path) == 2 and path[0] == RUNS)
+        self._runs = sorted((self.commit_of(node), node.moment or Moment(0)) for path, node in self.nodes.items() if len(path) == 2 and path[0] == RUNS)
 
     # ---- what it says
 
@@ -158,13 +177,13 @@ class Contents:
             raise VolumeDiffers(f"{self.image}: is not a volume of an archive: it has no {ABOUT}")
         return read_about(self.bytes_of(node), self.image)
 
-    def commit_of(self, node: Node) -> int:
+    def commit_of(self, node: Node) -> Commit:
         """The commit that wrote a file: the first whose VAT ICB comes after the file's own."""
-        return self.first_commit + bisect_left(self.addresses, node.address)
+        return Commit(self.first_commit + bisect_left(self.addresses, node.address))
 
-    def added(self, commit: int) -> int:
+    def added(self, commit: Commit) -> Moment:
         """When the run began that wrote a commit."""
-        index = bisect_right(self._runs, (commit, limits.MOMENT)) - 1
+        index = bisect_right(self._runs, (commit, Moment(limits.MOMENT))) - 1
         return self._runs[index][1] if index >= 0 else self.formatted
 
     def runs(self) -> int:
@@ -177,16 +196,20 @@ class Contents:
 
     def bytes_of(self, node: Node) -> bytes:
         """The bytes of a file, or `VolumeDiffers` where a block cannot be read."""
-        run = self.volume.read(node)
-        if run.missing:
-            raise VolumeDiffers(f"{self.image}: blocks of {text_of(node.path)} cannot be read, the first is {run.missing[0]}")
-        return run.data
+        return self._whole(node, self.volume.read(node))
+
+    def sha256_of(self, node: Node) -> bytes:
+        """The SHA-256 of a file, with zeros where a block is missing."""
+        whole = sha256()
+        for run in self.volume.pieces(node):
+            whole.update(run.data)
+        return whole.digest()
 
     def is_bag(self) -> bool:
         """Whether the last file of a bag is there."""
         return (TAG_MANIFEST,) in self.nodes
 
-    def closed(self) -> Optional[int]:
+    def closed(self) -> Optional[Moment]:
         """When the bag was finished, in microseconds; None where it was not."""
         node = self.nodes.get((TAG_MANIFEST,))
         return node.moment if node is not None else None
@@ -211,7 +234,7 @@ class Contents:
                 continue
             if stored.part is None:
                 commit = self.commit_of(node)
-                whole.append(File(stored.path, stored.version, path, (node,), node.size, node.moment or 0, commit, self.added(commit), digests.get(path), None, None))
+                whole.append(File(stored.path, stored.version, path, (node,), node.size, node.moment or Moment(0), commit, self.added(commit), digests.get(path), None, None))
             elif stored.part < 0:
                 described[stored.path, stored.version] = node
             else:
@@ -223,17 +246,20 @@ class Contents:
         """A file in parts, by its description."""
         fields = read_fields(self.bytes_of(node))
         try:
-            size, digest = number(fields["size"], SIZE), bytes.fromhex(fields["sha256"])
-            first = number(fields["first part"], part_count(size))
+            size, digest = Size(number(fields["size"], SIZE)), bytes.fromhex(fields["sha256"])
+            first = first_piece(fields, size)
             if len(digest) != 32:
                 raise ValueError("no SHA-256")
         except (KeyError, ValueError) as error:
             raise VolumeDiffers(f"{self.image}: {text_of(node.path)} does not describe a file in parts") from error
         nodes: List[Node] = []
-        while first + len(nodes) < part_count(size) and first + len(nodes) in parts:
-            nodes.append(parts[first + len(nodes)])
-        commit = self.commit_of(node)
-        return File(path, version, node.path[:-1], tuple(nodes), size, node.moment or 0, commit, self.added(commit), digest, first, len(nodes))
+        at = first * limits.FILE
+        # A part of which only the end of the file may follow ends the row.
+        while at < size and not at % limits.FILE and at in parts and parts[at].size:
+            nodes.append(parts[at])
+            at += parts[at].size
+        commit, count = self.commit_of(node), -(-min(at, size) // limits.FILE) - first
+        return File(path, version, node.path[:-1], tuple(nodes), size, node.moment or Moment(0), commit, self.added(commit), digest, first, count)
 
     def stored_paths(self, file: File) -> List[Path]:
         """The paths of a file on the volume: its own, or those of its parts, the last first, and of their description."""
@@ -242,9 +268,35 @@ class Contents:
         return [node.path for node in reversed(file.nodes)] + [file.whole + (DESCRIPTION,)]
 
     def pieces(self, file: File) -> Iterator[bytes]:
-        """The bytes of a file, or of the parts that are here."""
+        """The bytes of a file, or of the parts that are here, a mebibyte at a time."""
         for node in file.nodes:
-            yield self.bytes_of(node)
+            yield from self.pieces_of(node)
+
+    def pieces_of(self, node: Node) -> Iterator[bytes]:
+        """The bytes of a node, a mebibyte at a time, or `VolumeDiffers` where a block cannot be read."""
+        for run in self.volume.pieces(node):
+            yield self._whole(node, run)
+
+    def piece(self, file: File, index: int) -> bytes:
+        """A mebibyte of a file, or of the parts that are here, by its number."""
+        for node in file.nodes:
+            count = max(len(node.extents), 1)
+            if index < count:
+                return self.bytes_of(node) if node.data is None else self._extent(node, index)
+            index -= count
+        raise VolumeDiffers(f"{self.image}: {text_of(file.path)} has fewer bytes than the catalogue says: run 'check --data', then 'repair'")
+
+    def _extent(self, node: Node, index: int) -> bytes:
+        """The bytes of an extent."""
+        extent = node.extents[index]
+        run = self.medium.run(address_of(extent.first), blocks_of(extent.size))
+        return self._whole(node, Run(run.data[: extent.size], run.missing))
+
+    def _whole(self, node: Node, run: Run) -> bytes:
+        """The bytes that were read of a node."""
+        if run.missing:
+            raise VolumeDiffers(f"{self.image}: blocks of {text_of(node.path)} cannot be read, the first is {run.missing[0]}")
+        return run.data
 
     def digest(self, file: File) -> bytes:
         """The digest of a file: from the manifest or its description, else computed from its bytes."""

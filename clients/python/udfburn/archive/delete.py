@@ -4,11 +4,12 @@ from __future__ import annotations
 
 from typing import Container, Dict, List, Optional, Sequence, Tuple
 
-from ..errors import SourceError
-from ..sources import Source, delete, shown
+from ..base.errors import SourceError
+from ..local.sources import Source, delete, shown
 from .catalogue import Catalogue, Held, VolumeRow, is_whole
 from .config import Config
 from .job import Job
+from .open_copies import GROWING, OpenCopies
 from .places import Places
 
 
@@ -18,6 +19,8 @@ class Deleter:
     def __init__(self, config: Config, catalogue: Catalogue):
         self.config, self.catalogue = config, catalogue
         self.places = Places(config, catalogue)
+        self.copies: Optional[OpenCopies] = None
+        """The copies of open volumes, where they are made in this run."""
         self.deleted = 0
         self.waiting: Dict[str, int] = {}
         """Files that stay, by why."""
@@ -32,7 +35,7 @@ class Deleter:
 
     def stored(self, jobs: Sequence[Job]) -> None:
         """Files of which the last bytes were stored just now: the catalogue has all of them."""
-        if self.config.delete == "copied":
+        if self.config.delete == "copied" and self.copies is None:
             self._stay("until their volumes are closed and copied: run 'close', and then this command again", len(jobs))
             return
         # What was read of a volume is older than what it has by now.
@@ -62,20 +65,33 @@ class Deleter:
         self._stay(whys[0] if whys else "since parts of them are on no volume: run this command again", 1)
 
     def _why_not(self, source: Source, held: Held) -> Optional[str]:
-        """Why a row does not let its source go."""
-        if held.volume in self.refused:
-            return f"since {self._label(held)} may be damaged"
-        if held.volume not in self._rows:
-            volume = self.catalogue.volume(held.volume)
-            if volume is None:
-                return f"since the catalogue lacks volume {held.volume}"
-            self._rows[held.volume] = volume, self.places.why_not_copied(volume) if self.config.delete == "copied" else None
-        volume, why = self._rows[held.volume]
-        return why or self.places.why_not(source, held, volume)
+        """Why a row does not let its source go. That of a line asks for the bytes and for the line."""
+        why = self._why_not_on(source, held, held.volume, False)
+        return why if why is not None or held.noted is None else self._why_not_on(source, held, held.noted[0], True)
 
-    def _label(self, held: Held) -> str:
-        volume = self.catalogue.volume(held.volume)
-        return volume.label if volume is not None else f"volume {held.volume}"
+    def _why_not_on(self, source: Source, held: Held, number: int, line: bool) -> Optional[str]:
+        """Why a volume does not show that it has the bytes of a row, or its line."""
+        if number in self.refused:
+            return f"since {self._label(number)} may be damaged"
+        if number not in self._rows:
+            volume = self.catalogue.volume(number)
+            if volume is None:
+                return f"since the catalogue lacks volume {number}"
+            asked = self.config.delete == "copied" and self._growing(volume) is None
+            self._rows[number] = volume, self.places.why_not_copied(volume) if asked else None
+        volume, why = self._rows[number]
+        copies = self._growing(volume)
+        if why is None and copies is not None and self.config.delete == "copied":
+            why = copies.why_not(source, held, volume, line)
+        return why or (self.places.why_not_said(held, volume) if line else self.places.why_not(source, held, volume))
+
+    def _growing(self, volume: VolumeRow) -> Optional[OpenCopies]:
+        """The copies of a volume that this folder fills, where this run makes them."""
+        return self.copies if volume.state in GROWING and volume.holder == self.config.id else None
+
+    def _label(self, number: int) -> str:
+        volume = self.catalogue.volume(number)
+        return volume.label if volume is not None else f"volume {number}"
 
     def _stay(self, why: str, files: int) -> None:
         self.waiting[why] = self.waiting.get(why, 0) + files

@@ -11,14 +11,14 @@ import os
 from contextlib import closing
 from typing import List, Optional, Tuple
 
-from ..burning import Say, burned, ends_well, look_at, opened, path_of, read_back, read_from, require_drive, require_other, take_in_again
-from ..errors import DiscFailed, UsageError
-from ..finish import track_of
-from ..operations import now
-from ..own_files import from_top, remove
-from ..progress import printable
+from ..base.errors import DiscFailed, UsageError
+from ..base.own_files import from_top, remove
+from ..base.progress import printable
+from ..discs.burning import Say, burned, device_path, ends_well, look_at, opened, read_back, read_from, require_drive, require_other, take_in_again
+from ..discs.finish import track_of
+from ..local.sources import shown
 from ..protocol import limits
-from ..sources import shown
+from ..wire.operations import now
 from .catalogue import CLOSED, DISC, DISC_NAME, Catalogue, Copy, VolumeRow, image_of, is_disc_name
 from .check import Options, Repairer, chosen, has_print
 from .claims import Claims, claims_of
@@ -153,7 +153,7 @@ def require_volume(device: str, row: VolumeRow) -> None:
 
     with opened(device):
         pass
-    with Medium(path_of(device)) as medium:
+    with Medium(device_path(device)) as medium:
         volume = Volume(medium)
     if (volume.label, volume.moment) != (row.label, row.formatted):
         found = f"has {volume.label}" if volume.label else "cannot be recognised"

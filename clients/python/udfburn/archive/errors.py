@@ -2,7 +2,7 @@
 
 from __future__ import annotations
 
-from ..errors import UdfburnError
+from ..base.errors import UdfburnError
 
 
 LOST = "docs/ARCHIVE.md says under 'A volume that is lost' how to go on"

@@ -6,10 +6,10 @@ import argparse
 from importlib import import_module
 from typing import Any, List, NamedTuple, Optional
 
-from ..beneath import Names, Place, open_given
-from ..errors import UsageError
+from ..base.beneath import Names, Place, open_given
+from ..base.errors import UsageError
+from ..local.sources import shown
 from ..protocol import limits
-from ..sources import shown
 
 CACHE, SIGNATURE = "CACHEDIR.TAG", b"Signature: 8a477f597d28d172789f06886806bc55"
 """The file that marks a folder as a cache, and how it begins (bford.info/cachedir)."""

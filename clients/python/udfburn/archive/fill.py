@@ -3,16 +3,18 @@
 from __future__ import annotations
 
 from contextlib import suppress
-from typing import Callable, Dict, Iterator, List, Optional, Sequence
+from typing import Callable, Dict, List, Optional, Sequence, Tuple
 
-from ..errors import Full, UdfburnError
-from ..operations import Operation, Outcome, clamped, now
-from ..protocol import Code, MakeDir, Path, limits
+from ..base.errors import Full, SourceError, UdfburnError
+from ..protocol import Code, Create, MakeDir, Path, limits
+from ..protocol.units import Commit, Moment
+from ..wire.operations import Operation, Outcome, clamped, now
 from .catalogue import FULL, Catalogue, is_whole
 from .claims import Claims
 from .config import Config
 from .errors import VolumeDiffers
 from .job import Job
+from .sending import Sending
 from .tell import Tell, plural, shown_path
 from .tree import Tree
 from .volume import OpenVolume, open_new, own_volumes
@@ -46,9 +48,9 @@ class Filler:
         # What an earlier run left comes first, so that the catalogue has all that the volumes have.
         self.refused: Dict[int, str] = {}
         """The volumes that this run does not use, and why."""
-        self.after = 0
+        self.after = Moment(0)
         """The run counts as begun after this moment, even where the clock is slow."""
-        self._began: Optional[int] = None
+        self._began: Optional[Moment] = None
         for volume in own_volumes(config, catalogue, claims, batches, self.refused):
             self.open.append(volume)
 
@@ -70,50 +72,62 @@ class Filler:
                 waiting = self._plan(volume, waiting)
                 break
         else:
-            if Tree.empty(self.config.capacity).fits(sizes, folder, names):
+            if Tree.empty(self.config.capacity, self.config.nodes).fits(sizes, folder, names):
                 waiting = self._plan(self._new(), waiting)
         # They are too many for one volume, or took more than was computed.
         while waiting:
             waiting = self._spill(waiting)
 
     def _resumed(self, jobs: List[Job]) -> List[Job]:
-        """Goes on with files whose first parts a volume has, on that volume; gives what is left."""
+        """Goes on with files of which a volume has the first parts, or something unfinished, on that volume; gives what is left."""
         left: List[Job] = []
         for job in jobs:
-            volume = next((volume for volume in self.open if volume.row.number == job.volume), None) if job.whole is not None else None
+            volume = next((volume for volume in self.open if has_begun(volume, job)), None)
             if volume is None:
                 left.append(job if job.whole is None else job.again())
             else:
-                left += self._plan(volume, [job], partly=True, onward=True)
+                onward = job.whole is not None
+                left += self._plan(volume, [job], partly=onward, onward=onward)
         return left
 
     def _spill(self, jobs: List[Job]) -> List[Job]:
         """Plans files wherever the first of them fits, else on a new volume; gives those that are left."""
         for volume in list(self.open):
             left = self._plan(volume, jobs)
-            if len(left) < len(jobs):
+            if not left or left[0] is not jobs[0]:
                 return left
         # Planned on nothing first, since a volume that was opened for nothing stays.
-        left = self._plan(self._new(), jobs, partly=True) if jobs[0].again().plan(Tree.empty(self.config.capacity), True) else jobs
-        if left and left[0] is jobs[0]:
-            self.failed(jobs[0], f"{shown_path(jobs[0].source.path)}: does not fit on an empty volume of {self.config.capacity} blocks")
-            return left[1:]
-        return left
+        if jobs[0].again().plan(Tree.empty(self.config.capacity, self.config.nodes), True):
+            left = self._plan(self._new(), jobs, partly=True)
+            if not left or left[0] is not jobs[0]:
+                return left
+        elif not jobs[0].in_parts:
+            return self._as_parts(jobs[0]) + jobs[1:]
+        self.failed(jobs[0], f"{shown_path(jobs[0].source.path)}: does not fit on an empty volume of {self.config.capacity} blocks")
+        return jobs[1:]
+
+    def _as_parts(self, job: Job) -> List[Job]:
+        """A file that no volume has room for, in parts."""
+        try:
+            return [job.as_parts()]
+        except SourceError as error:
+            self.failed(job, str(error))
+            return []
 
     def _plan(self, volume: OpenVolume, jobs: List[Job], partly: bool = False, onward: bool = False) -> List[Job]:
         """Plans files on a volume as long as they fit; gives those that are left."""
         for index, job in enumerate(jobs):
             self._mark(volume)
-            if not job.plan(volume.tree, partly):
+            if not job.plan(volume.tree, partly, volume.unfinished):
                 return [job.again()] + jobs[index + 1 :] if onward else jobs[index:]
             volume.tree.settle()
             self.planned.setdefault(volume.row.number, []).append(job)
             self.weights[volume.row.number] = self.weights.get(volume.row.number, 0) + job.planned_bytes()
             rest = job.rest()
-            if rest is not None:
-                return [rest] + jobs[index + 1 :]
-            if self._is_enough(volume):
+            if rest is not None or self._is_enough(volume):
                 left = self.flush(volume)
+                # What follows goes to another volume once this is stored: no volume has the last parts of a file alone.
+                left += [rest] if rest is not None and job.stored() else []
                 if left or volume not in self.open:
                     return left + jobs[index + 1 :]
             partly = False
@@ -151,14 +165,44 @@ class Filler:
         self.open.remove(volume)
         self.tell.say_step(f"{volume.row.label} is full", did="full", volume=volume.row.label)
 
+    def write_text(self, folder: str, data: bytes, most: int) -> Tuple[OpenVolume, Commit]:
+        """Writes a text of this program's own into a folder beside the payload, on the first open volume that has room, and has no more than
+        so many bytes there; gives that, and the commit. All that was planned is sent, and the catalogue is not told."""
+        for volume in [*self.open, None]:
+            volume = volume or self._new()
+            if not volume.takes_text(folder, len(data), most):
+                continue
+            self._mark(volume)
+            place = volume.tree.small((folder, f"{volume.runs:05}-{volume.last_commit}.txt"), len(data))
+            if place is None:
+                continue
+            volume.tree.settle()
+            marker = volume.take_marker()
+            wanted = [marker] if marker is not None else []
+            wanted += [Operation(MakeDir, path, volume.began) for path in place.folders] + [Operation(Create, place.path, volume.began, data)]
+            try:
+                for outcome in volume.client.run(wanted):
+                    self._take(volume, outcome, [])
+            except Full:
+                self._full(volume)
+                continue
+            volume.resync()
+            volume.texts[folder] = volume.texts.get(folder, 0) + len(data)
+            return volume, volume.last_commit
+        raise VolumeDiffers(f"a text of {len(data)} bytes does not fit on an empty volume of {self.config.capacity} blocks")
+
     # ---- sent
 
-    def finish(self) -> None:
+    def send(self) -> None:
         """Sends all that is planned."""
         while any(self.planned.values()):
             for volume in list(self.open):
                 for job in self.flush(volume):
                     self.put(job.source.path[:-1], [job])
+
+    def finish(self) -> None:
+        """Sends all that is planned, and takes full volumes as full."""
+        self.send()
         for volume in list(self.open):
             if volume.is_full():
                 self._full(volume)
@@ -172,7 +216,7 @@ class Filler:
         done: List[Job] = []
         full = False
         try:
-            for outcome in volume.run(lambda: operations(volume, jobs), len(jobs), sum(job.planned_bytes() for job in jobs)):
+            for outcome in volume.run(Sending(volume, jobs)):
                 self._take(volume, outcome, done)
         except Full:
             full = True
@@ -212,14 +256,11 @@ class Filler:
             if outcome.code is not Code.DONE and not (operation.kind is MakeDir and outcome.code is Code.EXISTS):
                 raise VolumeDiffers(f"{volume.row.label}: {shown_path(operation.path)}: {outcome.code.name}: run the command again")
             return
-        job, is_part = operation.tag
+        job, part = operation.tag
         if outcome.code is not Code.DONE:
             job.fail(f"{shown_path(job.source.path)}: {volume.row.label} refuses {shown_path(operation.path)}: {outcome.code.name}")
             return
-        if is_part:
-            job.done += 1
-        else:
-            job.commit = outcome.commit
+        job.take(part, operation, outcome.commit)
         if job.stored():
             done.append(job)
 
@@ -234,8 +275,8 @@ class Filler:
         self.catalogue.add(volume.row, rows)
         for job in (*done, *cut):
             self.sent[job.source.path] = self.sent.get(job.source.path, 0) + job.sent_bytes()
-        # A file is stored once all of it is: other parts may be on their way to another volume.
-        whole = [job for job in done if not job.in_parts() or is_whole(job.rows_in(self.catalogue))]
+        # A file is stored once all of it is: what follows may be on its way to another volume.
+        whole = [job for job in done if not job.in_parts or job.rest() is None and is_whole(job.own_rows_in(self.catalogue))]
         sent = [self.sent.pop(job.source.path, 0) for job in whole]
         for job, count in zip(whole, sent):
             self.tell.step("stored", job.source.path, count, volume.row.label, job.commit)
@@ -244,13 +285,11 @@ class Filler:
 
 def cut_short(jobs: Sequence[Job]) -> List[Job]:
     """Files of which a volume has only the first parts: what comes next goes on after them."""
-    return [job for job in jobs if job.in_parts() and job.commit and not job.stored()]
+    return [job for job in jobs if job.in_parts and job.commit and not job.stored()]
 
 
-def operations(volume: OpenVolume, jobs: Sequence[Job]) -> Iterator[Operation]:
-    """The requests of files, with the one that notes the run before the first."""
-    marker = volume.take_marker()
-    if marker is not None:
-        yield marker
-    for job in jobs:
-        yield from job.operations()
+def has_begun(volume: OpenVolume, job: Job) -> bool:
+    """Whether a volume has the first parts of a file, or something unfinished of it."""
+    if job.whole is not None:
+        return job.volume == volume.row.number
+    return bool(volume.unfinished.sizes) and not job.in_parts and job.key() in volume.unfinished.sizes

@@ -20,6 +20,9 @@ FEW = 1000
 """Rows of a literal beginning or end that are compared before the index is asked."""
 
 
+TABLES = (("file", "part_count"), ("same", "part_count * 0"))
+"""The tables of files, with what says whether a row is of parts."""
+
 LAST = "\U0010ffff"
 """The last letter. It stands for the byte 0xFF of a name that is not UTF-8."""
 
@@ -78,7 +81,6 @@ def by_path(catalogue: Catalogue, pattern: str) -> Iterator[Row]:
     """Folder, name and count of parts of each row by its whole path."""
     begin = literal(pattern)
     folder, _, name = begin.rpartition("/")
-    statement = "SELECT path, name, part_count FROM folder JOIN file ON file.folder = folder.id"
     if begin == pattern:
         # Once for each version of it.
         yield from ((folder, name, held.parts) for held in catalogue.of_path(folder_back(folder) + (name_back(name),)))
@@ -90,7 +92,9 @@ def by_path(catalogue: Catalogue, pattern: str) -> Iterator[Row]:
         yield from (row for row in catalogue.base.stream(statement, (last,)) if fnmatchcase(f"{row[0]}/{row[1]}", pattern))
         return
     for where, values in (("path = ?", (folder,)), ("path >= ? AND path < ?", (begin, after(begin)))):
-        for row in catalogue.base.stream(f"{statement} WHERE {where} ORDER BY path, name", values):
+        # Files, and those whose bytes are another's.
+        both = (f"SELECT path, name, {parts} FROM folder JOIN {table} ON {table}.folder = folder.id WHERE {where}" for table, parts in TABLES)
+        for row in catalogue.base.stream(f"{' UNION ALL '.join(both)} ORDER BY path, name", values * 2):
             if fnmatchcase(f"{row[0]}/{row[1]}", pattern):
                 yield row
 

@@ -4,7 +4,7 @@ from __future__ import annotations
 
 from typing import Dict, List, Optional, Tuple
 
-from ..sources import Source
+from ..local.sources import Source
 from .catalogue import CLOSED, RETIRED, Catalogue, Held, VolumeRow
 from .job import Job, digest_of
 from .places import Places
@@ -12,10 +12,11 @@ from .seen import Seen
 
 
 class Fresh:
-    """Local files beside the rows of a catalogue. With `seen` a file that was read before is not read again while its times are the same."""
+    """Local files beside the rows of a catalogue. With `seen` a file that was read before is not read again while its times are the same; with
+    `again` a line that another file has the bytes does not count."""
 
-    def __init__(self, catalogue: Catalogue, places: Places, seen: Optional[Seen]):
-        self.catalogue, self.places, self.seen = catalogue, places, seen
+    def __init__(self, catalogue: Catalogue, places: Places, seen: Optional[Seen], again: bool = False):
+        self.catalogue, self.places, self.seen, self.again = catalogue, places, seen, again
         self._volumes: Dict[int, Optional[VolumeRow]] = {}
 
     def close(self) -> None:
@@ -26,7 +27,7 @@ class Fresh:
         """A file as it would be stored, and the rows, of those that its path has, which have its size, its moment and its bytes."""
         job = Job(source)
         alike = [row for row in rows if (row.size, row.moment) == (source.identity.size, source.moment())]
-        if alike or job.in_parts():
+        if alike or job.in_parts:
             job.digest = self._digest(source)
         return job, [row for row in alike if row.sha256 == job.digest and self._counts(source, row)]
 
@@ -44,12 +45,24 @@ class Fresh:
 
     def _counts(self, source: Source, row: Held) -> bool:
         """Whether the archive has what a row says. A volume that was retired does not count. Of one that is damaged what can be seen does."""
-        if row.volume not in self._volumes:
-            self._volumes[row.volume] = self.catalogue.volume(row.volume)
-        volume = self._volumes[row.volume]
+        if row.noted is not None and (self.again or not row.there or not self._says(row)):
+            return False
+        volume = self._volume(row.volume)
         if volume is None or volume.state != CLOSED or volume.trouble is None:
             return volume is None or volume.state != RETIRED
         return self.places.has(source, row, volume)
+
+    def _says(self, row: Held) -> bool:
+        """Whether the volume with a row's line counts."""
+        volume = self._volume(row.written()[0])
+        if volume is None or volume.state != CLOSED or volume.trouble is None:
+            return volume is None or volume.state != RETIRED
+        return self.places.says(row, volume)
+
+    def _volume(self, number: int) -> Optional[VolumeRow]:
+        if number not in self._volumes:
+            self._volumes[number] = self.catalogue.volume(number)
+        return self._volumes[number]
 
 
 __all__ = ["Fresh"]

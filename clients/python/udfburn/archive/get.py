@@ -7,13 +7,15 @@ import stat
 from hashlib import sha256
 from typing import Dict, Iterable, Iterator, List, NamedTuple, Optional, Sequence
 
-from ..beneath import Names, Root, folder_mode, mode_for, status_given
-from ..errors import DiskFull, SourceError, UdfburnError
+from ..base.beneath import Names, Root, folder_mode, mode_for, status_given
+from ..base.errors import DiskFull, SourceError, UdfburnError
+from ..local.saving import Saver
+from ..local.sources import shown
 from ..protocol import Path
-from ..saving import Saver
-from ..sources import shown
-from .catalogue import Catalogue, Held, as_of, versions
+from ..protocol.units import Moment
+from .catalogue import Catalogue, Held
 from .config import Config
+from .deletions import file_at, files_in
 from .errors import Lacking, VolumeDiffers
 from .reach import Reach, Way
 from .remotes import Print, print_of
@@ -37,20 +39,20 @@ class Summary:
         """Volumes that are not at hand, and how many files are on each."""
 
 
-def wanted(catalogue: Catalogue, paths: Sequence[Path], moment: Optional[int]) -> Iterator[Wanted]:
+def wanted(catalogue: Catalogue, paths: Sequence[Path], moment: Optional[Moment]) -> Iterator[Wanted]:
     """What is copied of paths, each of which is a file's or a folder's. One that is nothing is an error."""
     for path in paths:
         found = 0
-        group = as_of(versions(catalogue.of_path(path)), moment)
+        group = file_at(catalogue, path, moment)
         if group is not None:
             found += 1
             yield Wanted(group, path[-1:])
         for below in catalogue.folders_below(path):
-            for name, rows in sorted(catalogue.in_folder(below).items()):
-                group = as_of(versions(rows), moment)
-                if group is not None:
-                    found += 1
-                    yield Wanted(group, path[-1:] + below[len(path) :] + (name,))
+            for name, rows in files_in(catalogue, below, moment).items():
+                found += 1
+                yield Wanted(rows, path[-1:] + below[len(path) :] + (name,))
+        if not found and moment is None and catalogue.of_path(path):
+            raise Lacking(f"{shown_path(path)}: was deleted at its source: 'history' shows when, and 'get --as-of' gets it as it was")
         if not found:
             raise Lacking(f"{shown_path(path)}: is not in the archive" + (" at that time" if moment is not None else ""))
 
@@ -148,7 +150,7 @@ class Getter:
         for row, image in way:
             contents, files = self._reach.volume(image)
             file = files.get(row.commit)
-            if file is None or file.path != row.path:
+            if file is None or file.path != row.stored_as():
                 raise VolumeDiffers(f"{contents.image}: does not have it as the catalogue says: run 'check' and 'rebuild'")
             skip = max(have - (row.first or 0), 0)
             for index, piece in enumerate(contents.pieces(file)):
@@ -170,4 +172,4 @@ def require_folder(folder: str) -> None:
         raise SourceError(f"{shown(folder)}: is not a folder")
 
 
-__all__ = ["Getter", "Lacking", "Summary", "Wanted", "as_of", "once", "require_folder", "wanted"]
+__all__ = ["Getter", "Lacking", "Summary", "Wanted", "once", "require_folder", "wanted"]

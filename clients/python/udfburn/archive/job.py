@@ -5,16 +5,25 @@ from __future__ import annotations
 import os
 from contextlib import closing
 from hashlib import sha256
-from typing import Generator, Iterator, List, Optional, Tuple, Type
+from itertools import takewhile
+from typing import Any, Generator, Iterator, List, Optional, Tuple
 
-from ..errors import SourceChanged, SourceError
-from ..operations import Operation
-from ..protocol import AnyRequest, Create, MakeDir, Path, limits
-from ..sources import Source, exactly, open_source, origin_of, read_parts, shown, unchanged
+from ..base.errors import SourceChanged, SourceError
+from ..base.manifest import PAYLOAD
+from ..base.unfinished import unfinished_path
+from ..local.sources import Source, exactly, open_source, origin_of, read_parts, shown, unchanged
+from ..protocol import Create, MakeDir, Path, Remove, Rename, limits
+from ..protocol.units import Commit, Moment, Size
+from ..trees.growing import naming, piece_request
+from ..wire.operations import Operation, Whole, now
 from .catalogue import Catalogue, Held, part_count
 from .contents import Contents, File
-from .names import DESCRIPTION
+from .names import DESCRIPTION, part_name, spelled, stored_folder
 from .tree import Place, Tree
+from .unfinished import NOTHING, Left, Unfinished
+
+WRITER = 0
+"""The number in the names of unfinished files. It is no client's: a volume has one writer at a time, which goes on with what another left."""
 
 
 def digest_of(source: Source) -> bytes:
@@ -26,31 +35,48 @@ def digest_of(source: Source) -> bytes:
 
 
 def description(source: Source, digest: bytes, first: int) -> bytes:
-    """The text that describes a file in parts on a volume."""
-    size = source.identity.size
-    text = f"size: {size}\nmodified: {source.moment()}\nsha256: {digest.hex()}\nparts: {part_count(size)}\nfirst part: {first}\n"
+    """The text that describes a file in parts on a volume that has them from this mebibyte on."""
+    text = f"size: {source.identity.size}\nmodified: {source.moment()}\nsha256: {digest.hex()}\nfirst byte: {first * limits.FILE}\n"
     return text.encode()
+
+
+class Part:
+    """A file on a volume: all of a file, or so many bytes of it from one on, which is a multiple of a mebibyte.
+
+    One above a mebibyte is stored piece by piece under the path `unfinished`, where the volume may have some pieces, `left`, already.
+    """
+
+    def __init__(self, place: Place, unfinished: Path, start: int, size: Size, left: Left):
+        self.place, self.unfinished = place, unfinished
+        self.start, self.size, self.left = start, size, left
+        self.stored = False
+
+    def grows(self) -> bool:
+        return self.size > limits.FILE
+
+    def count(self) -> int:
+        """Its pieces."""
+        return max(part_count(self.size), 1)
 
 
 class Job:
     """A file, or those of its parts that go to one volume.
 
-    `first` is the first part that is sent. Where a volume has parts before it already, `begun` is the first of those, `whole`
-    the folder of them and `commit` that of their description.
+    `first` is the first mebibyte that is sent. Where a volume has parts before it already, `begun` is the first of those, `whole`
+    the folder of them and `commit` that of their description, and `added` when the run began that stored it.
     """
 
-    def __init__(self, source: Source, digest: bytes = b"", first: int = 0):
+    def __init__(self, source: Source, digest: bytes = b"", first: int = 0, in_parts: bool = False):
         self.source, self.digest, self.first, self.begun = source, digest, first, first
+        self.in_parts = in_parts or source.identity.size > limits.GREATEST_FILE
         self.whole: Optional[Path] = None
         self.volume: Optional[int] = None
         """The volume that has parts before."""
         self.folders: Tuple[Path, ...] = ()
-        self.parts: List[Place] = []
-        self.commit = self.done = 0
+        self.parts: List[Part] = []
+        self.commit = Commit(0)
+        self.added: Optional[Moment] = None
         self.failure: Optional[str] = None
-
-    def in_parts(self) -> bool:
-        return self.source.identity.size > limits.FILE
 
     def size(self) -> int:
         """The bytes that are to be sent."""
@@ -58,65 +84,123 @@ class Job:
 
     def planned_bytes(self) -> int:
         """The bytes that are sent by what was planned."""
-        return min(self.size(), len(self.parts) * limits.FILE) if self.in_parts() else self.size()
+        return sum(part.size for part in self.parts)
 
     def sent_bytes(self) -> int:
-        """The bytes of what is stored by now."""
-        return min(self.size(), self.done * limits.FILE) if self.in_parts() else self.size()
+        """The bytes of what is stored by now, up to the first part that is not."""
+        return sum(part.size for part in takewhile(lambda part: part.stored, self.parts))
+
+    def done(self) -> int:
+        """The mebibytes of what is stored by now."""
+        return part_count(self.sent_bytes())
 
     def stored(self) -> bool:
         """Whether all that was planned is stored."""
-        return self.failure is None and self.commit > 0 and self.done == len(self.parts)
+        return self.failure is None and self.commit > 0 and all(part.stored for part in self.parts)
 
     def rest(self) -> Optional["Job"]:
         """The parts that are not planned here."""
-        first = self.first + len(self.parts)
-        return Job(self.source, self.digest, first) if self.in_parts() and first < part_count(self.source.identity.size) else None
+        first = self.first + part_count(self.planned_bytes())
+        return Job(self.source, self.digest, first, True) if self.in_parts and first < part_count(self.source.identity.size) else None
 
     def again(self) -> "Job":
         """What is not stored yet, to be planned anew."""
-        return Job(self.source, self.digest, self.first + self.done)
+        return Job(self.source, self.digest, self.first + (self.done() if self.in_parts else 0), self.in_parts)
+
+    def as_parts(self) -> "Job":
+        """The same file in parts, since no volume has room for all of it; or `SourceError`, since its digest comes first."""
+        return Job(self.source, self.digest or digest_of(self.source), in_parts=True)
 
     # ---- planned
 
-    def plan(self, tree: Tree, partly: bool) -> bool:
-        """Plans the whole file on a volume, or, where that is allowed, as many of its parts as fit. Whether it was planned."""
-        if self.whole is None:
-            size = len(description(self.source, bytes(32), self.first)) if self.in_parts() else self.source.identity.size
-            place = tree.place(self.source.path[:-1], self.source.path[-1], size, self.in_parts())
-            if place is None:
-                return False
-            self.folders, self.whole = place.folders, place.path[:-1] if self.in_parts() else place.path
-            if self.in_parts() and not self._plan_parts(tree, partly):
-                tree.back()
-                self.folders, self.whole = (), None
-                return False
-            return True
-        return self._plan_parts(tree, partly)
+    def plan(self, tree: Tree, partly: bool, unfinished: Optional[Unfinished] = None) -> bool:
+        """Plans the whole file on a volume, or, where that is allowed, as many of its bytes as fit. Whether it was planned.
+        `unfinished` has what the volume has that runs left which were cut."""
+        if not self.in_parts:
+            return self._plan_whole(tree, unfinished)
+        if self.whole is not None:
+            return self._plan_parts(tree, partly, unfinished)
+        place = tree.place_in_parts(self.source.path[:-1], self.source.path[-1])
+        if place is None:
+            return False
+        self.folders, self.whole = place.folders, place.path[:-1]
+        if not self._plan_parts(tree, partly, unfinished):
+            tree.back()
+            self.folders, self.whole = (), None
+            return False
+        return True
 
-    def _plan_parts(self, tree: Tree, partly: bool) -> bool:
-        assert self.whole
-        left, index = self.size(), self.first
-        while left > 0:
-            place = tree.place_part(self.whole, index, min(left, limits.FILE))
-            if place is None:
+    def key(self, start: Optional[int] = None) -> Path:
+        """The path that it has until it is whole, or the part of it that begins with a byte."""
+        stored = (PAYLOAD,) + stored_folder(self.source.path[:-1]) + spelled(self.source.path[-1])
+        return unfinished_path(WRITER, stored if start is None else stored + (part_name(start),))
+
+    def _plan_whole(self, tree: Tree, unfinished: Optional[Unfinished]) -> bool:
+        size, left = self.source.identity.size, NOTHING
+        key = self.key() if size > limits.FILE else ()
+        if key and unfinished is not None:
+            left = unfinished.of_file(self.source, key, parts_from(self.source, 0))
+        place = tree.place(self.source.path[:-1], self.source.path[-1], size, key, left.pieces())
+        if place is None:
+            return False
+        self.parts = [Part(place, key, 0, size, left)]
+        if left.is_whole(size):
+            self.commit, self.added = left.commit, left.added
+        return True
+
+    def _plan_parts(self, tree: Tree, partly: bool, unfinished: Optional[Unfinished]) -> bool:
+        at, end = self.first * limits.FILE, self.source.identity.size
+        while at < end:
+            most = Size(min(end - at, limits.GREATEST_FILE))
+            part = self._plan_part(tree, at, most, unfinished) or (self._largest(tree, at, most, unfinished) if partly else None)
+            if part is None:
                 break
-            self.parts.append(place)
-            left, index = left - min(left, limits.FILE), index + 1
-        if left > 0 and not (partly and self.parts):
+            self.parts.append(part)
+            at += part.size
+            if part.size < most:
+                break
+        if at < end and not (partly and self.parts):
             for _ in self.parts:
                 tree.back()
             self.parts = []
             return False
         return True
 
+    def _plan_part(self, tree: Tree, start: int, size: Size, unfinished: Optional[Unfinished]) -> Optional[Part]:
+        assert self.whole
+        key, left = self.key(start) if size > limits.FILE else (), NOTHING
+        if key and unfinished is not None:
+            left = unfinished.of_part(key, parts_from(self.source, start // limits.FILE), size)
+        place = tree.place_part(self.whole, start, size, key, left.pieces())
+        return None if place is None else Part(place, key, start, size, left)
+
+    def _largest(self, tree: Tree, start: int, most: Size, unfinished: Optional[Unfinished]) -> Optional[Part]:
+        """The greatest part that fits, of whole mebibytes and fewer bytes than this."""
+        low, high = 0, part_count(most) - 1
+        while low < high:
+            middle = (low + high + 1) // 2
+            if self._plan_part(tree, start, Size(middle * limits.FILE), unfinished) is None:
+                high = middle - 1
+            else:
+                tree.back()
+                low = middle
+        return self._plan_part(tree, start, Size(low * limits.FILE), unfinished) if low else None
+
     # ---- stored
 
     def operations(self) -> Iterator[Operation]:
-        """The requests, read as they are sent. None that would make a file whole which changed meanwhile."""
+        """The requests but those that give names, read as they are sent. None that would make a file whole which changed meanwhile."""
         try:
             yield from self._folders(self.folders)
-            yield from self._in_parts() if self.in_parts() else self._whole()
+            if self.in_parts and not self.commit:
+                assert self.whole
+                text = description(self.source, self.digest, self.begun)
+                yield Operation(Create, self.whole + (DESCRIPTION,), self.source.moment(), text, tag=(self, None))
+            whole = sha256()
+            with closing(parts_from(self.source, self.first) if self.in_parts else read_parts(self.source)) as pieces:
+                for part in self.parts:
+                    yield from self._folders(part.place.folders)
+                    yield from self._pieces(part, pieces, whole)
         except SourceError as error:
             self.fail(str(error))
 
@@ -124,41 +208,61 @@ class Job:
         for folder in folders:
             yield Operation(MakeDir, folder, self.source.moment())
 
-    def _create(self, path: Path, data: bytes, is_part: bool = False, start: Optional[int] = None) -> Operation:
-        """A request for data, which is that of the source from a byte on where this is given."""
-        kind: Type[AnyRequest] = Create
-        origin = None if start is None else origin_of(self.source, start)
-        return Operation(kind, path, self.source.moment(), data, tag=(self, is_part), origin=origin)
+    def _pieces(self, part: Part, pieces: Iterator[bytes], whole: Any) -> Iterator[Operation]:
+        """The requests that store a part, piece by piece. Those that the volume has are read too: they must be those that it was
+        seen to have."""
+        if part.left.others:
+            yield Operation(Remove, part.unfinished, now())
+        digest = sha256()
+        for index in range(part.count()):
+            data = next(pieces)
+            whole.update(data)
+            digest.update(data)
+            last = index + 1 == part.count()
+            if last:
+                self._require_as_read(part, whole.digest())
+            if index < part.left.pieces():
+                if sha256(data).digest() != part.left.digests[index]:
+                    raise changed(self.source)
+                continue
+            origin = origin_of(self.source, part.start + index * limits.FILE)
+            if part.grows():
+                ended = Whole(part.place.path, part.size, digest.digest()) if last else None
+                yield piece_request(part.unfinished, index, data, self.source.moment(), tag=(self, part), whole=ended, origin=origin)
+            else:
+                yield Operation(Create, part.place.path, self.source.moment(), data, tag=(self, part), origin=origin)
 
-    def _whole(self) -> Iterator[Operation]:
-        assert self.whole
-        data = b"".join(read_parts(self.source))
-        self.digest = sha256(data).digest()
-        yield self._create(self.whole, data, start=0)
+    def _require_as_read(self, part: Part, digest: bytes) -> None:
+        """Raises where what was read of all of a file is not what was read of it before, right before its last bytes are sent."""
+        if not self.in_parts:
+            self.digest = digest
+        elif not self.first and part.start + part.size == self.source.identity.size and digest != self.digest:
+            raise changed(self.source)
 
-    def _in_parts(self) -> Iterator[Operation]:
-        assert self.whole
-        if not self.commit:
-            yield self._create(self.whole + (DESCRIPTION,), description(self.source, self.digest, self.begun))
-        whole, last = sha256(), part_count(self.source.identity.size) - 1
-        with closing(parts_from(self.source, self.first)) as pieces:
-            for part, (place, data) in enumerate(zip(self.parts, pieces), self.first):
-                whole.update(data)
-                if part == last and not self.first and whole.digest() != self.digest:
-                    raise SourceChanged(f"{shown(self.source.local)}: changed while it was read, though its times did not: store it again")
-                yield from self._folders(place.folders)
-                yield self._create(place.path, data, True, part * limits.FILE)
+    def name(self, part: Part) -> Operation:
+        """The request by which a part gets its own path."""
+        return naming(part.unfinished, part.place.path, self.source.moment(), tag=(self, part))
+
+    def take(self, part: Optional[Part], operation: Operation, commit: Commit) -> None:
+        """A request was done. The file's commit is that which wrote its entry: its description, or its last piece."""
+        if part is None:
+            self.commit = commit
+            return
+        part.stored = operation.kind is Rename or not part.grows()
+        if not self.in_parts and operation.kind is not Rename:
+            self.commit = commit
 
     def fail(self, why: str) -> None:
         self.failure = self.failure or why
 
     # ---- kept
 
-    def held(self, volume: int, added: int) -> Held:
+    def held(self, volume: int, added: Moment) -> Held:
         """The row of the catalogue for what is stored by now."""
         source = self.source
-        parts = (self.begun, self.first - self.begun + self.done) if self.in_parts() else (None, None)
-        return Held(volume, self.commit, source.path, source.identity.size, source.moment(), self.digest, added, *parts)
+        parts = (self.begun, self.first - self.begun + self.done()) if self.in_parts else (None, None)
+        when = added if self.added is None else self.added
+        return Held(volume, self.commit, source.path, source.identity.size, source.moment(), self.digest, when, *parts)
 
     def rows_in(self, catalogue: Catalogue) -> List[Held]:
         """The rows that a catalogue has of this version of the file, the newest first."""
@@ -166,9 +270,18 @@ class Job:
         key = (source.path, source.identity.size, source.moment(), self.digest)
         return [row for row in catalogue.of_path(source.path) if row.version() == key]
 
+    def own_rows_in(self, catalogue: Catalogue) -> List[Held]:
+        """Those of them that have its bytes under its own path."""
+        return [row for row in self.rows_in(catalogue) if row.noted is None]
+
+
+def changed(source: Source) -> SourceChanged:
+    """What is said of a file whose bytes changed though its times did not."""
+    return SourceChanged(f"{shown(source.local)}: changed while it was read, though its times did not: store it again")
+
 
 def parts_from(source: Source, first: int) -> Generator[bytes, None, None]:
-    """The parts of a file from one on. Each is given only as long as the file is as it was seen."""
+    """The mebibytes of a file from one on. Each is given only as long as the file is as it was seen."""
     try:
         descriptor = open_source(source)
         try:
@@ -191,7 +304,7 @@ def parts_from(source: Source, first: int) -> Generator[bytes, None, None]:
 def same_parts(source: Source, contents: Contents, file: File) -> bool:
     """Whether the parts that a volume has are those of the file."""
     with closing(parts_from(source, file.first or 0)) as pieces:
-        return all(contents.bytes_of(node) == piece for node, piece in zip(file.nodes, pieces))
+        return all(there == piece for there, piece in zip(contents.pieces(file), pieces))
 
 
 def find_file(contents: Contents, held: Held) -> Optional[File]:

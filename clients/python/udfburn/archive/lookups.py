@@ -3,14 +3,16 @@
 from __future__ import annotations
 
 import argparse
-from typing import Dict, List
+from typing import Dict, List, Tuple, Union
 
-from ..protocol import Path
-from .catalogue import Catalogue, Held, as_of, image_of, versions
-from .config import config_of
+from ..protocol import Path, limits
+from ..protocol.units import Moment
+from .catalogue import Catalogue, Held, image_of, versions
+from .config import config_of, volume_label
+from .deletions import Event, are_known, file_at, files_in, has_below, of_path
 from .errors import Lacking
 from .find import find as found_by
-from .names import path_of
+from .names import path_from
 from .tell import Tell, printed_path, shown_path, stamp, tell_of
 
 
@@ -19,14 +21,22 @@ def fields(group: List[Held], labels: Dict[int, str]) -> Dict[str, object]:
     held = group[0]
     return {
         "path": shown_path(held.path), "size": held.size, "moment": held.moment, "sha256": held.sha256.hex(), "added": held.added,
-        "places": [{"volume": labels[row.volume], "commit": row.commit, "first": row.first, "parts": row.parts} for row in group],
+        "places": [place(row, labels) for row in group],
     }
+
+
+def place(row: Held, labels: Dict[int, str]) -> Dict[str, object]:
+    """Where bytes of a version are, for programs; of a line also which path has them, and the line's own volume and commit."""
+    found: Dict[str, object] = {"volume": labels[row.volume], "commit": row.commit, "first": row.first, "parts": row.parts}
+    if row.noted is not None:
+        found.update({"as": shown_path(row.stored_as()), "noted": {"volume": labels[row.noted[0]], "commit": row.noted[1]}, "known": row.there})
+    return found
 
 
 def long_line(group: List[Held], labels: Dict[int, str], name: str) -> str:
     """A version, for people."""
     held = group[0]
-    where = ", ".join(f"{labels[row.volume]}:{row.commit}" for row in group)
+    where = ", ".join(f"{labels[row.volume]}:{row.commit}" + ("" if row.noted is None else f"={printed_path(row.stored_as())}") for row in group)
     return f"{held.size:>12} {stamp(held.moment)} {held.sha256.hex()} {where} {name}"
 
 
@@ -35,18 +45,19 @@ class Labels(Dict[int, str]):
 
     def __init__(self, catalogue: Catalogue):
         super().__init__({row.number: row.label for row in catalogue.volumes()})
+        self._label = catalogue.config.label
 
     def __missing__(self, number: int) -> str:
-        return f"volume {number}"
+        return volume_label(self._label, number)
 
 
 def ls(arguments: argparse.Namespace) -> int:
     """Lists."""
     config, tell = config_of(arguments), tell_of(arguments)
-    path = path_of(arguments.path)
+    path = path_from(arguments.path)
     with Catalogue(config) as catalogue:
         labels = Labels(catalogue)
-        file = as_of(versions(catalogue.of_path(path)), None)
+        file = file_at(catalogue, path)
         count = 0
         if file is not None:
             count += 1
@@ -68,18 +79,20 @@ def list_file(tell: Tell, arguments: argparse.Namespace, group: List[Held], labe
 def list_folder(tell: Tell, arguments: argparse.Namespace, catalogue: Catalogue, folder: Path, labels: Dict[int, str], whole: bool) -> int:
     """The files of a folder."""
     count = 0
-    for name, rows in sorted(catalogue.in_folder(folder).items()):
-        group = as_of(versions(rows), None)
-        if group is not None:
-            count += 1
-            list_file(tell, arguments, group, labels, printed_path(folder + (name,)) if whole else printed_path((name,))[1:])
+    for name, group in files_in(catalogue, folder).items():
+        count += 1
+        list_file(tell, arguments, group, labels, printed_path(folder + (name,)) if whole else printed_path((name,))[1:])
     return count
 
 
 def list_folders(tell: Tell, catalogue: Catalogue, path: Path) -> int:
     """The folders in a folder."""
     count = 0
+    all_are_there = not are_known(catalogue)
     for name in sorted(catalogue.children(path)):
+        # A folder whose files were all deleted is gone with them.
+        if not (all_are_there or has_below(catalogue, path + (name,))):
+            continue
         count += 1
         tell.say(f"d {printed_path((name,))[1:]}", kind="folder", path=shown_path(path + (name,)))
     return count
@@ -119,29 +132,60 @@ def history(arguments: argparse.Namespace) -> int:
     """Shows the versions of a file."""
     config, tell = config_of(arguments), tell_of(arguments)
     with Catalogue(config) as catalogue:
-        labels = Labels(catalogue)
-        for group in groups_of(catalogue, path_of(arguments.path)):
-            tell.say(long_line(group, labels, f"added {stamp(max(held.added for held in group))}"), **fields(group, labels))
+        labels, path = Labels(catalogue), path_from(arguments.path)
+        entries: List[Tuple[Moment, Union[Event, List[Held]]]] = [(max(held.added for held in group), group) for group in groups_of(catalogue, path)]
+        entries += [(event.since, event) for event in of_path(catalogue, path)]
+        for moment, entry in sorted(entries, key=moment_of, reverse=True):
+            if isinstance(entry, Event):
+                words = "there again" if entry.back else "deleted at its source"
+                tell.say(f"{words}, found {stamp(moment)}", did="back" if entry.back else "gone", path=shown_path(path), since=moment, volume=labels[entry.volume])
+            else:
+                tell.say(long_line(entry, labels, f"added {stamp(moment)}"), **fields(entry, labels))
     return 0
+
+
+def moment_of(entry: Tuple[Moment, object]) -> Moment:
+    """When something became of a file."""
+    return entry[0]
+
+
+def bytes_of(held: Held) -> str:
+    """Which bytes of a file in parts a volume has."""
+    first = (held.first or 0) * limits.FILE
+    return f"bytes {first} to {min(first + (held.parts or 0) * limits.FILE, held.size) - 1}" if held.parts else "no bytes"
 
 
 def where(arguments: argparse.Namespace) -> int:
     """Shows where a file is."""
     config, tell = config_of(arguments), tell_of(arguments)
+    lacking = 0
     with Catalogue(config) as catalogue:
-        holders = catalogue.holders()
-        group = groups_of(catalogue, path_of(arguments.path))[0]
-        for held in group:
+        holders, labels = catalogue.holders(), Labels(catalogue)
+        for held in groups_of(catalogue, path_from(arguments.path))[0]:
             row = catalogue.volume(held.volume)
-            if row is None:
+            if row is None and held.noted is None:
                 raise Lacking(f"the catalogue lacks volume {held.volume}: run 'rebuild'")
+            said, fields = as_noted(held, labels)
+            if row is None or not held.there:
+                lacking += 1
+                tell.say(f"{labels[held.volume]} commit {held.commit}{said}: the catalogue does not know these bytes: bring that volume, and run 'rebuild'",
+                         volume=labels[held.volume], commit=held.commit, state=None, **fields)
+                continue
             image = image_of(config, row)
             good = [copy for copy in catalogue.copies(row.number) if copy.trouble is None]
             remotes, discs = [copy.remote for copy in good if not copy.disc()], [copy for copy in good if copy.disc()]
-            parts = f", parts {held.first} to {(held.first or 0) + (held.parts or 0) - 1}" if held.parts is not None else ""
+            parts = f", {bytes_of(held)}" if held.parts is not None else ""
             place = image or (f"at {holders.get(row.holder, '?')}" if row.holder != config.id else "away")
-            line = f"{row.label} commit {held.commit}{parts}: {row.state}, {place}" + "".join(f", copy on {remote}" for remote in remotes)
+            line = f"{row.label} commit {held.commit}{parts}{said}: {row.state}, {place}" + "".join(f", copy on {remote}" for remote in remotes)
             line += "".join(f", disc {copy.disc()} of {stamp(copy.made)[:10]}" for copy in discs)
             tell.say(line, volume=row.label, commit=held.commit, first=held.first, parts=held.parts, state=row.state, image=image,
-                     holder=holders.get(row.holder), copies=remotes, discs=[copy.disc() for copy in discs], sha256=held.sha256.hex(), size=held.size, moment=held.moment)
-    return 0
+                     holder=holders.get(row.holder), copies=remotes, discs=[copy.disc() for copy in discs], sha256=held.sha256.hex(), size=held.size, moment=held.moment, **fields)
+    return 1 if lacking else 0
+
+
+def as_noted(held: Held, labels: Labels) -> Tuple[str, Dict[str, object]]:
+    """What a row says of a file whose bytes another one has, for people and for programs; nothing of others."""
+    if held.noted is None:
+        return "", {}
+    volume, commit = labels[held.noted[0]], held.noted[1]
+    return f" as {printed_path(held.stored_as())}, which {volume} commit {commit} says", {"as": shown_path(held.stored_as()), "noted": {"volume": volume, "commit": commit}}

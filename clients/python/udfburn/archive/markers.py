@@ -10,8 +10,8 @@ import re
 from contextlib import contextmanager, suppress
 from typing import Dict, Iterator, NamedTuple, Set
 
-from ..beneath import Root
-from ..sources import shown
+from ..base.beneath import Root
+from ..local.sources import shown
 from .contents import ARCHIVE, read_fields
 from .errors import CopyFailed
 

@@ -6,9 +6,9 @@ import argparse
 import os
 from contextlib import closing
 
-from ..beneath import mode_for, status_given
-from ..errors import MountFailed
-from ..mounting import require_able, serve
+from ..base.beneath import mode_for, status_given
+from ..base.errors import MountFailed
+from ..mounting.fuse import require_able, serve
 from ..protocol import as_text, shown
 from .catalogue import NEW, image_of
 from .config import Config, config_of

@@ -2,8 +2,8 @@
 
 A name keeps its spelling where UDF can spell it and it does not begin with `=`. Names that begin with `=` are this
 program's: `=s1` and on hold names of the folder above that found no room in it, `=v2` and on hold later versions,
-`=p0` and on hold the parts of a file, `=file.txt` describes them, and `==` begins an escaped name. To undo the layout,
-leave out the `=s` and `=v` folders, and decode escaped names.
+`=000000000000000` and on are the parts of a file, `=file.txt` describes them, and `==` begins an escaped name. To undo the
+layout, leave out the `=s` and `=v` folders, and decode escaped names.
 """
 
 from __future__ import annotations
@@ -12,10 +12,11 @@ import os
 import re
 from typing import Iterable, List, NamedTuple, Optional, Tuple
 
-from ..manifest import PAYLOAD
+from ..base.manifest import PAYLOAD
 from ..protocol import Path, limits
 from ..protocol.names import has_spelling, name_fault, spelled_size
 from .errors import CannotStore
+from .older_parts import older_part
 
 MARK = "="
 """What a reserved name begins with."""
@@ -28,7 +29,7 @@ DESCRIPTION = "=file.txt"
 
 DEPTH = 9
 """Names of a folder of the archive as it is stored, at most. Above are `data` and a version, below are a spread folder, a
-file in parts, which may take a name more, a folder of parts and a part: 16 names in all."""
+file in parts, which may take a name more, and a part. In older archives a part is in one folder more: 16 names in all."""
 
 PIECE = 240
 """Bytes of a piece of an escaped name, as it is spelled and in UTF-8, at most."""
@@ -41,7 +42,7 @@ CODED = "%\r\n"
 
 SPREAD = re.compile(r"=s([1-9][0-9]*)")
 VERSION = re.compile(r"=v([1-9][0-9]*)")
-PARTS = re.compile(r"=p(0|[1-9][0-9]*)")
+PART = re.compile(r"=([0-9]{15,})")
 HEXED = re.compile(rb"=([0-9A-F]{2})")
 
 
@@ -126,8 +127,8 @@ def tokens_of_path(path: Path) -> List[str]:
 # ---- stored paths, read back
 
 class Stored(NamedTuple):
-    """What a stored path is: a path of the archive, the version of it, and which part of the file, None for the whole of
-    it, -1 for its description."""
+    """What a stored path is: a path of the archive, the version of it, and with which byte of the file it begins, None for the
+    whole of it, -1 for its description."""
 
     path: Path
     version: int
@@ -144,8 +145,8 @@ def read_back(names: Path) -> Optional[Stored]:
         names, version = names[1:], int(found.group(1))
     if names and names[-1] == DESCRIPTION:
         names, part = names[:-1], -1
-    elif len(names) > 1 and PARTS.fullmatch(names[-2]) and names[-1].isascii() and names[-1].isdigit():
-        names, part = names[:-2], int(names[-1])
+    else:
+        names, part = part_back(names)
     kept = tuple(name for name in names if not SPREAD.fullmatch(name))
     path = decoded(kept)
     if not path or any(name in ("", ".", "..") or "/" in name or "\0" in name for name in path):
@@ -153,24 +154,15 @@ def read_back(names: Path) -> Optional[Stored]:
     return Stored(path, version, part)
 
 
-def folder_back(names: Path) -> Optional[Tuple[int, Path]]:
-    """The version and the folder of the archive whose names a stored folder holds; None where it holds none, as a folder of
-    parts or the beginning of a long name."""
-    if not names or names[0] != PAYLOAD:
-        return None
-    below, version = names[1:], 1
-    found = VERSION.fullmatch(below[0]) if below else None
-    if found:
-        below, version = below[1:], int(found.group(1))
-    last = below[-1] if below else ""
-    if PARTS.fullmatch(last) or (last.startswith(ESCAPED) and last.endswith(MARK)):
-        return None
-    return version, decoded(tuple(name for name in below if not SPREAD.fullmatch(name)))
+def part_back(names: Path) -> Tuple[Path, Optional[int]]:
+    """The names of a file, and the byte with which the part of it begins that has these names; None where they are no part's."""
+    found = PART.fullmatch(names[-1]) if names else None
+    return (names[:-1], int(found.group(1))) if found else older_part(names)
 
 
-def part_name(index: int) -> Path:
-    """The names of a part below the folder of its file: 500 parts a folder, in eight digits and more."""
-    return (f"=p{index // 500}", f"{index:08}")
+def part_name(start: int) -> str:
+    """The name of a part in the folder of its file: the byte with which it begins, in fifteen digits and more."""
+    return f"={start:015}"
 
 
 # ---- paths as texts
@@ -201,7 +193,7 @@ def text_of(path: Path) -> str:
     return "/" + "/".join(path)
 
 
-def path_of(text: str) -> Path:
+def path_from(text: str) -> Path:
     """The names of a path that users write. Empty names and `.` count for nothing; `..` is refused."""
     names = tuple(name for name in text.split("/") if name not in ("", "."))
     if ".." in names or "\0" in text:

@@ -7,16 +7,17 @@ from __future__ import annotations
 
 import os
 from itertools import zip_longest
-from typing import Dict, Iterator, List, Optional, Sequence
+from typing import Callable, Dict, Iterator, List, Optional, Sequence, Set
 
-from ..beneath import is_own
-from ..sources import Source, read_parts, shown
+from ..base.beneath import is_own
+from ..local.sources import Source, read_parts, shown
 from .catalogue import CLOSED, RETIRED, Catalogue, Copy, Held, VolumeRow, image_of, odd_image, part_count
 from .config import Config
 from .contents import Contents, File
 from .errors import CopyFailed, VolumeDiffers
 from .job import digest_of, same_parts
 from .remotes import Print, remote_of
+from .same import rows_on
 
 OPEN_MOST = 4
 """Volumes that are kept open to be read."""
@@ -28,6 +29,7 @@ class Reading:
     def __init__(self, image: str):
         settle(image)
         self.contents = Contents(image)
+        self._lines: Optional[Set[Held]] = None
         try:
             self._place = self._found()
             self.files: Dict[int, File] = {file.commit: file for file in self.contents.files()}
@@ -39,6 +41,12 @@ class Reading:
         status = os.stat(self.contents.image)
         return status.st_dev, status.st_ino
 
+    def says(self, held: Held) -> bool:
+        """Whether a text of the volume has the line of a row."""
+        if self._lines is None:
+            self._lines = set(rows_on(self.contents, self.contents.about().number))
+        return held._replace(there=True) in self._lines
+
     def is_there(self) -> bool:
         """Whether the image still has its name: one that is gone can be read as long as it is open."""
         try:
@@ -49,7 +57,10 @@ class Reading:
     def has(self, source: Source, held: Held) -> bool:
         """Whether the bytes of a row are those of its source, both read now; `SourceError` where the source cannot be read as it was."""
         file = self.files.get(held.commit)
-        if file is None or (file.path, file.size, file.moment, file.first, file.parts) != (held.path, held.size, held.moment, held.first, held.parts):
+        if file is None or (file.path, file.size, file.first, file.parts) != (held.stored_as(), held.size, held.first, held.parts):
+            return False
+        # A line has a moment of its own.
+        if held.noted is None and file.moment != held.moment:
             return False
         if held.parts is not None:
             return file.sha256 == held.sha256 and same_parts(source, self.contents, file)
@@ -106,27 +117,55 @@ class Places:
         self._open = {}
 
     def why_not(self, source: Source, held: Held, volume: VolumeRow) -> Optional[str]:
-        """Why nothing shows now that a volume has the bytes of a source; None where something does. Copies are looked at only where no image
-        is at hand: one that is damaged, or has a link in its place, is repaired before sources go."""
+        """Why nothing shows now that a volume has the bytes of a source; None where something does."""
+        return self._why_not(held, volume, lambda path: self._has(path, source, held), lambda: digest_of(source) == held.sha256)
+
+    def why_not_said(self, held: Held, volume: VolumeRow) -> Optional[str]:
+        """Why nothing shows now that a volume has the line of a row."""
+        return self._why_not(held._replace(parts=None), volume, lambda path: self.says_on(path, held), lambda: True)
+
+    def _why_not(self, held: Held, volume: VolumeRow, shows: Callable[[str], bool], is_as_read: Callable[[], bool]) -> Optional[str]:
+        """Why no image or copy shows now that it has what is asked for. Copies are looked at only where no image is at hand: one that is
+        damaged, or has a link in its place, is repaired before sources go."""
         image = image_of(self.config, volume)
         if image is not None:
-            return None if self._has(image, source, held) else f"since {volume.label} does not have them as they were stored: check it"
+            return None if shows(image) else f"since {volume.label} does not have them as they were stored: check it"
         if odd_image(self.config, volume) is not None:
             return f"since {volume.label} has no regular file as its image: 'repair {volume.label}'"
         copies = [copy for copy in self.catalogue.on_remotes(volume.number) if copy.trouble is None]
         for copy in copies:
             path = self._in_folder(volume, copy)
             if path is not None:
-                return None if self._has(path, source, held) else f"since the copy of {volume.label} on {copy.remote} does not have them: 'check --remotes'"
+                return None if shows(path) else f"since the copy of {volume.label} on {copy.remote} does not have them: 'check --remotes'"
         why = self._why_not_remote(held, volume, [copy.remote for copy in copies if not os.path.isabs(copy.remote)])
-        return why if why is not None or digest_of(source) == held.sha256 else f"since {volume.label} does not have them as they were stored: check it"
+        return why if why is not None or is_as_read() else f"since {volume.label} does not have them as they were stored: check it"
 
     def has(self, source: Source, held: Held, volume: VolumeRow) -> bool:
         """Whether some place shows now that a volume has the bytes of a source."""
         if any(self._has(path, source, held) for path in readable(self.config, self.catalogue, volume)):
             return True
-        remotes = [copy.remote for copy in self.catalogue.on_remotes(volume.number) if not os.path.isabs(copy.remote)]
-        return self._why_not_remote(held, volume, remotes) is None
+        return self._why_not_remote(held, volume, self._others(volume)) is None
+
+    def says(self, held: Held, volume: VolumeRow) -> bool:
+        """Whether some place shows now that a volume has the line of a row."""
+        if any(self.says_on(path, held) for path in readable(self.config, self.catalogue, volume)):
+            return True
+        return self._why_not_remote(held._replace(parts=None), volume, self._others(volume)) is None
+
+    def _others(self, volume: VolumeRow) -> List[str]:
+        """The remotes with copies of a volume that are no folders."""
+        return [copy.remote for copy in self.catalogue.on_remotes(volume.number) if not os.path.isabs(copy.remote)]
+
+    def shows(self, image: str, source: Source, held: Held) -> bool:
+        """Whether an image shows now that it has the bytes of a source."""
+        return self._has(image, source, held)
+
+    def says_on(self, image: str, held: Held) -> bool:
+        """Whether an image shows now that it has the line of a row."""
+        try:
+            return self._reading(image).says(held)
+        except VolumeDiffers:
+            return False
 
     def _in_folder(self, volume: VolumeRow, copy: Copy) -> Optional[str]:
         """The path of a copy in a folder that is there now."""

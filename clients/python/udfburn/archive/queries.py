@@ -6,18 +6,19 @@ import argparse
 from datetime import datetime, timezone
 from typing import Dict, Optional
 
-from ..disk import room_left
-from ..errors import UsageError
-from ..sources import shown
+from ..base.disk import room_left
+from ..base.errors import UsageError
+from ..local.sources import shown
+from ..protocol.units import Moment
 from .catalogue import Catalogue
 from .config import config_of
 from .get import Getter, once, require_folder, wanted
-from .names import path_of
-from .status import Line, incomplete, lines
+from .names import path_from
+from .status import STALE, Line, age, incomplete, lines, needed_lines
 from .tell import plural, size, stamp, tell_of
 
 
-def moment_of(text: Optional[str]) -> Optional[int]:
+def moment_of(text: Optional[str]) -> Optional[Moment]:
     """Microseconds of a time that a user writes; without a zone it is UTC, and a date alone is its end."""
     if text is None:
         return None
@@ -27,7 +28,7 @@ def moment_of(text: Optional[str]) -> Optional[int]:
         raise UsageError(f"{text}: is not a time such as 2026-11-26 or 2026-11-26T12:00:00Z") from error
     if len(text) <= 10:
         found = found.replace(hour=23, minute=59, second=59, microsecond=999_999)
-    return int(found.replace(tzinfo=found.tzinfo or timezone.utc).timestamp() * 1_000_000)
+    return Moment(int(found.replace(tzinfo=found.tzinfo or timezone.utc).timestamp() * 1_000_000))
 
 
 def get(arguments: argparse.Namespace) -> int:
@@ -36,7 +37,7 @@ def get(arguments: argparse.Namespace) -> int:
     require_folder(arguments.dir)
     with Catalogue(config) as catalogue:
         known = {row.label: row.number for row in catalogue.volumes()}
-        files = once(wanted(catalogue, [path_of(path) for path in arguments.path], moment_of(arguments.as_of)))
+        files = once(wanted(catalogue, [path_from(path) for path in arguments.path], moment_of(arguments.as_of)))
         tell.begin(len(files), sum(want.rows[0].size for want in files))
         summary = Getter(config, catalogue, tell, arguments.force).run(files, arguments.dir)
         remotes = {label: [copy.remote for copy in catalogue.on_remotes(known[label])] for label in summary.lacking if label in known}
@@ -66,27 +67,34 @@ def report(arguments: argparse.Namespace) -> int:
 
 
 def status(arguments: argparse.Namespace) -> int:
-    """Shows the state of each volume."""
+    """Shows the state of each volume, or with `--check` only what needs somebody."""
     config, tell = config_of(arguments), tell_of(arguments)
+    stale = STALE if arguments.stale is None else age(arguments.stale)
     with Catalogue(config) as catalogue:
-        found, holders, lacking = lines(config, catalogue), catalogue.holders(), incomplete(catalogue)
-    for line in found:
-        tell.say(status_line(line, holders.get(line.row.holder, "?") if line.row.holder != config.id else ""), **status_fields(line, holders))
-        for text in line.attention if not arguments.json else ():
-            tell.say(f"    ! {text}")
-    for path, where in lacking:
-        tell.say(f"    ! {path}: parts are missing (those on {where} are there): add the file again", did="incomplete", path=path, volumes=where)
+        found, holders, lacking = lines(config, catalogue, stale), catalogue.holders(), incomplete(catalogue)
+    if arguments.prometheus is not None:
+        from .metrics import write_metrics
+
+        write_metrics(config, arguments.prometheus, found, lacking)
+    if not arguments.check:
+        for line in found:
+            tell.say(status_line(line, holders.get(line.row.holder, "?") if line.row.holder != config.id else ""), **status_fields(line, holders))
+            for text in line.attention if not arguments.json else ():
+                tell.say(f"    ! {text}")
+        for one in lacking:
+            tell.say(f"    ! {one.path}: {one.need().text}", did="incomplete", path=one.path, volumes=one.volumes)
+    needed = needed_lines(found, lacking)
+    for text in needed if arguments.check else ():
+        tell.fail(text)
     files, left = sum(line.row.files for line in found), room_left(config.folder)
     words = f"{config.label}: {plural(len(found), 'volume', 'volumes')}, {plural(files, 'file', 'files')}"
     words += f", {size(left)} left on the disk" if left is not None else ""
-    tell.result(
-        words, label=config.label, archive=config.folder, volumes=len(found), files=files, left=left,
-        attention=sum(len(line.attention) for line in found) + len(lacking),
-    )
+    words += f": {plural(len(needed), 'thing needs', 'things need') if needed else 'nothing needs'} attention" if arguments.check else ""
+    tell.result(words, label=config.label, archive=config.folder, volumes=len(found), files=files, left=left, attention=len(needed))
     lost = [line.row.label for line in found if line.lost]
-    if lost:
+    if lost and not arguments.check:
         tell.fail(f"{plural(len(lost), 'image is', 'images are')} lost: {', '.join(lost)}")
-    return 1 if lost else 0
+    return 1 if lost or arguments.check and needed else 0
 
 
 def status_line(line: Line, elsewhere: str) -> str:

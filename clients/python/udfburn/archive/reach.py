@@ -5,7 +5,7 @@ from __future__ import annotations
 from typing import Dict, List, Optional, Sequence, Tuple
 
 from .catalogue import RETIRED, Catalogue, Held, VolumeRow, is_whole
-from .config import Config
+from .config import Config, volume_label
 from .contents import Contents, File
 from .places import readable
 
@@ -44,7 +44,7 @@ class Reach:
     def label(self, number: int) -> str:
         """How a volume is called."""
         row = self.row(number)
-        return row.label if row is not None else f"volume {number}"
+        return row.label if row is not None else volume_label(self.config.label, number)
 
     def images(self, number: int) -> List[str]:
         """Where a volume can be read now: its image, then its copies in folders."""
@@ -58,10 +58,9 @@ class Reach:
         it; one in parts from all of them together."""
         at_hand = [row for row in rows if self.images(row.volume)]
         sound = [row for row in at_hand if self._is_sound(row.volume)]
-        if rows[0].parts is None:
-            return [[(row, image)] for row in dict.fromkeys(sound + at_hand) for image in self.images(row.volume)]
-        ways: List[Way] = []
-        for group in (sound, at_hand):
+        ways: List[Way] = [[(row, image)] for row in dict.fromkeys(sound + at_hand) if row.parts is None for image in self.images(row.volume)]
+        for found in (sound, at_hand):
+            group = [row for row in found if row.parts is not None]
             if group and is_whole(group):
                 for index in range(max(len(self.images(row.volume)) for row in group)):
                     ways.append([(row, self.images(row.volume)[: index + 1][-1]) for row in group])

@@ -11,25 +11,29 @@ from concurrent.futures.process import BrokenProcessPool
 from contextlib import closing, contextmanager, suppress
 from functools import partial
 from multiprocessing import active_children, get_context, resource_tracker
-from typing import Callable, Deque, Dict, Generator, Iterable, Iterator, List, NamedTuple, Optional, Tuple
+from typing import Callable, Deque, Dict, Generator, Iterable, Iterator, List, NamedTuple, Optional, Set, Tuple
 
-from ..beneath import is_own, open_own
-from ..errors import UdfburnError
-from ..operations import now
-from ..own_files import from_top, untold
+from ..base.beneath import is_own, open_own
+from ..base.errors import UdfburnError
+from ..base.own_files import from_top, untold
+from ..base.scratch import room, sweep
+from ..local.sources import shown
 from ..protocol import limits
-from ..scratch import room, sweep
-from ..sources import shown
+from ..wire.operations import now
+from . import same_rows
 from .bag import manifest_size
 from .catalogue import CLOSED, CLOSING, FULL, NEW, OPEN, RETIRED, Catalogue, Copy, Held, VolumeRow
 from .claims import claims_of
 from .close import beside, sidecar
 from .config import Config, traces, volume_label
 from .contents import ABOUT, ARCHIVE, About, Contents, about_of, read_fields
+from .deletions import Event, events_on, replace
 from .errors import ArchiveError, CatalogueError, Claimed, CopyFailed, VolumeDiffers
 from .markers import markers_of, move_marker
 from .remake import NOTHING, Kept
 from .remotes import Print, Remote, owner_of, print_of_file, remote_of
+from .same import count_of, rows_on
+from .same_rows import WithoutBytes
 from .tell import Tell, plural, shown_path
 
 
@@ -53,6 +57,8 @@ class Summary:
         self.lacking: List[str] = []
         """Volumes that the catalogue lacks, and of which there is something else than the image."""
         self.away: List[str] = []
+        self.without_bytes: List[WithoutBytes] = []
+        """Files whose bytes are on no volume that is known."""
 
 
 def images(config: Config, others: List[str]) -> Iterator[Tuple[str, bool]]:
@@ -76,6 +82,8 @@ class Read(NamedTuple):
     about: About
     row: VolumeRow
     rows: List[Held]
+    events: List[Event]
+    lines: List[Held]
 
 
 def read_volume(image: str, closed: bool, holder: str) -> Optional[Read]:
@@ -91,13 +99,13 @@ def _read_volume(image: str, closed: bool, holder: str) -> Optional[Read]:
         if (ABOUT,) not in contents.nodes:
             return None
         about = contents.about()
-        rows = contents.rows(about.number)
+        rows, lines = contents.rows(about.number), rows_on(contents, about.number)
         names: Dict[Tuple[str, ...], int] = {}
         for path in contents.nodes:
             if path:
                 names[path[:-1]] = names.get(path[:-1], 0) + 1
         row = VolumeRow(
-            about.number, contents.label, OPEN, holder, contents.capacity, contents.formatted, last_commit=contents.last_commit, files=len(rows),
+            about.number, contents.label, OPEN, holder, contents.capacity, contents.formatted, last_commit=contents.last_commit, files=len(rows) + count_of(lines),
             nodes=len(contents.nodes), blocks=contents.medium.blocks, clients=len(contents.clients()),
             manifest=sum(manifest_size(node.path) for node in contents.payload()), fullest_folder=max(names.values(), default=0),
         )
@@ -105,7 +113,7 @@ def _read_volume(image: str, closed: bool, holder: str) -> Optional[Read]:
         if closed and contents.is_bag():
             length, digest = sidecar(image)
             row = row._replace(state=CLOSED, length=length, sha256=digest, closed=contents.closed())
-        return Read(about, row, rows)
+        return Read(about, row, rows, events_on(contents, about.number), lines)
 
 
 def read_all(wanted: Iterable[Tuple[str, bool]], holder: str, several: bool) -> Generator[Tuple[str, Callable[[], Optional[Read]]], None, None]:
@@ -187,9 +195,13 @@ def length_on(remote: Remote, base: str) -> int:
 
 
 def fetched(remote: Remote, base: str, folder: str) -> str:
-    """The path of an image that is brought from a remote into a folder, with what is known of it."""
+    """The path of an image that is brought from a remote into a folder, with what is known of it; where it has not been closed, of what its
+    copy has."""
     image = os.path.join(folder, base)
     with from_top(image) as place:
+        if remote.length(base) is None:
+            remote.fetch_grown(base, place)
+            return image
         remote.fetch(base, place)
     with suppress(CopyFailed), from_top(beside(image, ".info")) as place:
         remote.fetch(os.path.basename(beside(image, ".info")), place)
@@ -205,6 +217,8 @@ class Rebuilder:
         self.claims = claims_of(catalogue.base, config.path("locks"), config.catalogue)
         self._seen: Dict[int, Tuple[int, int]] = {}
         """The moment of the format and the last commit of each volume that was read, by its number."""
+        self._copied: Set[int] = set()
+        """Open volumes of which only copies were found."""
         self._listed: Optional[Dict[str, List[int]]] = None
         """What remotes have, once they were asked."""
 
@@ -222,6 +236,7 @@ class Rebuilder:
             self._look_for_others()
             if not self.dry_run:
                 self.summary.names = self.catalogue.mend_names()
+                self.summary.without_bytes = same_rows.lacking(self.catalogue)
         finally:
             self.claims.close()
         self.summary.away = [row.label for row in self.catalogue.volumes() if row.number not in self._seen and row.state != NEW]
@@ -262,7 +277,8 @@ class Rebuilder:
     def _on_remotes(self) -> Dict[str, List[int]]:
         """The remotes that are there now, and the numbers of the volumes of which each has an image."""
         if self._listed is None:
-            own = re.compile(re.escape(self.config.label) + r"-([0-9]{6,9})\.img")
+            # Of an open image rclone has a file for each tail.
+            own = re.compile(re.escape(self.config.label) + r"-([0-9]{6,9})\.img(?:\.0{12}-[0-9]{12})?")
             self._listed = {}
             for name in self.config.copies:
                 try:
@@ -280,10 +296,14 @@ class Rebuilder:
             with room(self.config.folder, self.config.room_name("rebuild")) as folder:
                 path = remote.path_of(base)
                 image = path or fetched(remote, base, folder)
-                if number not in self._seen:
+                if number not in self._seen or number in self._copied:
                     read = read_volume(image, True, self.config.id)
-                    if read is None or read.row.state != CLOSED or read.about.number != number:
-                        raise VolumeDiffers(f"{remote.name}: {base}: is not this volume as it was closed, and was left out")
+                    if read is None or read.about.number != number:
+                        raise VolumeDiffers(f"{remote.name}: {base}: is not this volume, and was left out")
+                    if read.row.state != CLOSED:
+                        self._open_copy(image, read)
+                        return
+                    self._forget_copied(number)
                     self._one(image, read)
                 row = self.catalogue.volume(number)
                 told = untold if path is None else self.tell.passed
@@ -293,6 +313,21 @@ class Rebuilder:
             raise
         except (UdfburnError, ValueError, OverflowError, OSError) as error:
             self.summary.failures.append(str(error))
+
+    def _open_copy(self, image: str, read: Read) -> None:
+        """Learns the files of a copy of an open volume, where no catalogue says more of it: then its image is lost."""
+        number = read.about.number
+        known = self.catalogue.volume(number)
+        if known is None or number in self._copied and known.last_commit < read.row.last_commit:
+            self._forget_copied(number)
+            self._one(image, read)
+            self._copied.add(number)
+
+    def _forget_copied(self, number: int) -> None:
+        """Has what comes next count in the place of an open volume's copy."""
+        if number in self._copied:
+            self._copied.discard(number)
+            self._seen.pop(number)
 
     def _take_over(self) -> None:
         """Keeps what could be read of the copies in a damaged catalogue, of the volumes that are known."""
@@ -353,13 +388,15 @@ class Rebuilder:
             raise VolumeDiffers(f"{shown(image)}: is an older copy of {old.label}, which was closed or taken over since, and was left out")
         self._seen[number] = state
         if is_new:
-            self.summary.unknown[read.row.label] = len(read.rows)
+            self.summary.unknown[read.row.label] = read.row.files
         else:
-            self._compare(read.row.label, known, read.rows)
+            self._compare(read.row.label, known + same_rows.of_volume(self.catalogue.base, number), read.rows + read.lines)
         if not self.dry_run:
+            replace(self.catalogue, number, read.events)
+            same_rows.replace(self.catalogue, number, read.lines)
             self.catalogue.replace(self._row(read.row, closed, old), read.rows)
         self.summary.volumes += 1
-        self.summary.files += len(read.rows)
+        self.summary.files += read.row.files
         self.tell.working(f"read {plural(self.summary.volumes, 'volume', 'volumes')}, {plural(self.summary.files, 'file', 'files')}")
 
     def _is_older(self, old: VolumeRow, row: VolumeRow) -> bool:
@@ -402,7 +439,7 @@ class Rebuilder:
             for number in numbers:
                 base = self._base(number)
                 path = remote.path_of(base)
-                archive = self._archive_of(path) if path is not None else self._archive_by_info(remote, beside(base, ".info"))
+                archive = self._archive_of(path) if path is not None else self._archive_by_info(remote, beside(base, ".info")) or self._archive_by_tails(remote, base)
                 votes.update([archive] if archive is not None else [])
         return votes
 
@@ -414,6 +451,16 @@ class Rebuilder:
             with open(open_own(path), "rb") as file:
                 archive = read_fields(file.read(limits.FILE)).get("archive", "")
             return archive if ARCHIVE.fullmatch(archive) else None
+        return None
+
+    def _archive_by_tails(self, remote: Remote, base: str) -> Optional[str]:
+        """The archive that the copy of an open volume names."""
+        with suppress(CopyFailed, OSError), room(self.config.folder, self.config.room_name("rebuild")) as folder:
+            if remote.grown(base) is not None:
+                path = os.path.join(folder, base)
+                with from_top(path) as place:
+                    remote.fetch_grown(base, place)
+                return self._archive_of(path)
         return None
 
     def _take_archive(self, archive: str) -> None:
@@ -438,7 +485,8 @@ class Rebuilder:
 
     def _compare(self, label: str, known: List[Held], rows: List[Held]) -> None:
         """Notes in what the catalogue differs from the volume."""
-        old, new = {held.id(): held for held in known}, {held.id(): held for held in rows}
+        # What the catalogue has of a line does not say whether it has the bytes.
+        old, new = {held.key(): held._replace(there=True) for held in known}, {held.key(): held for held in rows}
         for id in sorted(set(old) | set(new)):
             if id not in new:
                 how, held = "was in the catalogue, and is not on the volume", old[id]

@@ -12,10 +12,10 @@ from shutil import rmtree
 from tempfile import mkdtemp
 from typing import Any, Dict, Iterator, List, NamedTuple, Optional, Sequence, Tuple
 
-from ..beneath import is_there
-from ..own_files import move
+from ..base.beneath import is_there
+from ..base.own_files import move
+from ..local.sources import shown
 from ..protocol import limits
-from ..sources import shown
 from .base import SqliteBase
 from .catalogue import CLOSED, CLOSING, FULL, NEW, OPEN, RETIRED, VOLUME, Catalogue, Copy, VolumeRow, is_disc_name
 from .config import LOCAL, Config, check_remote, volume_label
@@ -36,6 +36,17 @@ ODD_FILES = " OR ".join(
     + [f"typeof({name}) NOT IN ('integer', 'null')" for name in ("first_part", "part_count")]
 )
 """What no row of a file is, by the values that SQLite keeps."""
+
+ODD_EVENTS = " OR ".join([f"typeof({name}) <> 'integer'" for name in ("folder", "volume", "commit_number", "since", "back")] + ["typeof(name) <> 'text'"])
+"""What no row of a deletion is."""
+
+
+ODD_LINES = " OR ".join(
+    [f"typeof({name}) <> 'integer'" for name in ("folder", "volume", "commit_number", "size", "moment", "added", "target")]
+    + ["volume < 0", "size < 0", "target < 0", "typeof(sha256) <> 'blob'", "length(sha256) <> 32", "typeof(name) <> 'text'", "typeof(target_path) <> 'text'"]
+    + [f"typeof({name}) NOT IN ('integer', 'null')" for name in ("first_part", "part_count")]
+)
+"""What no row of a line is."""
 
 
 class Kept(NamedTuple):
@@ -118,8 +129,12 @@ def why_odd(config: Config, base: SqliteBase) -> Optional[str]:
             return f"a row of a copy is none: {str(copy[:2])[:80]}"
     if base.run(f"SELECT 1 FROM file WHERE {ODD_FILES} LIMIT 1") or base.run("SELECT 1 FROM folder WHERE typeof(path) <> 'text' LIMIT 1"):
         return "a row of a file or a folder is none"
+    if base.run(f"SELECT 1 FROM gone WHERE {ODD_EVENTS} LIMIT 1"):
+        return "a row of a deletion is none"
+    if base.run(f"SELECT 1 FROM same WHERE {ODD_LINES} LIMIT 1"):
+        return "a row of a file whose bytes are another's is none"
     # Each text has to be UTF-8. The index of names is made again if it is damaged, but it has to be one.
-    for statement in ("SELECT id, host, place FROM holder", "SELECT name FROM file", "SELECT path FROM folder", "SELECT rowid FROM name_text LIMIT 1"):
+    for statement in ("SELECT id, host, place FROM holder", "SELECT name FROM file", "SELECT path FROM folder", "SELECT name FROM gone", "SELECT name, target_path FROM same", "SELECT rowid FROM name_text LIMIT 1"):
         for _ in base.stream(statement):
             pass
     return None

@@ -5,7 +5,7 @@ from __future__ import annotations
 import argparse
 import os
 
-from ..errors import UsageError
+from ..base.errors import UsageError
 from .catalogue import CLOSED, Catalogue
 from .config import Config, change, check_remote, config_of, quoted_list
 from .errors import BadConfig, CopyFailed

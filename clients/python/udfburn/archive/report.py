@@ -8,11 +8,13 @@ from importlib.resources import files
 from json import dumps
 from typing import Any, Dict, List
 
-from ..beneath import open_own
-from ..saving import require_own, save
-from .catalogue import Catalogue, image_of
+from ..base.beneath import open_own
+from ..local.saving import require_own, save
+from ..protocol.units import Address
+from . import same_rows
+from .catalogue import Catalogue, Held, image_of
 from .close import beside
-from .config import Config
+from .config import Config, volume_label
 from .contents import Contents
 from .errors import VolumeDiffers
 from .status import Line, lines
@@ -24,7 +26,7 @@ PLACE = "/*DATA*/"
 BEGIN = b"<!DOCTYPE html>\n<html lang=\"en\">\n"
 
 
-def ends(config: Config, line: Line) -> List[int]:
+def ends(config: Config, line: Line) -> List[Address]:
     """The address of the last block of each commit, the format's first; none where nothing of the medium is at hand."""
     found = logged(beside(config.path("closed", line.row.label + ".img"), ".log"))
     image = image_of(config, line.row)
@@ -37,11 +39,11 @@ def ends(config: Config, line: Line) -> List[int]:
         return []
 
 
-def logged(log: str) -> List[int]:
+def logged(log: str) -> List[Address]:
     """The addresses in the log of a closed volume; none where it is not there, or is damaged."""
     try:
         with open(open_own(log), encoding="ascii") as file:
-            return [int(words.split()[1]) for words in reversed(file.read().splitlines())]
+            return [Address(int(words.split()[1])) for words in reversed(file.read().splitlines())]
     except (OSError, ValueError, IndexError):
         return []
 
@@ -49,17 +51,26 @@ def logged(log: str) -> List[int]:
 def volume(config: Config, catalogue: Catalogue, line: Line, folders: Dict[str, int]) -> Dict[str, Any]:
     """What the page has of a volume. Its files are in lists of one length, in order of their commits."""
     row = line.row
-    rows = catalogue.of_volume(row.number)
+    stored = catalogue.of_volume(row.number)
+    # One for each file whose bytes are another's.
+    lines = {(held.written(), held.path): held for held in same_rows.of_volume(catalogue.base, row.number)}
+    rows = sorted([*stored, *lines.values()], key=lambda held: held.written()[1])
     return {
         "number": row.number, "label": row.label, "state": line.state, "capacity": row.capacity, "opened": row.formatted, "closed": row.closed,
         "checked": row.checked, "last": row.last_commit, "sha256": row.sha256.hex() if row.sha256 else None, "fullness": line.fullness,
         # A file on several volumes counts where its first part is.
-        "whole": sum(1 for held in rows if not held.first), "bytes": sum(held.size for held in rows if not held.first),
+        "whole": sum(1 for held in rows if not held.first), "bytes": sum(held.size for held in stored if not held.first),
         "copies": [copy.remote for copy in line.copies if copy.trouble is None and not copy.disc()],
         "discs": [[copy.disc(), copy.made] for copy in line.copies if copy.trouble is None and copy.disc()], "attention": line.attention, "ends": ends(config, line),
-        "names": [shown_path(held.path[-1:])[1:] for held in rows], "sizes": [held.size for held in rows], "commits": [held.commit for held in rows],
+        "names": [shown_path(held.path[-1:])[1:] for held in rows], "sizes": [held.size for held in rows], "commits": [held.written()[1] for held in rows],
+        "same": {index: words_of(config, held) for index, held in enumerate(rows) if held.noted is not None},
         "folders": [folders.setdefault(shown_path(held.path[:-1]).rstrip("/"), len(folders)) for held in rows],
     }
+
+
+def words_of(config: Config, held: Held) -> str:
+    """Which file has the bytes of another one."""
+    return f"the same as {shown_path(held.stored_as())}, {volume_label(config.label, held.volume)} commit {held.commit}"
 
 
 def page(config: Config, catalogue: Catalogue) -> str:

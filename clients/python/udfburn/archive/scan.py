@@ -6,12 +6,12 @@ import os
 import stat
 from typing import Iterator, List, NamedTuple, Sequence, Set, Tuple
 
-from ..beneath import Place, place_of
-from ..errors import UsageError
+from ..base.beneath import Place, place_of
+from ..base.errors import UsageError
+from ..local.sources import Identity, Source, odd, shown
 from ..protocol import Path
-from ..sources import Identity, Source, odd, shown
 from .exclude import Rules
-from .names import path_of, text_of
+from .names import path_from, text_of
 
 
 class Found(NamedTuple):
@@ -23,7 +23,8 @@ class Found(NamedTuple):
 
 class Walk:
     """Folders as they are found. `odd` has what is neither file nor folder, `faults` what cannot be read, `empty` counts folders
-    with nothing in them, which the archive does not keep, and `excluded` what the rules leave out."""
+    with nothing in them, which the archive does not keep, `excluded` what the rules leave out, and `left_out` has the paths of all that is
+    there and not walked."""
 
     def __init__(self, own: str, rules: Rules = Rules()):
         status = os.stat(own)
@@ -34,6 +35,7 @@ class Walk:
         self.odd: List[str] = []
         self.faults: List[str] = []
         self.empty = 0
+        self.left_out: List[Path] = []
 
     def below(self, local: str, at: Path) -> Iterator[Found]:
         """A file, or a folder and all below it."""
@@ -73,6 +75,7 @@ class Walk:
             self.faults.append(f"{shown(place.local())}: {error.strerror}")
             return [], []
         self.excluded += is_cache
+        self.left_out += [at] if is_own or is_cache else []
         self.empty += not (names or is_own or is_cache)
         for name in names:
             below = Place(root, folder + (name,))
@@ -83,12 +86,14 @@ class Walk:
                 continue
             if self._excludes(below, found):
                 self.excluded += 1
+                self.left_out.append(at + (name,))
             elif stat.S_ISDIR(found.st_mode):
                 folders.append((below, at + (name,)))
             elif stat.S_ISREG(found.st_mode):
                 files.append(Source(below, at + (name,), Identity.of(found)))
             else:
                 self.odd.append(f"{shown(below.local())}: is {odd(found)}, which is not kept")
+                self.left_out.append(at + (name,))
         return files, folders
 
     def _excludes(self, place: Place, status: os.stat_result) -> bool:
@@ -100,7 +105,7 @@ class Walk:
 def targets(locals_: Sequence[str], at: str) -> List[Tuple[str, Path]]:
     """The path that each local file or folder becomes. One becomes AT; with a slash at its end, or with several, each gets its
     own name below AT. No two become one path, or one a part of the other."""
-    names = path_of(at)
+    names = path_from(at)
     if len(locals_) == 1 and not at.endswith("/"):
         found = [(locals_[0], names)]
     else:

@@ -4,14 +4,16 @@
 are tables that are their own index. In PostgreSQL, where a table and its index would be two copies, they are views over
 indexes that have all that is asked for; only the folder's path is looked up. The third version had an index of text inside names of
 its own. The fourth has where users have put images away. The fifth has the engines' indexes of such text: `name_text` of FTS5 over
-`known_name`, which has each name once, or more often where its files were gone meanwhile; an index by pg_trgm.
+`known_name`, which has each name once, or more often where its files were gone meanwhile; an index by pg_trgm. The sixth has what was
+deleted at its source. The seventh has files whose bytes are another's, which it finds by size and the first bytes of the SHA-256; their
+names have ids below 0.
 """
 
 from __future__ import annotations
 
 from typing import List
 
-VERSION = 5
+VERSION = 7
 """The version of the tables that this program reads and writes."""
 
 COMMITS = 1 << 18
@@ -108,9 +110,45 @@ CREATE EXTENSION IF NOT EXISTS pg_trgm;
 CREATE INDEX file_trigrams ON file USING gin (name gin_trgm_ops)
 """
 
+SIXTH = """
+CREATE TABLE gone (
+    folder BIGINT NOT NULL, name {text} NOT NULL, volume BIGINT NOT NULL, commit_number BIGINT NOT NULL, since BIGINT NOT NULL,
+    back INTEGER NOT NULL, PRIMARY KEY (folder, name, volume, commit_number)
+);
+CREATE INDEX gone_volume ON gone (volume)
+"""
+
+SEVENTH = """
+CREATE TABLE same (
+    folder BIGINT NOT NULL, name {text} NOT NULL, volume BIGINT NOT NULL, commit_number BIGINT NOT NULL, size BIGINT NOT NULL,
+    moment BIGINT NOT NULL, sha256 {bytes} NOT NULL, added BIGINT NOT NULL, target BIGINT NOT NULL, target_path {text} NOT NULL,
+    first_part BIGINT, part_count BIGINT, PRIMARY KEY (folder, name, volume, commit_number, target)
+)
+"""
+
+SEVENTH_INDEXES = """;
+CREATE INDEX same_volume ON same (volume);
+CREATE INDEX same_target ON same (target);
+CREATE INDEX file_content ON file (size, substr(sha256, 1, 8))
+"""
+
+SEVENTH_SQLITE = f"{SEVENTH.rstrip()} WITHOUT ROWID{SEVENTH_INDEXES}"
+
+SEVENTH_POSTGRESQL = f"""
+{SEVENTH.strip()}{SEVENTH_INDEXES.rstrip()};
+ALTER TABLE same ADD COLUMN ending TEXT COLLATE "C" NOT NULL GENERATED ALWAYS AS (reverse(name)) STORED;
+CREATE INDEX same_name ON same (name, folder);
+CREATE INDEX same_ending ON same (ending, folder);
+CREATE INDEX same_trigrams ON same USING gin (name gin_trgm_ops);
+CREATE OR REPLACE VIEW by_name AS SELECT name, path, file.id, part_count FROM file JOIN folder ON folder.id = folder
+UNION ALL SELECT name, path, -(volume * {COMMITS} + commit_number), part_count * 0 FROM same JOIN folder ON folder.id = folder;
+CREATE OR REPLACE VIEW by_ending AS SELECT ending, path, file.id, part_count FROM file JOIN folder ON folder.id = folder
+UNION ALL SELECT ending, path, -(volume * {COMMITS} + commit_number), part_count * 0 FROM same JOIN folder ON folder.id = folder
+"""
+
 MIGRATIONS = {
-    "sqlite": [FIRST, SECOND_SQLITE, THIRD.rstrip() + " WITHOUT ROWID", FOURTH, FIFTH_SQLITE],
-    "postgresql": [FIRST, SECOND_POSTGRESQL, THIRD, FOURTH, FIFTH_POSTGRESQL],
+    "sqlite": [FIRST, SECOND_SQLITE, THIRD.rstrip() + " WITHOUT ROWID", FOURTH, FIFTH_SQLITE, SIXTH, SEVENTH_SQLITE],
+    "postgresql": [FIRST, SECOND_POSTGRESQL, THIRD, FOURTH, FIFTH_POSTGRESQL, SIXTH, SEVENTH_POSTGRESQL],
 }
 """The statements of an engine that make version n + 1 of version n, from the empty one on."""
 

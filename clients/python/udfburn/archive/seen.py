@@ -12,8 +12,8 @@ import sqlite3
 from contextlib import suppress
 from typing import Dict, List, Optional, Tuple
 
-from ..beneath import is_own, new_given
-from ..sources import Source
+from ..base.beneath import is_own, new_given
+from ..local.sources import Source
 from .config import Config
 
 NAME = "seen.sqlite"

@@ -3,20 +3,45 @@
 from __future__ import annotations
 
 import os
+import re
 import time
-from typing import Dict, List, NamedTuple, Optional, Tuple
+from typing import Dict, List, NamedTuple, Optional, Sequence
+
+from ..base.errors import UsageError
 
 from ..protocol import limits
 from .batch import sound_length
 from .catalogue import CLOSED, CLOSING, FILE, FULL, NEW, RETIRED, Catalogue, Copy, Held, VolumeRow, folder_back, held_row, image_of, is_whole
-from .config import Config
+from .config import Config, volume_label
 from .errors import LOST, VolumeDiffers
-from .tell import shown_path
-from .tree import MANIFEST
+from .same_rows import WithoutBytes
+from .same_rows import lacking as without_bytes
+from .tell import plural, shown_path
+from .tree import MANIFEST, most_nodes
 from .volume import look
 
-STALE = 400 * 86_400 * 1_000_000
-"""Microseconds after which a closed volume should be looked at again."""
+HOUR = 3_600_000_000
+UNITS = {"h": HOUR, "d": 24 * HOUR, "w": 168 * HOUR}
+"""Microseconds of the units of an age."""
+
+STALE = 400 * UNITS["d"]
+"""Microseconds after which a closed volume or a copy should be looked at again, where no other age is asked for."""
+
+KINDS = (
+    "lost", "damaged", "copy_damaged", "not_closed", "not_copied", "not_checked", "copy_not_checked", "older_image", "cut_short", "incomplete",
+)
+"""What somebody may be needed for."""
+
+HURT = ("lost", "damaged", "copy_damaged")
+"""Those of which `check` says what they are."""
+
+
+class Need(NamedTuple):
+    """Something that needs somebody: one of `KINDS`, what is said of it, and the remote of the copy that it is about."""
+
+    kind: str
+    text: str
+    remote: str = ""
 
 
 class Line(NamedTuple):
@@ -27,16 +52,33 @@ class Line(NamedTuple):
     at_hand: bool
     fullness: Dict[str, float]
     copies: List[Copy]
-    attention: List[str]
-    lost: bool
+    needs: List[Need]
     place: Optional[str]
     """Where the user has put the image."""
 
+    @property
+    def attention(self) -> List[str]:
+        """What is said of all that needs somebody."""
+        return [need.text for need in self.needs]
 
-def fullness(row: VolumeRow) -> Dict[str, float]:
-    """How full a volume is in each limit."""
+    @property
+    def lost(self) -> bool:
+        """Whether the image is lost."""
+        return any(need.kind == "lost" for need in self.needs)
+
+
+def age(text: str) -> int:
+    """Microseconds of an age such as 12h, 180d or 26w; `UsageError` for another text, and for one of no time or above a million units."""
+    match = re.fullmatch("([1-9][0-9]{0,5})([hdw])", text)
+    if match is None:
+        raise UsageError(f"{text}: is not an age such as 12h, 180d or 26w")
+    return int(match.group(1)) * UNITS[match.group(2)]
+
+
+def fullness(row: VolumeRow, nodes: int) -> Dict[str, float]:
+    """How full a volume is in each limit, where one of small files takes so many nodes."""
     return {
-        "nodes": row.nodes / limits.NODES, "names": row.fullest_folder / limits.NAMES, "blocks": row.blocks / row.capacity,
+        "nodes": min(row.nodes / most_nodes(nodes, row.nodes, row.blocks), 1.0), "names": row.fullest_folder / limits.NAMES, "blocks": row.blocks / row.capacity,
         "clients": row.clients / limits.CLIENTS, "manifest": row.manifest / MANIFEST,
     }
 
@@ -74,51 +116,74 @@ def state_of(row: VolumeRow, at_hand: bool, copies: int, config: Config, own: bo
     return row.state
 
 
-def attention(row: VolumeRow, at_hand: bool, copies: List[Copy], config: Config, own: bool, now: int) -> List[str]:
-    """What needs somebody."""
-    found: List[str] = []
+def needs(row: VolumeRow, at_hand: bool, copies: List[Copy], config: Config, now: int, stale: int) -> List[Need]:
+    """What needs somebody, by the catalogue. `stale` is the age in microseconds from which a check is too old."""
+    found: List[Need] = []
     if row.state == RETIRED:
         return found
     if row.trouble:
-        found.append(f"{row.trouble}: 'repair {row.label}'")
-    found += [f"the copy on {copy.remote}: {copy.trouble}: 'repair {row.label}'" for copy in copies if copy.trouble and not copy.disc()]
-    found += [f"the disc {copy.disc()}: {copy.trouble}: 'burn {row.label}' onto another one" for copy in copies if copy.trouble and copy.disc()]
+        found.append(Need("damaged", f"{row.trouble}: 'repair {row.label}'"))
+    for copy in copies:
+        disc = copy.disc()
+        if copy.trouble and disc:
+            found.append(Need("copy_damaged", f"the disc {disc}: {copy.trouble}: 'burn {row.label}' onto another one", copy.remote))
+        elif copy.trouble:
+            found.append(Need("copy_damaged", f"the copy on {copy.remote}: {copy.trouble}: 'repair {row.label}'", copy.remote))
     if row.state in (FULL, CLOSING):
-        found.append(f"is {row.state}: 'close {row.label}'")
-    if row.state == CLOSED and at_hand and good(copies, config) < len(config.copies):
-        missing = [remote for remote in config.copies if remote not in [copy.remote for copy in copies if not copy.trouble]]
-        found.append(f"is not on {', '.join(missing)}: 'close {row.label}'")
-    if row.state == CLOSED and at_hand and now - (row.checked or row.closed or 0) > STALE:
-        found.append(f"was not checked for {(now - (row.checked or row.closed or 0)) // 86_400_000_000} days: 'check {row.label}'")
+        found.append(Need("not_closed", f"is {row.state}: 'close {row.label}'"))
+    missing = [remote for remote in config.copies if remote not in [copy.remote for copy in copies]]
+    if row.state == CLOSED and at_hand and missing:
+        found.append(Need("not_copied", f"is not on {', '.join(missing)}: 'close {row.label}'"))
+    return found + unchecked(row, at_hand, copies, now, stale)
+
+
+def unchecked(row: VolumeRow, at_hand: bool, copies: List[Copy], now: int, stale: int) -> List[Need]:
+    """What was not looked at for longer than an age: a closed image at hand, and its good copies."""
+    found: List[Need] = []
+    checked = row.checked or row.closed or 0
+    if row.state == CLOSED and at_hand and now - checked > stale:
+        found.append(Need("not_checked", f"was not checked for {days(now - checked)}: 'check {row.label}'"))
+    for copy in copies:
+        if row.state == CLOSED and not copy.trouble and now - copy.checked > stale:
+            disc = copy.disc()
+            what, how = (f"the disc {disc}", f"'check --disc {disc}'") if disc else (f"the copy on {copy.remote}", f"'check --remotes {row.label}'")
+            found.append(Need("copy_not_checked", f"{what} was not checked for {days(now - copy.checked)}: {how}", copy.remote))
     return found
 
 
-def cut_short(config: Config, row: VolumeRow) -> List[str]:
+def days(count: int) -> str:
+    """Microseconds in whole days, or in hours where they are fewer than two days."""
+    return plural(count // UNITS["d"], "day", "days") if count >= 2 * UNITS["d"] else plural(count // HOUR, "hour", "hours")
+
+
+def cut_short(config: Config, row: VolumeRow) -> List[Need]:
     """What is to be known of an open image that a batch is being added to, or was when its process was killed."""
     image = image_of(config, row)
     try:
         length = None if image is None else sound_length(image)
     except VolumeDiffers as error:
-        return [str(error)]
+        return [Need("cut_short", str(error))]
     if length is None:
         return []
-    return [f"a batch is being written to it, or was cut short: run 'add' before you mount it, or mount it with lastblock={length // limits.BLOCK - 1}"]
+    where = f"lastblock={length // limits.BLOCK - 1}"
+    return [Need("cut_short", f"a batch is being written to it, or was cut short: run 'add' before you mount it, or mount it with {where}")]
 
 
-def damaged(config: Config, row: VolumeRow) -> List[str]:
+def damaged(config: Config, row: VolumeRow) -> List[Need]:
     """What is to be known of an open image that no command can fill or close."""
     image = config.path("open", row.label + ".img")
     if row.holder != config.id or row.state == CLOSED or not os.path.isfile(image):
         return []
     found = look(image)
     if found.damaged:
-        return [f"its image is damaged, and takes no more: 'udfburn check' says where, and {LOST}"]
+        return [Need("damaged", f"its image is damaged, and takes no more: 'udfburn check' says where, and {LOST}")]
     if found.commit is not None and found.commit < row.last_commit:
-        return [f"its image has {found.commit} commits, and {row.last_commit} were acknowledged: it is an older copy, or was cut short: bring the right one back, or {LOST}"]
+        few = f"its image has {found.commit} commits, and {row.last_commit} were acknowledged"
+        return [Need("older_image", f"{few}: it is an older copy, or was cut short: bring the right one back, or {LOST}")]
     return []
 
 
-def lines(config: Config, catalogue: Catalogue) -> List[Line]:
+def lines(config: Config, catalogue: Catalogue, stale: int = STALE) -> List[Line]:
     """All volumes, those that need attention first."""
     copies: Dict[int, List[Copy]] = {}
     for copy in catalogue.copies():
@@ -130,18 +195,44 @@ def lines(config: Config, catalogue: Catalogue) -> List[Line]:
         have = copies.get(row.number, [])
         state = state_of(row, at_hand, good(have, config), config, own)
         lost = is_lost(row, config, at_hand, places.get(row.number))
-        needed = [loss(row, have, config)] if lost else []
-        needed += attention(row, at_hand, have, config, own, now) + (cut_short(config, row) or damaged(config, row))
-        found.append(Line(row, state, at_hand, fullness(row), have, needed, lost, places.get(row.number)))
-    return sorted(found, key=lambda line: (not line.attention, line.row.number))
+        needed = [Need("lost", loss(row, have, config))] if lost else []
+        needed += needs(row, at_hand, have, config, now, stale) + (cut_short(config, row) or damaged(config, row))
+        found.append(Line(row, state, at_hand, fullness(row, config.nodes), have, needed, places.get(row.number)))
+    return sorted(found, key=lambda line: (not line.needs, line.row.number))
 
 
-def incomplete(catalogue: Catalogue) -> List[Tuple[str, str]]:
-    """Files in parts of which the archive lacks some: their paths, and the volumes of the parts that are there."""
+class Incomplete(NamedTuple):
+    """A file in parts of which the archive lacks some: its path, and the volumes of the parts that are there. Or files whose bytes were
+    another's, and are on no volume that counts: the path of the first, the volume that had them, and what is said."""
+
+    path: str
+    volumes: str
+    lacks: str = ""
+
+    def need(self) -> Need:
+        return Need("incomplete", self.lacks or f"parts are missing (those on {self.volumes} are there): add the file again")
+
+
+def incomplete(catalogue: Catalogue) -> List[Incomplete]:
+    """The files in parts of which the archive lacks some."""
     groups: Dict[object, List[Held]] = {}
     statement = f"SELECT {FILE}, folder.path FROM file JOIN folder ON folder.id = file.folder WHERE file.part_count IS NOT NULL"
     for row in catalogue.base.run(statement):
         held = held_row(folder_back(row[-1]), row[:-1])
         groups.setdefault(held.version(), []).append(held)
     lacking = [group for group in groups.values() if not is_whole(group)]
-    return [(shown_path(group[0].path), ", ".join(f"{catalogue.config.label}-{held.volume:06}" for held in group)) for group in lacking]
+    label = catalogue.config.label
+    found = [Incomplete(shown_path(group[0].path), ", ".join(volume_label(label, held.volume) for held in group)) for group in lacking]
+    return found + [Incomplete(shown_path(one.first), volume_label(label, one.volume), f"{lacking_words(label, one)}: add what lacks them again") for one in without_bytes(catalogue)]
+
+
+def lacking_words(label: str, one: WithoutBytes) -> str:
+    """What is said of files whose bytes are on no volume that counts."""
+    others = f", like those of {plural(one.files - 1, 'other file', 'other files')}," if one.files > 1 else ""
+    how = "is retired" if one.retired else "does not have them, or is not known"
+    return f"its bytes{others} were stored on {volume_label(label, one.volume)}, which {how}"
+
+
+def needed_lines(found: Sequence[Line], lacking: Sequence[Incomplete]) -> List[str]:
+    """A line for each thing that needs somebody."""
+    return [f"{line.row.label}: {text}" for line in found for text in line.attention] + [f"{one.path}: {one.need().text}" for one in lacking]

@@ -6,10 +6,12 @@ import argparse
 import time
 from contextlib import contextmanager
 from datetime import datetime, timezone
-from typing import Iterator
+from typing import Iterator, List
 
-from ..progress import Progress, plural, printable, size
+from ..base.progress import Progress, plural, printable, size
 from ..protocol import Path, escaped
+from ..protocol.units import Commit, Moment
+from .held import Held
 from .names import text_of
 
 NO_END = 1 << 62
@@ -26,7 +28,7 @@ def printed_path(path: Path) -> str:
     return escaped(text_of(path))
 
 
-def stamp(moment: int) -> str:
+def stamp(moment: Moment) -> str:
     """A moment, as people read it."""
     return datetime.fromtimestamp(moment / 1e6, timezone.utc).strftime("%Y-%m-%dT%H:%M:%SZ")
 
@@ -49,6 +51,19 @@ class Tell(Progress):
         elif what != "same" or self.verbose:
             where = f" {volume}" if volume else ""
             self._print(printable(f"{what} {printed_path(path)}{where}"))
+
+    def same_as(self, held: Held, where: List[str], volume: str, commit: Commit) -> None:
+        """The archive has the bytes of a file under another path, or at another time: a line of a volume says so."""
+        self.done_files += 1
+        self.done_bytes += held.size
+        if self.as_json and not self.quiet:
+            self._print_json({
+                "did": "same as", "path": shown_path(held.path), "bytes": held.size, "as": shown_path(held.stored_as()), "places": where, "volume": volume, "commit": commit,
+            })
+        elif self.bar and not self.quiet:
+            self._draw(held.size) if self.bytes else self._count("same as")
+        elif not self.quiet:
+            self._print(printable(f"same {printed_path(held.path)} as {printed_path(held.stored_as())} {', '.join(where)}"))
 
     def _count(self, what: str) -> None:
         now = time.monotonic()

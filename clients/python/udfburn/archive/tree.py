@@ -4,11 +4,11 @@ from __future__ import annotations
 
 from typing import Dict, Iterable, List, NamedTuple, Optional, Tuple
 
-from ..blocks import Layout, Reckoner, Space, blocks_for, data_blocks
-from ..manifest import PAYLOAD
+from ..base.manifest import PAYLOAD
+from ..image.blocks import Layout, Reckoner, Space, blocks_for, data_blocks, table_blocks
 from ..protocol import Path, limits
+from ..protocol.units import Address
 from .bag import manifest_size
-from .catalogue import part_count
 from .names import DESCRIPTION, SPREAD, part_name, spelled, stored_folder
 
 KEPT_NODES = 10
@@ -27,11 +27,17 @@ SPARE = 64
 ENDING = 34
 """Blocks that are kept for the end of a disc: three copies of the VAT ICB, and what 31 blocks lack to a unit of 32."""
 
-FIRST = 262
+FIRST = Address(262)
 """The first block after a format."""
 
-Undo = Tuple[Tuple[int, int, int, int], List[Path], Dict[Path, Optional[Tuple[int, int, int]]]]
-"""What is needed to undo a plan: the counts before it, what it named, and how the folders of that were laid."""
+LARGE = 32
+"""Blocks a node, on average, from which on a volume takes as many nodes as the format allows: what its tables take is little beside them."""
+
+DESCRIBED = 160
+"""Bytes of the text that describes a file in parts, at most."""
+
+Undo = Tuple[Tuple[Address, int, int, int], List[Path], Dict[Path, Optional[Tuple[int, int, int]]], List[str]]
+"""What is needed to undo a plan: the counts before it, what it named, how the folders of that were laid, and the names of the root."""
 
 
 class Place(NamedTuple):
@@ -44,10 +50,12 @@ class Place(NamedTuple):
 class Tree:
     """An open volume as it will be when all that was planned is written."""
 
-    def __init__(self, space: Space, manifest: int = 0):
+    def __init__(self, space: Space, manifest: int = 0, nodes: int = limits.NODES):
         self.capacity = space.capacity
         self.space = space
         self.manifest = manifest
+        self.nodes = nodes
+        """The nodes that it takes while its files are small."""
         self.reckoner = Reckoner(space)
         self.names: Dict[Path, Dict[str, bool]] = {(): {}}
         self.actual: Dict[Path, List[Path]] = {(): [()]}
@@ -55,9 +63,9 @@ class Tree:
         self._keep_room()
 
     @staticmethod
-    def empty(capacity: int) -> "Tree":
+    def empty(capacity: int, nodes: int) -> "Tree":
         """A volume right after it was opened."""
-        tree = Tree(Space(capacity, FIRST, {1}))
+        tree = Tree(Space(capacity, FIRST, {1}), 0, nodes)
         tree.small(("volume.txt",), 2000)
         for folder in ("runs", PAYLOAD):
             tree.reckoner.make((folder,))
@@ -92,8 +100,13 @@ class Tree:
 
     def reserve(self) -> int:
         """Blocks that `close` needs: the manifest with what the program asks for it, and five small files."""
-        table = blocks_for(196 + 48 * (len(self.space.clients) + 1) + 4 * (self.space.entries + KEPT_NODES))
+        table = table_blocks(len(self.space.clients) + 1, self.space.entries + KEPT_NODES)
         return 2 * blocks_for(self.manifest + 4096) + 6 * (2 * table + 16) + SPARE + ENDING
+
+    def has_room_to_remove(self, files: int) -> bool:
+        """Whether so many files of the root can be removed, and the volume closed."""
+        table = table_blocks(len(self.space.clients) + 1, self.space.entries)
+        return self.space.next + files * (2 * table + self.reckoner.layouts.get((), Layout()).most() + 2) <= self.space.capacity
 
     def _keep_room(self) -> None:
         self.space.capacity = self.capacity - self.reserve()
@@ -103,20 +116,28 @@ class Tree:
         layout, entries, nodes, blocks, manifest = self._layout(folder), self.space.entries, self.space.nodes, 0, self.manifest
         nodes += len(folder) + 2
         base = manifest_size((PAYLOAD,) + stored_folder(folder))
+        root = self.reckoner.layouts.get((), Layout()).blocks() + 1
         for size, name in zip(sizes, names):
-            parts = part_count(size)
-            nodes += 1 + (parts + 2 + parts // 500 if parts else 0)
+            parts = 0 if size <= limits.GREATEST_FILE else -(-size // limits.GREATEST_FILE)
+            nodes += 1 + (parts + 1 if parts else 0)
             entries = max(entries, nodes + 1)
-            table = blocks_for(196 + 48 * (len(self.space.clients) + 1) + 4 * entries)
+            table = table_blocks(len(self.space.clients) + 1, entries)
             layout.add(spelled(name)[0])
             if layout.full > 40:
                 layout, nodes = Layout(), nodes + 1
-            blocks += table + 2 + data_blocks(min(size, limits.FILE)) + layout.blocks()
-            blocks += (parts - 1) * (table + 2 + data_blocks(limits.FILE) + 12) if parts else 0
-            manifest += max(parts, 1) * (base + 2 + sum(len(piece.encode()) for piece in spelled(name))) + 16 * parts
+            blocks += table + 2 + data_blocks(size) + layout.blocks()
+            # Each piece is a commit, and so is the one that gives the name; the folder of parts and the description are two.
+            growing = -(-size // limits.FILE) if size > limits.FILE else 0
+            blocks += growing * (table + 2) + (max(parts, 1) * 2 * root + 2 * table if growing else 0) + (parts + 2) * 6 * bool(parts)
+            manifest += max(parts, 1) * (base + 2 + sum(len(piece.encode()) for piece in spelled(name))) + 18 * parts + 80 * bool(parts)
             if nodes > limits.NODES - KEPT_NODES or manifest > MANIFEST:
                 return False
-        return self.space.next + blocks + 2 * blocks_for(manifest - self.manifest) + SPARE <= self.space.capacity
+        most = most_nodes(self.nodes, nodes, self.space.next + blocks)
+        return nodes <= most - KEPT_NODES and self.space.next + blocks + 2 * blocks_for(manifest - self.manifest) + SPARE <= self.space.capacity
+
+    def most_nodes(self) -> int:
+        """The nodes that it takes, by how large its files are."""
+        return most_nodes(self.nodes, self.space.nodes, self.space.next)
 
     def _layout(self, folder: Path) -> Layout:
         """How the names of a folder are laid, to add more to it."""
@@ -127,19 +148,28 @@ class Tree:
 
     # ---- what is planned
 
-    def place(self, folder: Path, name: str, size: int, in_parts: bool) -> Optional[Place]:
-        """Plans a file, or the description of one in parts, in the first version that has its path free. None where it does
-        not fit."""
-        for version in range(1, limits.NODES):
-            base = (PAYLOAD,) + ((f"=v{version}",) if version > 1 else ()) + stored_folder(folder)
-            whole = base + spelled(name)
-            if not self._conflict(whole):
-                return self._plan(whole + ((DESCRIPTION,) if in_parts else ()), size)
-        return None
+    def place(self, folder: Path, name: str, size: int, unfinished: Path = (), kept: int = 0) -> Optional[Place]:
+        """Plans a file in the first version that has its path free; None where it does not fit. One above a mebibyte has the path
+        `unfinished` before, at which the volume has so many pieces of it already."""
+        whole = self._free(folder, name)
+        return None if whole is None else self._plan(whole, size, unfinished, kept)
 
-    def place_part(self, whole: Path, index: int, size: int) -> Optional[Place]:
-        """Plans a part of a file, whose folder is there or planned."""
-        return self._plan(logical(whole) + part_name(index), size)
+    def place_in_parts(self, folder: Path, name: str) -> Optional[Place]:
+        """Plans the description of a file in parts, in the same way."""
+        whole = self._free(folder, name)
+        return None if whole is None else self._plan(whole + (DESCRIPTION,), DESCRIBED)
+
+    def place_part(self, whole: Path, start: int, size: int, unfinished: Path, kept: int) -> Optional[Place]:
+        """Plans a part of a file, from a byte of it on, whose folder is there or planned."""
+        return self._plan(logical(whole) + (part_name(start),), size, unfinished, kept)
+
+    def _free(self, folder: Path, name: str) -> Optional[Path]:
+        """The path of a file in the first version in which nothing else has it."""
+        for version in range(1, limits.NODES):
+            whole = (PAYLOAD,) + ((f"=v{version}",) if version > 1 else ()) + stored_folder(folder) + spelled(name)
+            if not self._conflict(whole):
+                return whole
+        return None
 
     def small(self, path: Path, size: int) -> Optional[Place]:
         """Plans a small file of this program's own."""
@@ -149,19 +179,21 @@ class Tree:
         """Whether something has this path, or a file is where a folder of it would be."""
         return self.at(whole) is not None or any(self.at(whole[:depth]) is False for depth in range(1, len(whole)))
 
-    def _plan(self, whole: Path, size: int) -> Optional[Place]:
+    def _plan(self, whole: Path, size: int, unfinished: Path = (), kept: int = 0) -> Optional[Place]:
         """Plans the folders above and the file; None where a limit would be passed, and then nothing is planned."""
         before = self._kept()
         made: List[Path] = []
         last = self._names(whole, made)
         new = made + [last] if last is not None else made
-        layouts = {path[:-1]: kept_layout(self.reckoner.layouts.get(path[:-1])) for path in new}
-        self._undo.append((before, new, layouts))
+        layouts = {path: kept_layout(self.reckoner.layouts.get(path)) for path in [(), *(path[:-1] for path in new)]}
+        self._undo.append((before, new, layouts, list(self.reckoner.names.get((), ()))))
         if last is not None and len(last) <= limits.DEPTH:
-            fits = all([self.reckoner.make(path) for path in made]) and self.reckoner.create(last, size)
+            grows = size > limits.FILE
+            fits = all([self.reckoner.make(path) for path in made])
+            fits = (self.reckoner.grow(last, size, kept, unfinished, False) if grows else self.reckoner.create(last, size)) and fits
             self.manifest += manifest_size(last) if whole[0] == PAYLOAD else 0
             self._keep_room()
-            if fits and self.space.nodes <= limits.NODES - KEPT_NODES and self.manifest <= MANIFEST and self.space.next <= self.space.capacity:
+            if fits and self.space.nodes <= self.most_nodes() - KEPT_NODES and self.manifest <= MANIFEST and self.space.next <= self.space.capacity:
                 return Place(tuple(made), last)
         self.back()
         return None
@@ -173,12 +205,12 @@ class Tree:
                 return None
         return self._step(whole, False, made)
 
-    def _kept(self) -> Tuple[int, int, int, int]:
+    def _kept(self) -> Tuple[Address, int, int, int]:
         return self.space.next, self.space.nodes, self.space.entries, self.manifest
 
     def back(self) -> None:
         """Undoes what was planned last."""
-        before, new, layouts = self._undo.pop()
+        before, new, layouts, self.reckoner.names[()] = self._undo.pop()
         self.space.next, self.space.nodes, self.space.entries, self.manifest = before
         for path in reversed(new):
             if self.names[path[:-1]].pop(path[-1]):
@@ -198,7 +230,7 @@ class Tree:
 
     def share(self) -> float:
         """How full it is, in the limit that is nearest: from 0 to 1."""
-        return max(self.space.next / max(self.space.capacity, 1), self.space.nodes / (limits.NODES - KEPT_NODES), self.manifest / MANIFEST)
+        return max(self.space.next / max(self.space.capacity, 1), self.space.nodes / (self.most_nodes() - KEPT_NODES), self.manifest / MANIFEST)
 
     def _step(self, logic: Path, is_folder: bool, made: List[Path]) -> Optional[Path]:
         """The actual path of a name, which is put where there is room for it."""
@@ -218,6 +250,11 @@ class Tree:
         if is_folder:
             made.append(path)
         return path
+
+
+def most_nodes(small: int, nodes: int, blocks: int) -> int:
+    """The nodes that a volume with so many nodes and blocks takes: with small files so many, since each commit writes a table of all."""
+    return small if blocks < LARGE * nodes else limits.NODES
 
 
 def kept_layout(layout: Optional[Layout]) -> Optional[Tuple[int, int, int]]:

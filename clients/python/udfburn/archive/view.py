@@ -10,14 +10,14 @@ import time
 from collections import OrderedDict
 from typing import Dict, Hashable, Iterable, Iterator, List, Optional
 
-from ..errors import Damaged, UdfburnError
+from ..base.errors import UdfburnError
+from ..mounting.shown_tree import File, Folder, Item, NoMedium, Sums
 from ..protocol import Path
-from ..reader import Node
-from ..reader.basics import PARTITION, blocks_of
-from ..shown_tree import File, Folder, Item, NoMedium, Sums
-from .catalogue import NEW, Catalogue, Held, as_of, below, folder_text, versions
+from ..protocol.units import Commit, Moment
+from . import same_rows
+from .catalogue import NEW, Catalogue, Held, below, folder_text, versions, volume_and_commit
 from .config import Config
-from .contents import Contents
+from .deletions import Event, are_known, in_folder, of_path, present, runs
 from .errors import CannotStore, CatalogueLost, VolumeDiffers
 from .names import kept_name
 from .reach import Reach, Way
@@ -33,7 +33,7 @@ TREES = 4
 """The volumes of which the paths are kept."""
 
 
-def run_name(moment: int) -> str:
+def run_name(moment: Moment) -> str:
     """The name of a run: when it began, to the microsecond. `get --as-of` takes it too."""
     seconds, rest = divmod(moment, 1_000_000)
     return time.strftime("%Y-%m-%dT%H:%M:%S", time.gmtime(seconds)) + f".{rest:06}Z"
@@ -48,8 +48,9 @@ class ArchiveView(Folder):
         rows = [row for row in self.catalogue.volumes() if row.state != NEW]
         self.labels = {os.fsencode(row.label): row.number for row in rows}
         self._limits = {row.number: row.last_commit for row in rows}
-        self.moment = int(time.time() * 1_000_000)
-        self._runs: Optional[Dict[bytes, int]] = None
+        self.moment = Moment(int(time.time() * 1_000_000))
+        self._runs: Optional[Dict[bytes, Moment]] = None
+        self._events: Optional[bool] = None
         self._trees: "OrderedDict[int, Tree]" = OrderedDict()
         self._twice: Dict[Path, None] = {}
 
@@ -80,26 +81,50 @@ class ArchiveView(Folder):
 
     def shown(self, rows: Iterable[Held]) -> List[List[Held]]:
         """The versions that were there at the mount, the newest first."""
-        return versions(row for row in rows if self.was_there(row.volume, row.commit))
+        return versions(row for row in rows if self.was_there(*row.written()))
 
-    def was_there(self, volume: int, commit: int) -> bool:
+    def was_there(self, volume: int, commit: Commit) -> bool:
         """Whether a commit of a volume was there at the mount."""
         return commit <= self._limits.get(volume, -1)
 
-    def runs(self) -> Dict[bytes, int]:
+    def runs(self) -> Dict[bytes, Moment]:
         """The moments of all runs, by their names."""
         if self._runs is None:
             statement = f"SELECT added, min(id) FROM file GROUP BY added, id / {COMMITS}"
-            moments = {int(added) for added, id in self.base().base.run(statement) if self.was_there(*divmod(int(id), COMMITS))}
+            moments = {Moment(int(added)) for added, id in self.base().base.run(statement) if self.was_there(*volume_and_commit(int(id)))}
+            for others in (runs(self.base()), same_rows.runs(self.base().base)):
+                moments |= {since for since, volume, commit in others if self.was_there(volume, commit)}
             self._runs = {run_name(moment).encode(): moment for moment in sorted(moments)}
         return self._runs
 
-    def has_below(self, path: Path, moment: Optional[int]) -> bool:
+    def has_below(self, path: Path, moment: Optional[Moment]) -> bool:
         """Whether a folder or what is below it had a file at a moment, or has one."""
-        statement = """SELECT file.id FROM folder JOIN file ON file.folder = folder.id
-        WHERE (folder.path = ? OR (folder.path >= ? AND folder.path < ?)) AND file.added <= ?"""
+        if self.has_events():
+            return any(self.files_in(folder, moment) for folder in self.base().folders_below(path))
         values = (folder_text(path), *below(path), moment if moment is not None else (1 << 63) - 1)
-        return any(self.was_there(*divmod(int(id), COMMITS)) for (id,) in self.base().base.stream(statement, values))
+        for what, table in (("file.id", "file"), (f"same.volume * {COMMITS} + same.commit_number", "same")):
+            statement = f"""SELECT {what} FROM folder JOIN {table} ON {table}.folder = folder.id
+            WHERE (folder.path = ? OR (folder.path >= ? AND folder.path < ?)) AND {table}.added <= ?"""
+            if any(self.was_there(*volume_and_commit(int(id))) for (id,) in self.base().base.stream(statement, values)):
+                return True
+        return False
+
+    def has_events(self) -> bool:
+        """Whether any file was deleted at its source."""
+        if self._events is None:
+            self._events = are_known(self.base())
+        return self._events
+
+    def files_in(self, path: Path, moment: Optional[Moment]) -> Dict[str, List[Held]]:
+        """The files of a folder that were there at a moment, or are."""
+        catalogue = self.base()
+        events = in_folder(catalogue, path) if self.has_events() else {}
+        found = {name: self.there(rows, events.get(name, ()), moment) for name, rows in catalogue.in_folder(path).items()}
+        return {name: group for name, group in found.items() if group is not None}
+
+    def there(self, rows: Iterable[Held], events: Iterable[Event], moment: Optional[Moment]) -> Optional[List[Held]]:
+        """The version of a path that was there at a moment, or is."""
+        return present(self.shown(rows), [event for event in events if self.was_there(event.volume, event.commit)], moment)
 
     def tree(self, number: int) -> "Tree":
         """The paths of a volume. A few are kept."""
@@ -124,7 +149,7 @@ class ArchiveView(Folder):
 class State(Folder):
     """A folder of the archive as it is, or as it was at a moment."""
 
-    def __init__(self, view: ArchiveView, at: Optional[int], path: Path):
+    def __init__(self, view: ArchiveView, at: Optional[Moment], path: Path):
         self.view, self.at, self.path = view, at, path
         self.moment = view.moment if at is None else at
 
@@ -132,8 +157,7 @@ class State(Folder):
         catalogue = self.view.base()
         folders = [name for name in catalogue.children(self.path) if self.view.has_below(self.path + (name,), self.at)]
         found: Dict[bytes, Item] = {os.fsencode(name): State(self.view, self.at, self.path + (name,)) for name in folders}
-        groups = {name: as_of(self.view.shown(rows), self.at) for name, rows in catalogue.in_folder(self.path).items()}
-        files = {name: group for name, group in groups.items() if group is not None}
+        files = self.view.files_in(self.path, self.at)
         found.update((os.fsencode(name), ArchiveFile(self.view, files[name])) for name in self.view.without_doubles(self.path, files, folders))
         return found
 
@@ -145,7 +169,8 @@ class State(Folder):
             return None
         if self.view.has_below(path, self.at):
             return State(self.view, self.at, path)
-        group = as_of(self.view.shown(self.view.base().of_path(path)), self.at)
+        events = of_path(self.view.base(), path) if self.view.has_events() else []
+        group = self.view.there(self.view.base().of_path(path), events, self.at)
         return None if group is None else ArchiveFile(self.view, group)
 
 
@@ -241,28 +266,13 @@ class ArchiveFile(File):
         try:
             contents, files = self.view.reach.volume(image)
             file = files.get(row.commit)
-            if file is None or file.path != row.path:
+            if file is None or file.path != row.stored_as():
                 raise VolumeDiffers(f"{contents.image}: does not have {self.name()} as the catalogue says: run 'check' and 'rebuild'")
-            if row.parts is None:
-                return bytes_at(contents, file.nodes[0], index)
-            return contents.bytes_of(file.nodes[index - (row.first or 0)])
+            return contents.piece(file, index - (row.first or 0))
         except (UdfburnError, OSError):
             # By the next time it may be repaired.
             self.view.reach.drop(image)
             raise
-
-
-def bytes_at(contents: Contents, node: Node, index: int) -> bytes:
-    """A piece of a file that is in extents; the whole of one that is inside its entry."""
-    if node.data is None:
-        return contents.bytes_of(node)
-    if index >= len(node.extents):
-        raise Damaged(f"{contents.image}: a file has fewer bytes than the catalogue says: run 'check --data', then 'repair'")
-    extent = node.extents[index]
-    run = contents.medium.run(extent.first + PARTITION, blocks_of(extent.size))
-    if run.missing:
-        raise Damaged(f"{contents.image}: block {run.missing[0]} cannot be read")
-    return run.data[: extent.size]
 
 
 __all__ = ["ArchiveView", "run_name"]

@@ -3,38 +3,55 @@
 from __future__ import annotations
 
 import os
-import time
 from contextlib import closing
-from typing import Callable, Dict, Iterable, Iterator, List, NamedTuple, Optional, Tuple
+from typing import TYPE_CHECKING, Dict, Iterator, List, NamedTuple, Optional, Tuple
 
-from ..blocks import Space
-from ..client import Client
-from ..connection import find_program, run_program
-from ..digests import Files
-from ..errors import ConnectionFailed, Damaged, DiskFull, DriveFailed, Full, NumberUsedElsewhere, OutOfMemory, ProgramFailed, UsageError, WrongVolume
-from ..ledger import Ledger, MemoryLedger, Volume as Known
-from ..manifest import PAYLOAD
-from ..operations import Operation, Outcome, now
-from ..own_files import move, new as new_file, remove
+from ..base.errors import ConnectionFailed, Damaged, DiskFull, DriveFailed, Full, NumberUsedElsewhere, OutOfMemory, ProgramFailed, UsageError, WrongVolume
+from ..base.manifest import PAYLOAD
+from ..base.own_files import move, new as new_file, remove
+from ..base.unfinished import is_unfinished
+from ..image.blocks import Space
+from ..ledger.digests import Files
+from ..ledger.ledger import Ledger, MemoryLedger, Volume as Known
 from ..protocol import Code, Create, MakeDir, Path, Remove, limits
+from ..protocol.units import Address, Commit, Moment
 from ..reader import Kind
+from ..trees.client import Client
+from ..wire.connection import find_program, run_program
+from ..wire.operations import Operation, Outcome, now
+from . import same_rows
 from .bag import manifest_size
 from .batch import Batch, NoBatch, cut_tail, has_room, is_worth, memory_folder, sound_length
 from .catalogue import NEW, OPEN, Catalogue, VolumeRow, image_of, is_whole
 from .claims import Claims
 from .config import Config, traces, volume_label
-from .contents import ABOUT, RUNS, TITLE, Contents, File
+from .contents import ABOUT, GONE, RUNS, SAME, TITLE, Contents, File
+from .deletions import events_on, replace
 from .errors import LOST, CatalogueError, VolumeDiffers
+from .same import count_of, rows_on
 from .schema import NUMBERS
 from .tell import plural, stamp
 from .tree import Tree
+from .unfinished import Unfinished
+
+if TYPE_CHECKING:
+    from .sending import Sending
 
 RUNS_MOST = 480
 """Runs that write to one volume, at most: each has a text in one folder."""
 
+TEXTS_MOST = 500
+"""Texts of this program's own in a folder, at most: that many names go into one."""
+
 CLIENTS_MOST = 36
 """Clients after which one more makes a volume full. Linux mounts a volume with up to 38, so `close` may still come with another, as
 where the ledger was lost or the volume was adopted."""
+
+NODES_LEFT, BLOCKS_LEFT, MANIFEST_MOST = 26, 200, 1_040_000
+"""Nodes and blocks that are left, and bytes of the manifest, from which on a volume counts as full: hardly a file would fit."""
+
+LEDGER = (".ledger", ".ledger-wal", ".ledger-shm", ".ledger.lock")
+"""The files of the ledger beside an open image."""
 
 REBUILD = "run 'udfburn-archive rebuild' first"
 
@@ -46,17 +63,23 @@ begin with = are the archive's:
   =s1, =s2 ..  A folder with more names than UDF takes here goes on in these. Move
                what is in them up into the folder that has them.
   =v2, =v3 ..  Right below data/: later versions of files, under their own paths.
-  NAME/=file.txt, NAME/=p0/00000000 ..
-               A file above a mebibyte, in parts: "cat NAME/=p*/*" joins them, in
-               order of their numbers. The text has its size and its SHA-256. Where
-               parts are missing here they are on other volumes of the archive.
+  NAME/=file.txt, NAME/=000000000000000 ..
+               A file above 122,683,392 bytes, or that no volume has room for, in
+               parts, each named by the byte of the file with which it begins:
+               "cat NAME/=0*" joins them. The text has its size and its SHA-256.
+               Where parts are missing here they are on other volumes.
   ==NAME       A name that UDF cannot spell, one that begins with =, or several
                names in one where a path is too deep. =XX is the byte XX in
                hexadecimal digits, as in quoted-printable; =2F separates names.
                A folder whose name ends with = goes on with the name in it.
 
-runs/ has a text for each run that wrote to this volume. A closed volume is a bag
-of RFC 8493: "sha256sum -c manifest-sha256.txt" checks it.
+A file of the root that begins with .udfburn-unfinished- is none of the archive's:
+a run was cut while it stored it.
+
+runs/ has a text for each run that wrote to this volume, gone/ names files that were
+deleted at their source, and same/ files whose bytes the archive had already, with
+the place that has them. A closed volume is a bag of RFC 8493:
+"sha256sum -c manifest-sha256.txt" checks it.
 """
 
 
@@ -73,8 +96,11 @@ class OpenVolume:
         self.client = Client(f"image:{self.image}", ledger=self.ledger, program=self.program)
         self.marker: Optional[Operation] = None
         self._sent = False
-        self.began = self.runs = self.last_commit = 0
-        self.tree = Tree(Space(row.capacity, row.capacity, set()))
+        self.began, self.last_commit, self.runs = Moment(0), Commit(0), 0
+        self.tree = Tree(Space(row.capacity, Address(row.capacity), set()))
+        self.unfinished = Unfinished(self.image, catalogue, {})
+        self.texts: Dict[str, int] = {}
+        """The bytes of this program's own texts, by their folder."""
 
     # ---- made
 
@@ -166,6 +192,8 @@ class OpenVolume:
             self.load()
             return
         self.tree = self._tree(contents)
+        self.unfinished = Unfinished(self.image, self.catalogue, left_in(contents))
+        self.texts = {folder: sum(node.size for path, node in contents.nodes.items() if len(path) == 2 and path[0] == folder) for folder in (GONE, SAME)}
         if contents.last_commit != self.row.last_commit or self.row.state == NEW:
             self._agree(contents)
         self.runs, self.last_commit = contents.runs(), contents.last_commit
@@ -186,57 +214,79 @@ class OpenVolume:
                 raise VolumeDiffers(f"{self.row.label}: {outcome.operation.path}: {outcome.code.name}: run the command again")
         return True
 
+    def remove_unfinished(self) -> None:
+        """Takes off what runs that were cut left of files that are not whole. Where the volume is too full for that they stay: they are in
+        no bag, and nothing counts them."""
+        paths = list(self.unfinished.sizes)
+        if not paths or not self.tree.has_room_to_remove(len(paths)):
+            return
+        for outcome in self.client.run(Operation(Remove, path, now()) for path in paths):
+            if outcome.code is not Code.DONE:
+                raise VolumeDiffers(f"{self.row.label}: {outcome.operation.path}: {outcome.code.name}: run the command again")
+        self.load()
+
     def _is_elsewhere(self, contents: Contents, file: File) -> bool:
         """Whether the catalogue has all of a file's version on other volumes."""
-        rows = [row for row in self.catalogue.of_path(file.path) if row.volume != self.row.number]
+        rows = [row for row in self.catalogue.of_path(file.path) if row.volume != self.row.number and row.there]
         alike = [row for row in rows if (row.size, row.moment) == (file.size, file.moment)]
         same = [row for row in alike if row.sha256 == contents.digest(file)] if alike else []
         return bool(same) and is_whole(same)
 
     def _agree(self, contents: Contents) -> None:
         known = self.catalogue.of_volume(self.row.number)
-        rows = contents.rows(self.row.number, {held.commit: held for held in known})
-        lost = {held.id() for held in known} - {held.id() for held in rows}
+        rows, lines = contents.rows(self.row.number, {held.commit: held for held in known}), rows_on(contents, self.row.number)
+        known += same_rows.of_volume(self.catalogue.base, self.row.number)
+        lost = {held.key() for held in known} - {held.key() for held in rows + lines}
         if lost:
-            paths = [held.path for held in known if held.id() in lost]
+            paths = [held.path for held in known if held.key() in lost]
             raise VolumeDiffers(f"{self.image}: lacks {plural(len(lost), 'file', 'files')} that the catalogue has, the first is {paths[0]}: bring the right image back, or 'rebuild'")
         state = OPEN if self.row.state == NEW else self.row.state
-        self.row = self.filled(contents.last_commit, len(rows))._replace(state=state)
+        replace(self.catalogue, self.row.number, events_on(contents, self.row.number))
+        same_rows.replace(self.catalogue, self.row.number, lines)
+        # The row comes last: it says that the catalogue has all up to the last commit.
+        self.row = self.filled(contents.last_commit, len(rows) + count_of(lines))._replace(state=state)
         self.catalogue.replace(self.row, rows)
 
     def _tree(self, contents: Contents) -> Tree:
         """What the volume has, to plan more on it."""
         clients = contents.clients() | {self.client.session().ledger.client}
-        space = Space(self.row.capacity, contents.medium.blocks, clients, len(contents.state.entries), len(contents.nodes))
+        space = Space(self.row.capacity, Address(contents.medium.blocks), clients, len(contents.state.entries), len(contents.nodes))
         manifest = sum(manifest_size(node.path) for node in contents.payload())
-        tree = Tree(space, manifest)
+        tree = Tree(space, manifest, self.config.nodes)
         for path, node in contents.nodes.items():
             if path:
                 tree.has(path, node.kind is Kind.DIRECTORY)
         tree.lay_out()
         return tree
 
-    def filled(self, last_commit: int, files: int) -> VolumeRow:
+    def filled(self, last_commit: Commit, files: int) -> VolumeRow:
         """The row, with how full the volume is."""
         space, tree = self.tree.space, self.tree
         return self.row._replace(
-            last_commit=last_commit, files=files, nodes=space.nodes, blocks=os.path.getsize(self.image) // 2048, clients=len(space.clients),
+            last_commit=last_commit, files=files, nodes=space.nodes, blocks=os.path.getsize(self.image) // limits.BLOCK, clients=len(space.clients),
             manifest=tree.manifest, fullest_folder=max(map(len, tree.names.values())),
         )
+
+    def takes_text(self, folder: str, size: int, most: int) -> bool:
+        """Whether a text may go into a folder that has no more than so many bytes: they are read together."""
+        return self.texts.get(folder, 0) + size <= most and len(self.tree.names.get((folder,), ())) < TEXTS_MOST
 
     def is_full(self) -> bool:
         """Whether hardly anything more would fit."""
         space = self.tree.space
-        return space.nodes > 4070 or space.left() < 200 or self.runs >= RUNS_MOST or len(space.clients) > CLIENTS_MOST or self.tree.manifest > 1_040_000
+        return (
+            space.nodes > self.tree.most_nodes() - NODES_LEFT or space.left() < BLOCKS_LEFT or self.tree.manifest > MANIFEST_MOST
+            or self.runs >= RUNS_MOST or len(space.clients) > CLIENTS_MOST
+        )
 
     # ---- written
 
-    def run(self, operations: Callable[[], Iterable[Operation]], files: int, size: int) -> Iterator[Outcome]:
-        """Does operations of so many files with so many bytes. An outcome comes once it is durable: with all others of the batch,
-        or, where the files are few or large or there is no room in memory, by itself."""
-        if self.copy is not None and is_worth(files, size, self.tree.space.next * limits.BLOCK):
+    def run(self, sending: "Sending") -> Iterator[Outcome]:
+        """Stores files. An outcome comes once it is durable: with all others of the batch, or, where the files are few or large or there
+        is no room in memory, by itself."""
+        if self.copy is not None and is_worth(len(sending.jobs), sending.size(), self.tree.space.next * limits.BLOCK):
             try:
-                done, full = self._batch(self.copy, operations)
+                done, full = self._batch(self.copy, sending)
             except NoBatch:
                 self.copy = None
             else:
@@ -244,10 +294,10 @@ class OpenVolume:
                 if full is not None:
                     raise full
                 return
-        yield from self.client.run(operations())
+        yield from sending.run(self.client)
 
-    def _batch(self, copy: str, operations: Callable[[], Iterable[Operation]]) -> Tuple[List[Outcome], Optional[Full]]:
-        """Does operations on a copy of the image, adds its tail to the image, and has the ledger keep the replies."""
+    def _batch(self, copy: str, sending: "Sending") -> Tuple[List[Outcome], Optional[Full]]:
+        """Stores files on a copy of the image, adds its tail to the image, and has the ledger keep the replies."""
         ledger, volume = self._in_ledger()
         if volume is None or not has_room(os.path.dirname(copy), self.tree.space.next * limits.BLOCK):
             raise NoBatch(f"{copy}: no room")
@@ -256,7 +306,7 @@ class OpenVolume:
         with Batch(self.image, copy) as batch, closing(MemoryLedger(ledger.client)) as kept:
             with Client(f"image:{copy}", ledger=kept, program=self.program, patience=0.0) as client:
                 try:
-                    for outcome in client.run(operations()):
+                    for outcome in sending.run(client):
                         # The bytes are in the copy.
                         done.append(outcome._replace(operation=outcome.operation._replace(data=b"")))
                 except Full as error:
@@ -280,7 +330,7 @@ class OpenVolume:
         ledger, known = self._in_ledger()
         return {} if known is None else {commit: file.sha256 for commit, file in Files(ledger, known).by_commit.items()}
 
-    def plan_marker(self, text: str, began: int) -> None:
+    def plan_marker(self, text: str, began: Moment) -> None:
         """Plans the text that notes a run before its first file. Its moment is when the run began."""
         self.began = began
         path: Path = (RUNS, f"{self.runs + 1:05}.txt")
@@ -299,11 +349,16 @@ class OpenVolume:
 
     def resync(self) -> None:
         """Has the plan go on where the image ends."""
-        self.tree.space.next = os.path.getsize(self.image) // 2048
+        self.tree.space.next = Address(os.path.getsize(self.image) // limits.BLOCK)
 
     def close(self) -> None:
         """Gives the ledger back."""
         self.client.close()
+
+
+def left_in(contents: Contents) -> Dict[Path, int]:
+    """The unfinished files of a volume, and the bytes of each."""
+    return {path: node.size for path, node in contents.nodes.items() if is_unfinished(path) and node.kind is Kind.FILE}
 
 
 def is_damaged(image: str) -> bool:
@@ -315,7 +370,7 @@ class Look(NamedTuple):
     """What the program finds in an image: whether it would write nothing to it, and its newest commit where that is known."""
 
     damaged: bool
-    commit: Optional[int] = None
+    commit: Optional[Commit] = None
 
 
 def look(image: str) -> Look:
@@ -324,7 +379,7 @@ def look(image: str) -> Look:
         return Look(False)
     try:
         lines = run_program(find_program(), ["log", image])
-        return Look(False, int(lines.split(maxsplit=1)[0]))
+        return Look(False, Commit(int(lines.split(maxsplit=1)[0])))
     except ProgramFailed as error:
         # With cause 78 only an earlier state is damaged.
         return Look(any(code in str(error) for code in ("66 NotFormatted", "67 Damaged")) and "cause 78" not in str(error))
@@ -344,7 +399,7 @@ def new_row(config: Config, catalogue: Catalogue) -> VolumeRow:
             # Its number would be that of another volume, which it would replace one day.
             label = volume_label(config.label, max(later))
             raise CatalogueError(f"there are files of {label}, which the catalogue does not know: it is older than the volumes: {REBUILD}")
-        row = VolumeRow(number, volume_label(config.label, number), NEW, config.id, config.capacity, time.time_ns() // 1000)
+        row = VolumeRow(number, volume_label(config.label, number), NEW, config.id, config.capacity, now())
         catalogue.save(row)
     return row
 

@@ -3,6 +3,8 @@
 `encode_message` and `encode_answer` give the one payload of a message or an answer; `decode_message` and
 `decode_answer` read it, and report its first fault. `frame` puts a payload after its length, `Frames` cuts a
 stream into payloads.
+
+Who may use it: every room; `reader` takes `units` alone. What it may use: nothing of the package.
 """
 
 from . import limits

@@ -11,6 +11,7 @@ from .messages import Cause
 from .names import name_fault
 from .reader import Fields, Short
 from .record import Record
+from .units import Commit, Moment
 
 
 class Code(IntEnum):
@@ -65,7 +66,7 @@ class Committed(Record):
 
     __slots__ = ("code", "commit")
 
-    def __init__(self, code: Code, commit: int):
+    def __init__(self, code: Code, commit: Commit):
         self.code = code
         self.commit = commit
 
@@ -161,7 +162,7 @@ class Node(Record):
     code: ClassVar[AnswerCode] = AnswerCode.NODE
     __slots__ = ("kind", "moment", "size")
 
-    def __init__(self, kind: NodeKind, moment: int, size: int):
+    def __init__(self, kind: NodeKind, moment: Moment, size: int):
         self.kind = kind
         self.moment = moment
         self.size = size
@@ -237,7 +238,7 @@ def decode_names(fields: Fields) -> Names:
 def decode_node(fields: Fields) -> Node:
     """What is known of a path."""
     kind, moment, size = fields.unpack(NODE)
-    node = Node(node_kind(kind), moment, size)
+    node = Node(node_kind(kind), Moment(moment), size)
     most = limits.NAMES if node.kind is NodeKind.DIRECTORY else limits.GREATEST_FILE
     if node.moment >= limits.MOMENT or node.size > most:
         raise BadAnswer("a node is past the limits of a volume")
@@ -281,7 +282,7 @@ def decode_answer(payload: bytes) -> Answer:
         code = fields.number(2)
         answer: Answer
         if code <= Code.TOO_MANY:
-            answer = Committed(CODES[code], fields.number(4))
+            answer = Committed(CODES[code], Commit(fields.number(4)))
         elif code in BARE:
             answer = BARE[code]
         elif code in READERS:

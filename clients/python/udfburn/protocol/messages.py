@@ -11,6 +11,7 @@ from . import limits
 from .names import Path, name_fault
 from .reader import Fields, Short
 from .record import Record
+from .units import Moment
 
 
 class Kind(IntEnum):
@@ -55,7 +56,7 @@ class Request(Record):
     kind: ClassVar[Kind]
     __slots__ = ("client", "number", "moment", "path")
 
-    def __init__(self, client: int, number: int, moment: int, path: Path):
+    def __init__(self, client: int, number: int, moment: Moment, path: Path):
         self.client = client
         self.number = number
         self.moment = moment
@@ -67,7 +68,7 @@ class Writing(Request):
 
     __slots__ = ("data",)
 
-    def __init__(self, client: int, number: int, moment: int, path: Path, data: bytes):
+    def __init__(self, client: int, number: int, moment: Moment, path: Path, data: bytes):
         self.client = client
         self.number = number
         self.moment = moment
@@ -95,7 +96,7 @@ class Append(Writing):
     kind = Kind.APPEND
     __slots__ = ("offset",)
 
-    def __init__(self, client: int, number: int, moment: int, path: Path, offset: int, data: bytes):
+    def __init__(self, client: int, number: int, moment: Moment, path: Path, offset: int, data: bytes):
         super().__init__(client, number, moment, path, data)
         self.offset = offset
 
@@ -113,7 +114,7 @@ class Rename(Request):
     kind = Kind.RENAME
     __slots__ = ("to",)
 
-    def __init__(self, client: int, number: int, moment: int, path: Path, to: Path):
+    def __init__(self, client: int, number: int, moment: Moment, path: Path, to: Path):
         super().__init__(client, number, moment, path)
         self.to = to
 

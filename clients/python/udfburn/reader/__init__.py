@@ -12,6 +12,8 @@
 
 It takes what can be read and notes what is not as it must be, so it never refuses a volume for a wrong byte. Where `notes` is
 empty after `Volume.check`, the volume is as docs/FORMAT.md has it.
+
+Who may use it: `image`, and what is above. What it may use: `beneath` of `base`, and `units` of `protocol`.
 """
 
 from .entry import Entry, Extent, Kind

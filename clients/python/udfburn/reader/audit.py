@@ -5,7 +5,8 @@ from __future__ import annotations
 from array import array
 from typing import Dict, Iterator, List, Tuple
 
-from .basics import FIRST_UNIQUE, GREATEST_CAPACITY, NODES, PARTITION, UNUSED, blocks_of, is_label, read_dstring
+from ..protocol.units import Address, BlockNumber, Commit, VirtualAddress
+from .basics import FIRST_UNIQUE, GREATEST_CAPACITY, NODES, PARTITION, UNUSED, address_of, blocks_of, is_label, number_of, read_dstring
 from .budget import Work, room_of
 from .chain import Chain, Link
 from .directory import Known, read_directory
@@ -45,9 +46,9 @@ class Audit:
         self._used = 0
         self._records = b""
         self._is_next = False
-        self._low = PARTITION - 1
+        self._low = Address(PARTITION - 1)
         self._room = room_of(min(chain.volume.medium.blocks, GREATEST_CAPACITY))
-        self._last: Dict[int, int] = {}
+        self._last: Dict[VirtualAddress, BlockNumber] = {}
         self._known = Known(None)
 
     def look(self, place: int) -> None:
@@ -60,7 +61,7 @@ class Audit:
         run = self.volume.data_of(table)
         for at in run.missing:
             self.notes.add(at, Cause.MISSING, "a block of the table cannot be read")
-        data, number = run.data[: table.size], link.address - PARTITION
+        data, number = run.data[: table.size], number_of(link.address)
         head = read_head(data)
         if head is None:
             return
@@ -77,12 +78,12 @@ class Audit:
         if block is None:
             self.notes.add(link.address, Cause.MISSING, "the VAT ICB cannot be read")
             return
-        faults = read_entry(block, link.address - PARTITION)[1]
+        faults = read_entry(block, number_of(link.address))[1]
         self.notes.extend(link.address, faults)
         if faults and is_linked:
             self.notes.add(link.address, Cause.CHAIN, "the table after it leads here, and its entry is not as it must be")
 
-    def _head_faults(self, data: bytes, head: Head, number: int) -> Iterator[Fault]:
+    def _head_faults(self, data: bytes, head: Head, number: BlockNumber) -> Iterator[Fault]:
         agrees = lengths_agree(head, len(data))
         if not agrees or head.reserved:
             yield Fault(Cause.HEADER, "the lengths of the table do not agree, or its reserved field is not zero")
@@ -119,7 +120,7 @@ class Audit:
 
     def _changes(self, link: Link, entries: "array[int]", head: Head) -> None:
         """Compares the entries with those of the table before, and looks at what they lead to anew."""
-        number, said = link.address - PARTITION, len(entries)
+        number, said = number_of(link.address), len(entries)
         used = self._used
         for virtual, old, new in differences(self._entries, entries):
             used += (new != UNUSED) - (old != UNUSED)
@@ -131,14 +132,14 @@ class Audit:
         if head.commits > greatest_at(link.address) or head.next_unique > FIRST_UNIQUE + link.numbers.high:
             self.notes.add(link.start, Cause.COUNTS, f"the commit {head.commits} or the next unique ID is not one of block number {number}")
 
-    def _word(self, link: Link, virtual: int, new: int) -> None:
+    def _word(self, link: Link, virtual: VirtualAddress, new: BlockNumber) -> None:
         """Looks at a word of a table that is not that of the table before."""
         if virtual >= len(self._entries):
             self._entries.extend([UNUSED] * (virtual + 1 - len(self._entries)))
-        old = self._entries[virtual]
+        old = BlockNumber(self._entries[virtual])
         if new == UNUSED and virtual > 1:
             self._last[virtual] = old
-        elif not self._low < new + PARTITION < link.start:
+        elif not self._low < address_of(new) < link.start:
             if self._last.get(virtual) != new:
                 self.notes.add(link.start, Cause.ENTRY, f"virtual address {virtual} leads to block number {new}, which the commit did not write")
                 return
@@ -147,12 +148,12 @@ class Audit:
         self._used += (new != UNUSED) - (old != UNUSED)
         self._entries[virtual] = new
 
-    def _node(self, virtual: int, number: int) -> None:
+    def _node(self, virtual: VirtualAddress, number: BlockNumber) -> None:
         """Looks at the entry of a node, and at the data of a directory."""
-        at = number + PARTITION
+        at = address_of(number)
         self._room -= 1
         if self._room < 0:
-            self.notes.add(0, Cause.COUNTS, Work.NODES.text)
+            self.notes.add(Address(0), Cause.COUNTS, Work.NODES.text)
             return
         block = self.medium.block(at)
         if block is None:
@@ -169,10 +170,10 @@ class Audit:
         self.notes.extend(at, faults)
         if entry is not None and entry.kind is Kind.DIRECTORY and entry.first is not None and self._room >= blocks_of(entry.size):
             self._room -= blocks_of(entry.size)
-            run = self.medium.run(entry.first + PARTITION, blocks_of(entry.size))
+            run = self.medium.run(address_of(entry.first), blocks_of(entry.size))
             for gone in run.missing:
                 self.notes.add(gone, Cause.MISSING, "a block of a directory cannot be read")
-            self.notes.extend(entry.first + PARTITION, read_directory(run.data, entry.size, entry.first, self._known)[1])
+            self.notes.extend(address_of(entry.first), read_directory(run.data, entry.size, entry.first, self._known)[1])
 
 
 def texts(records: bytes, size: int) -> List[bytes]:
@@ -180,7 +181,7 @@ def texts(records: bytes, size: int) -> List[bytes]:
     return [records[at : at + size] for at in range(0, len(records), size)]
 
 
-def is_step(old: List[bytes], new: List[bytes], changed: List[int], commit: int) -> bool:
+def is_step(old: List[bytes], new: List[bytes], changed: List[int], commit: Commit) -> bool:
     """Whether one client more had a reply: its number is the next, and its newest reply is that of this commit."""
     if len(changed) != 1 or len(new) < len(old):
         return False
@@ -193,7 +194,7 @@ def is_step(old: List[bytes], new: List[bytes], changed: List[int], commit: int)
     return before.client == client.client and before.latest + 1 == client.latest and client.replies[1:] == before.replies[:3]
 
 
-def differences(old: "array[int]", new: "array[int]") -> "Iterator[Tuple[int, int, int]]":
+def differences(old: "array[int]", new: "array[int]") -> "Iterator[Tuple[VirtualAddress, BlockNumber, BlockNumber]]":
     """The virtual addresses at which two tables differ, with both words."""
     step = CHUNK // 4
     for begin in range(0, max(len(old), len(new)), step):
@@ -203,6 +204,5 @@ def differences(old: "array[int]", new: "array[int]") -> "Iterator[Tuple[int, in
                 before = left[index] if index < len(left) else UNUSED
                 after = right[index] if index < len(right) else UNUSED
                 if before != after:
-                    yield begin + index, before, after
-
+                    yield VirtualAddress(begin + index), BlockNumber(before), BlockNumber(after)
 

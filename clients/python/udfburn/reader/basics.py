@@ -7,10 +7,12 @@ from binascii import crc_hqx
 from datetime import datetime, timedelta, timezone
 from typing import NamedTuple, Optional, Union
 
+from ..protocol.units import Address, BlockNumber, Moment, Size
+
 BLOCK = 2048
 """The bytes of a block."""
 
-PARTITION = 257
+PARTITION = Address(257)
 """The address of the partition's first block: `number = address - 257`."""
 
 LEAST_CAPACITY, GREATEST_CAPACITY = 512, 450_000
@@ -19,20 +21,20 @@ LEAST_CAPACITY, GREATEST_CAPACITY = 512, 450_000
 NUMBERS = GREATEST_CAPACITY - PARTITION
 """The block numbers of the greatest partition are below this."""
 
-UNUSED = 0xFFFFFFFF
+UNUSED = BlockNumber(0xFFFFFFFF)
 """The table's word for an unused virtual address, and for no table before."""
 
 NODES = 4_096
 DIRECTORY_NAMES = 512
 PATH_NAMES = 16
-FILE_BYTES = 1_048_576
+FILE_BYTES = Size(1_048_576)
 """The bytes of an extent, at most: each of a file but its last has so many."""
 
 EXTENTS = 117
 """The extents of a file, at most."""
 
-GREATEST_FILE = EXTENTS * FILE_BYTES
-INSIDE = 1_872
+GREATEST_FILE = Size(EXTENTS * FILE_BYTES)
+INSIDE = Size(1_872)
 CLIENTS = 64
 FIRST_UNIQUE = 16
 MOMENTS = 4_102_444_800_000_000
@@ -42,7 +44,17 @@ TAG = struct.Struct("<HHBBHHHI")
 EPOCH = datetime(1970, 1, 1, tzinfo=timezone.utc)
 
 
-def blocks_of(size: int) -> int:
+def number_of(address: Address) -> BlockNumber:
+    """The block number of what is at an address."""
+    return BlockNumber(address - PARTITION)
+
+
+def address_of(number: BlockNumber) -> Address:
+    """The address of what has a block number."""
+    return Address(number + PARTITION)
+
+
+def blocks_of(size: Size) -> int:
     """The blocks that so many bytes take."""
     return -(-size // BLOCK)
 
@@ -162,14 +174,14 @@ def is_name(text: Optional[str]) -> bool:
 
 # ---- moments and entities
 
-def write_timestamp(moment: int) -> bytes:
+def write_timestamp(moment: Moment) -> bytes:
     """A moment as a timestamp (ECMA-167 1/7.3)."""
     at = EPOCH + timedelta(microseconds=moment)
     tail = (at.month, at.day, at.hour, at.minute, at.second, at.microsecond // 10_000, at.microsecond // 100 % 100, at.microsecond % 100)
     return struct.pack("<HH8B", 0x1000, at.year, *tail)
 
 
-def read_timestamp(data: bytes) -> Optional[int]:
+def read_timestamp(data: bytes) -> Optional[Moment]:
     """The moment of a timestamp, in microseconds from 1970-01-01 UTC; None where it is that of no moment before 2100."""
     kind, year, month, day, hour, minute, second, centi, hundreds, micro = struct.unpack("<HH8B", data)
     if kind != 0x1000 or not 1970 <= year < 2100 or max(centi, hundreds, micro) > 99:
@@ -178,7 +190,7 @@ def read_timestamp(data: bytes) -> Optional[int]:
         at = datetime(year, month, day, hour, minute, second, centi * 10_000 + hundreds * 100 + micro, timezone.utc)
     except ValueError:
         return None
-    return (at - EPOCH) // timedelta(microseconds=1)
+    return Moment((at - EPOCH) // timedelta(microseconds=1))
 
 
 def entity(identifier: bytes, suffix: bytes = b"") -> bytes:

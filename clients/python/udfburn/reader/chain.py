@@ -6,7 +6,8 @@ from array import array
 from bisect import bisect_left
 from typing import Dict, Iterator, List, Optional, Set, Tuple
 
-from .basics import BLOCK, PARTITION, UNUSED, blocks_of
+from ..protocol.units import Address, BlockNumber, Commit, VirtualAddress
+from .basics import BLOCK, PARTITION, UNUSED, address_of, blocks_of, number_of
 from .entry import Entry, Kind, is_entry_like, read_entry
 from .mend import Hint, mend_entry
 from .notes import Cause
@@ -25,7 +26,7 @@ class Chain:
 
     def __init__(self, volume: Volume, survey: Survey):
         self.volume, self.survey = volume, survey
-        self._entries: "Dict[int, Tuple[array[int], Set[int]]]" = {}
+        self._entries: "Dict[int, Tuple[array[int], Set[VirtualAddress]]]" = {}
         found: List[Link] = []
         link = self._newest()
         while link is not None:
@@ -52,7 +53,7 @@ class Chain:
                 known = newer
         return known
 
-    def _was_written(self, address: int) -> bool:
+    def _was_written(self, address: Address) -> bool:
         """Whether something is there, or cannot be read, where a commit's last block would be, and nothing after it."""
         medium = self.volume.medium
         if address >= medium.blocks:
@@ -60,29 +61,29 @@ class Chain:
         block = medium.block(address)
         return block is None or address == medium.blocks - 1 and any(block)
 
-    def _link(self, address: int) -> Link:
+    def _link(self, address: Address) -> Link:
         """The link of a VAT ICB that is as it must be."""
         table = self.volume.table_at(address)
         if table is not None:
             return self._of(address, table, ())
         block = self.volume.medium.block(address)
-        entry = read_entry(block, address - PARTITION)[0] if block is not None else None
-        is_below = entry is not None and entry.first is not None and entry.end <= address - PARTITION
+        entry = read_entry(block, number_of(address))[0] if block is not None else None
+        is_below = entry is not None and entry.first is not None and entry.end <= number_of(address)
         # A disc ends with copies of its last VAT ICB: what leads to the same data is one table.
         return Link(address, None, None, False, ("its data cannot be used",), first=entry.first if entry is not None and is_below else None)
 
-    def _of(self, address: int, table: Optional[Table], broken: Tuple[str, ...]) -> Link:
+    def _of(self, address: Address, table: Optional[Table], broken: Tuple[str, ...]) -> Link:
         """The link of a table, with the commit that it says twice: as its count, and as that of its newest reply."""
         first = table.first if table is not None else None
         if table is None or table.commit > greatest_at(address):
             return Link(address, table, None, False, broken, first=first)
-        run = self.volume.medium.run(table.first + PARTITION, blocks_of(table.length))
+        run = self.volume.medium.run(address_of(table.first), blocks_of(table.length))
         replies = [reply.commit for client in read_clients(run.data[: table.length], table.version, table.clients) for reply in client.replies]
         return Link(address, table, table.commit if max(replies, default=0) == table.commit else None, False, broken, first=first)
 
-    def _mended(self, address: int) -> Optional[Link]:
+    def _mended(self, address: Address) -> Optional[Link]:
         """The link of a VAT ICB with wrong bytes."""
-        block, number = self.volume.medium.block(address), address - PARTITION
+        block, number = self.volume.medium.block(address), number_of(address)
         entry = mend_entry(block, Hint(number, number, 0, Kind.TABLE), self.volume.budget) if block is not None else None
         if entry is None or entry.kind is not Kind.TABLE or entry.first is None or entry.location != number:
             return None
@@ -91,7 +92,7 @@ class Chain:
         table = self.volume.table_of(address, entry)
         return None if table is None else self._of(address, table, ("its entry has a wrong byte",))
 
-    def _headed(self, start: int, address: Optional[int]) -> Optional[Link]:
+    def _headed(self, start: Address, address: Optional[Address]) -> Optional[Link]:
         """The link of a table whose data begins there and whose entry is lost. The data ends where the entry was."""
         medium = self.volume.medium
         first = medium.run(start, 1)
@@ -101,10 +102,10 @@ class Chain:
         size = used_size(medium.run(start, 12).data, head)
         if size is None or address is not None and start + blocks_of(size) != address:
             return None
-        at, number = start + blocks_of(size), start + blocks_of(size) - PARTITION
+        at = Address(start + blocks_of(size))
         if entries_at(head, size) is None:
             return None
-        table = self.volume.table_of(at, Entry(Kind.TABLE, None, 0, 0, size, start - PARTITION, None, number, 0, False))
+        table = self.volume.table_of(at, Entry(Kind.TABLE, None, 0, 0, size, number_of(start), None, number_of(at), 0, False))
         return None if table is None else self._of(at, table, ("its entry is lost",))
 
     def _before(self, link: Link) -> Tuple[Optional[Link], Link]:
@@ -131,7 +132,7 @@ class Chain:
         """Whether the table below a link is not the one that the link names. A drive may have kept a commit that was written again."""
         return known is not None and known.said is not None and known.said == link.said
 
-    def _is_apart(self, link: Link, lower: Optional[int]) -> bool:
+    def _is_apart(self, link: Link, lower: Optional[Address]) -> bool:
         """Whether what a table says of itself is to be trusted, though what it names as the table before is not there."""
         table = link.table
         if table is None or table.previous is None and table.commit:
@@ -154,30 +155,31 @@ class Chain:
 
     def _misses_last(self, link: Link) -> bool:
         """Whether the entry right before a table's data is of a node for which the table has an earlier one, or none."""
-        at = link.start - 1
+        at = Address(link.start - 1)
         block = self.volume.medium.block(at)
-        entry = mend_entry(block, Hint(at - PARTITION), self.volume.budget) if block is not None and is_entry_like(block) else None
+        entry = mend_entry(block, Hint(number_of(at)), self.volume.budget) if block is not None and is_entry_like(block) else None
         if link.table is None or entry is None or not entry.proved or entry.kind is Kind.TABLE:
             return False
         run = self.volume.data_of(link.table)
         words = read_entries(run.data[: link.table.size], link.table.length)
-        word = words[entry.location] if entry.location < len(words) else UNUSED
-        if word == at - PARTITION or run.missing:
+        virtual = VirtualAddress(entry.location)
+        word = BlockNumber(words[virtual]) if virtual < len(words) else UNUSED
+        if word == number_of(at) or run.missing:
             return False
-        return word == UNUSED or self.survey.last_node(entry.location, word + PARTITION, word + PARTITION + 1) is not None
+        return word == UNUSED or self.survey.last_node(virtual, address_of(word), Address(address_of(word) + 1)) is not None
 
-    def _at(self, address: int) -> Optional[Link]:
+    def _at(self, address: Address) -> Optional[Link]:
         """The link at an address to which a table leads."""
         index = bisect_left(self.survey.tables, address)
         if self.survey.tables[index : index + 1] == [address]:
             return self._link(address)
         return self._mended(address) or self._by_head(address)
 
-    def _by_head(self, address: int) -> Optional[Link]:
+    def _by_head(self, address: Address) -> Optional[Link]:
         head = next(self.survey.heads_below(address), None)
         return self._headed(head, address) if head is not None and head + 12 >= address else None
 
-    def _between(self, link: Link, lower: Optional[int]) -> Optional[Link]:
+    def _between(self, link: Link, lower: Optional[Address]) -> Optional[Link]:
         """The table before a link whose own link is wrong: one with wrong bytes, above the next that has none."""
         low = lower if lower is not None else PARTITION
         for at in reversed(self.survey.hurt[bisect_left(self.survey.hurt, low) : bisect_left(self.survey.hurt, link.start)]):
@@ -215,16 +217,16 @@ class Chain:
 
     # ---- what they say
 
-    def index_of(self, commit: int) -> Optional[int]:
+    def index_of(self, commit: Commit) -> Optional[int]:
         """The place of a commit's link; None where it is not there."""
         return self._places.get(commit)
 
-    def place_of(self, address: int) -> Optional[int]:
+    def place_of(self, address: Address) -> Optional[int]:
         """The place of the first table from a block on; None after the last table."""
         found = bisect_left(self._addresses, address)
         return len(self.links) - 1 - found if found < len(self._addresses) else None
 
-    def commit_of(self, address: int) -> Optional[Span]:
+    def commit_of(self, address: Address) -> Optional[Span]:
         """The commits that may have written a block; None after the last table."""
         place = self.place_of(address)
         if place is None:
@@ -233,15 +235,15 @@ class Chain:
         if link.adjacent or address >= link.start:
             return link.numbers
         older = self.links[place + 1].numbers.low + 1 if place + 1 < len(self.links) else 0
-        return Span(older, link.numbers.high)
+        return Span(Commit(older), link.numbers.high)
 
-    def floor(self, address: int) -> int:
+    def floor(self, address: Address) -> Address:
         """The address after the last structure below an address: data of a file that ends there begins no earlier."""
         place = self.place_of(address)
         older = self.links[place + 1].address if place is not None and place + 1 < len(self.links) else PARTITION - 1
-        return max(older, self.survey.entry_below(address) or 0) + 1
+        return Address(max(older, self.survey.entry_below(address) or 0) + 1)
 
-    def entries(self, index: int) -> "Tuple[array[int], Set[int]]":
+    def entries(self, index: int) -> "Tuple[array[int], Set[VirtualAddress]]":
         """The block numbers of virtual addresses after a commit, and those that were not read but follow from other tables."""
         if index not in self._entries:
             if len(self._entries) >= KEPT:
@@ -252,51 +254,49 @@ class Chain:
             self._entries[index] = (entries, unknown)
         return self._entries[index]
 
-    def _read_entries(self, index: int) -> "Tuple[array[int], Set[int]]":
+    def _read_entries(self, index: int) -> "Tuple[array[int], Set[VirtualAddress]]":
         """What a table itself has, and what cannot be: in blocks that are missing, or not below its entry."""
         link = self.links[index]
         if link.table is None:
             return array("I"), set()
-        number = link.address - PARTITION
+        number = number_of(link.address)
         run = self.volume.data_of(link.table)
         entries = read_entries(run.data[: link.table.size], link.table.length)
-        unknown: Set[int] = set()
+        unknown: Set[VirtualAddress] = set()
         for at in run.missing:
             self.volume.notes.add(at, Cause.MISSING, "a block of the table cannot be read")
             begin = (at - link.start) * BLOCK - link.table.length
-            unknown.update(range(max(begin // 4, 0), min((begin + BLOCK) // 4, len(entries))))
+            unknown.update(map(VirtualAddress, range(max(begin // 4, 0), min((begin + BLOCK) // 4, len(entries)))))
         if entries.count(UNUSED) + sum(1 for entry in entries if entry < number) < len(entries) or UNUSED in entries[:2]:
-            unknown.update(v for v, entry in enumerate(entries) if entry >= number and entry != UNUSED or entry == UNUSED and v < 2)
+            unknown.update(VirtualAddress(v) for v, entry in enumerate(entries) if entry >= number and entry != UNUSED or entry == UNUSED and v < 2)
         return entries, unknown
 
-    def _fill(self, entries: "array[int]", unknown: Set[int], index: int) -> None:
+    def _fill(self, entries: "array[int]", unknown: Set[VirtualAddress], index: int) -> None:
         """Has what is unknown from what was written since the next older table that can be read, and else from that table."""
         link = self.links[index]
         place = next((place for place in range(index + 1, len(self.links)) if self.links[place].table is not None), None)
         older, doubted = self._read_entries(place) if place is not None else (array("I"), set())
-        low = self.links[place].address + 1 if place is not None else PARTITION
+        low = Address(self.links[place].address + 1) if place is not None else PARTITION
         if link.table is None:
-            unknown.update(range(max(len(older), 2)))
-            new = len(unknown)
-            while self.survey.last_node(new, low, link.start) is not None:
-                unknown.add(new)
-                new += 1
+            unknown.update(map(VirtualAddress, range(max(len(older), 2))))
+            while self.survey.last_node(VirtualAddress(len(unknown)), low, link.start) is not None:
+                unknown.add(VirtualAddress(len(unknown)))
             entries.extend([UNUSED] * (len(unknown) - len(entries)))
         for virtual in unknown:
             own = self.survey.last_node(virtual, low, link.start)
             before = older[virtual] if virtual < len(older) and virtual not in doubted else UNUSED
-            entries[virtual] = own - PARTITION if own is not None else before
+            entries[virtual] = number_of(own) if own is not None else before
 
-    def expected(self, virtual: int, index: int) -> Optional[int]:
+    def expected(self, virtual: VirtualAddress, index: int) -> Optional[Address]:
         """The address that a table should have for a virtual address, by the commit's own entries or the table before."""
-        low = self.links[index + 1].address + 1 if index + 1 < len(self.links) else PARTITION
+        low = Address(self.links[index + 1].address + 1) if index + 1 < len(self.links) else PARTITION
         own = self.survey.last_node(virtual, low, self.links[index].start)
         if own is not None:
             return own
         older = self.entries(index + 1)[0] if index + 1 < len(self.links) else array("I")
-        return older[virtual] + PARTITION if virtual < len(older) and older[virtual] != UNUSED else None
+        return address_of(BlockNumber(older[virtual])) if virtual < len(older) and older[virtual] != UNUSED else None
 
-    def is_confirmed(self, virtual: int, address: int, index: int) -> bool:
+    def is_confirmed(self, virtual: VirtualAddress, address: Address, index: int) -> bool:
         """Whether a table's word for a virtual address is that of the table before, or lies in what the commit wrote.
 
         Where the table before is lost, that after it is asked.
@@ -307,11 +307,11 @@ class Chain:
             return True
         return self._says(index + 1, virtual, address) or not is_next and self._says(index - 1, virtual, address)
 
-    def _says(self, index: int, virtual: int, address: int) -> bool:
+    def _says(self, index: int, virtual: VirtualAddress, address: Address) -> bool:
         if not 0 <= index < len(self.links):
             return False
         entries = self.entries(index)[0]
-        return virtual < len(entries) and entries[virtual] + PARTITION == address
+        return virtual < len(entries) and entries[virtual] == number_of(address)
 
 
 def follows(newer: Link, known: Optional[Link]) -> bool:

@@ -5,6 +5,7 @@ from __future__ import annotations
 import struct
 from typing import Dict, Iterator, List, NamedTuple, Optional, Tuple
 
+from ..protocol.units import BlockNumber, Size, VirtualAddress
 from .basics import BLOCK, DEVELOPER, DIRECTORY_NAMES, NODES, crc, expand, is_name, read_tag, spell, tag_faults, write_tag
 from .budget import Budget, Work
 from .mend import mend_identifier
@@ -29,7 +30,7 @@ class Identifier(NamedTuple):
 
     name: str
     is_directory: bool
-    virtual: int
+    virtual: VirtualAddress
     unique: int
     proved: bool
 
@@ -40,7 +41,7 @@ class Directory(NamedTuple):
     `complete` says that each identifier could be read, or was mended.
     """
 
-    parent: Optional[int]
+    parent: Optional[VirtualAddress]
     names: List[Identifier]
     complete: bool
 
@@ -53,7 +54,7 @@ class Piece(NamedTuple):
     version: int
     characteristics: int
     length: int
-    virtual: int
+    virtual: VirtualAddress
     partition: int
     flags: int
     unique: int
@@ -91,7 +92,7 @@ def piece_at(data: bytes, at: int, size: int) -> Optional[Piece]:
     )
 
 
-def read_directory(data: bytes, size: int, first: int, known: Optional[Known] = None) -> Tuple[Directory, Faults]:
+def read_directory(data: bytes, size: Size, first: BlockNumber, known: Optional[Known] = None) -> Tuple[Directory, Faults]:
     """The directory whose data begins at block number `first`, and all that is not as it must be.
 
     `data` has whole blocks. Identifiers with wrong bytes are mended where their CRC leaves one reading; what makes no sense is left
@@ -113,7 +114,7 @@ class Known:
         self.budget, self.bits = budget, BITS
         self.bodies: Dict[bytes, Tuple[Identifier, bytes, int]] = {}
 
-    def run(self, data: bytes, at: int, size: int, first: int, names: Dict[str, Identifier]) -> int:
+    def run(self, data: bytes, at: int, size: Size, first: BlockNumber, names: Dict[str, Identifier]) -> int:
         """Takes the identifiers in a row whose bodies are known and whose tags are as they must be, and gives the place after them."""
         bodies, end_of_block, location, total = self.bodies, -1, b"", 0
         while size - at >= HEAD:
@@ -142,10 +143,10 @@ class Known:
 class Reading:
     """A directory as it is read, identifier by identifier."""
 
-    def __init__(self, data: bytes, size: int, first: int, known: Known):
+    def __init__(self, data: bytes, size: Size, first: BlockNumber, known: Known):
         self.data, self.size, self.first, self.known = data, size, first, known
         self.faults: Faults = []
-        self.parent: Optional[int] = None
+        self.parent: Optional[VirtualAddress] = None
         self.names: Dict[str, Identifier] = {}
         self.complete = True
 
@@ -189,15 +190,15 @@ class Reading:
             self.complete &= is_here
             return self._take(piece, name._replace(proved=is_here))
         end = next_proved(self.data, at + 4, self.size, self.first)
-        whole = None
+        whole, number = None, BlockNumber(self.first + at // BLOCK)
         if end - at <= BLOCK and self.known.budget is not None and self.known.budget.take(Work.IDENTIFIERS):
-            whole = mend_identifier(self.data[at:end], self.first + at // BLOCK, at == 0, False)
+            whole = mend_identifier(self.data[at:end], number, at == 0, False)
             if whole is None and self.known.bits > 0:
                 self.known.bits -= 1
-                whole = mend_identifier(self.data[at:end], self.first + at // BLOCK, at == 0, True)
+                whole = mend_identifier(self.data[at:end], number, at == 0, True)
         mended = piece_at(whole, 0, len(whole)) if whole is not None else None
         if whole is not None and mended is not None:
-            name = said_by(mended, self.first + at // BLOCK)
+            name = said_by(mended, number)
             if name is not None:
                 self._take(mended, name)
                 return end
@@ -216,7 +217,7 @@ class Reading:
         return Directory(self.parent, names, self.complete), self.faults
 
 
-def said_by(piece: Piece, first: int) -> Optional[Identifier]:
+def said_by(piece: Piece, first: BlockNumber) -> Optional[Identifier]:
     """What the identifier says, where it makes sense."""
     tag = read_tag(piece.data)
     whole, here = tag.crc == crc(piece.data[16:]), tag.location == first + piece.at // BLOCK
@@ -231,7 +232,7 @@ def said_by(piece: Piece, first: int) -> Optional[Identifier]:
     return Identifier(text, piece.characteristics == IS_DIRECTORY, piece.virtual, piece.unique, proved)
 
 
-def next_proved(data: bytes, at: int, size: int, first: int) -> int:
+def next_proved(data: bytes, at: int, size: Size, first: BlockNumber) -> int:
     """The next place with an identifier that is whole; the end where there is none."""
     while at < size:
         if data[at : at + 4] == b"\x01\x01\x03\x00":
@@ -242,7 +243,7 @@ def next_proved(data: bytes, at: int, size: int, first: int) -> int:
     return size
 
 
-def piece_faults(data: bytes, size: int, piece: Optional[Piece], at: int, first: int) -> Iterator[Fault]:
+def piece_faults(data: bytes, size: Size, piece: Optional[Piece], at: int, first: BlockNumber) -> Iterator[Fault]:
     """All that is not as it must be with the identifier at a place, in the order in which `udfburn` looks for it."""
     if piece is None:
         crosses = size - at >= HEAD and at + rounded(HEAD + struct.unpack_from("<H", data, at + 36)[0] + data[at + 19]) <= size
@@ -269,7 +270,7 @@ def piece_faults(data: bytes, size: int, piece: Optional[Piece], at: int, first:
         yield Fault(Cause.NAME, f"the identifier at byte {at} has no name")
 
 
-def is_padded(data: bytes, size: int, piece: Piece) -> bool:
+def is_padded(data: bytes, size: Size, piece: Piece) -> bool:
     """Whether the bytes after the name are zeros, and the implementation use lengthens the identifier where it has to be."""
     use = piece.use
     if any(piece.data[HEAD + len(use) + len(piece.name) :]):
@@ -282,7 +283,7 @@ def is_padded(data: bytes, size: int, piece: Piece) -> bool:
     return end % BLOCK == 0 and size - end >= HEAD and not fits(plain_size(data[end + 19]), len(use))
 
 
-def write_identifier(name: str, characteristics: int, virtual: int, unique: int, more: int, number: int) -> bytes:
+def write_identifier(name: str, characteristics: int, virtual: VirtualAddress, unique: int, more: int, number: BlockNumber) -> bytes:
     """An identifier as docs/FORMAT.md has it, lengthened by so many bytes, in the block of this number."""
     spelled = spell(name)
     body = FIELDS.pack(1, characteristics, len(spelled), BLOCK, virtual, 1, 0, unique, more) + DEVELOPER[:more].ljust(more, b"\0") + spelled

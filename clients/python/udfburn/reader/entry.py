@@ -6,6 +6,7 @@ import struct
 from enum import IntEnum
 from typing import Iterator, List, NamedTuple, Optional, Tuple
 
+from ..protocol.units import BlockNumber, Moment, Size
 from .basics import (
     BLOCK, CHARACTERS, DEVELOPER, EXTENTS, FILE_BYTES, GREATEST_FILE, INSIDE, NUMBERS, UDF_SUFFIX, blocks_of, crc, entity, is_label, read_dstring, read_tag,
     read_timestamp, tag_faults, write_dstring, write_tag, write_timestamp,
@@ -32,23 +33,23 @@ KINDS = {int(kind): kind for kind in Kind}
 class Extent(NamedTuple):
     """Bytes in blocks in a row: the number of the first one, and how many bytes they are."""
 
-    first: int
-    size: int
+    first: BlockNumber
+    size: Size
 
     @property
-    def end(self) -> int:
+    def end(self) -> BlockNumber:
         """The number after the last block."""
-        return self.first + blocks_of(self.size)
+        return BlockNumber(self.first + blocks_of(self.size))
 
 
-def extent_count(size: int) -> int:
+def extent_count(size: Size) -> int:
     """The extents that so many bytes are in."""
     return -(-size // FILE_BYTES)
 
 
-def extent_size(size: int, index: int) -> int:
+def extent_size(size: Size, index: int) -> Size:
     """The bytes of an extent of a file of this size."""
-    return min(size - FILE_BYTES * index, FILE_BYTES)
+    return Size(min(size - FILE_BYTES * index, FILE_BYTES))
 
 
 class Entry(NamedTuple):
@@ -61,16 +62,16 @@ class Entry(NamedTuple):
     """
 
     kind: Kind
-    moment: Optional[int]
+    moment: Optional[Moment]
     links: int
     unique: int
-    size: int
-    first: Optional[int]
+    size: Size
+    first: Optional[BlockNumber]
     inside: Optional[bytes]
     location: int
     check: int
     proved: bool
-    others: Tuple[int, ...] = ()
+    others: Tuple[BlockNumber, ...] = ()
 
     @property
     def extents(self) -> Tuple[Extent, ...]:
@@ -81,9 +82,9 @@ class Entry(NamedTuple):
         return tuple(Extent(first, extent_size(self.size, index)) for index, first in enumerate(firsts))
 
     @property
-    def end(self) -> int:
+    def end(self) -> BlockNumber:
         """The number after the last block of the bytes; 0 where no blocks hold them."""
-        return max((extent.end for extent in self.extents), default=0)
+        return max((extent.end for extent in self.extents), default=BlockNumber(0))
 
     @property
     def blocks(self) -> int:
@@ -109,7 +110,7 @@ class Fields(NamedTuple):
     record_format: int
     display: int
     record_length: int
-    size: int
+    size: Size
     blocks: int
     accessed: bytes
     modified: bytes
@@ -162,8 +163,8 @@ def is_exact(entry: Entry, block: bytes, location: int) -> bool:
 def sensible(block: bytes, fields: Fields) -> Optional[Entry]:
     """The entry of these fields, where its size and the place of its bytes make sense."""
     size, inside = fields.size, None
-    first: Optional[int] = None
-    others: Tuple[int, ...] = ()
+    first: Optional[BlockNumber] = None
+    others: Tuple[BlockNumber, ...] = ()
     if size > greatest(KINDS[fields.type]):
         return None
     if fields.flags == EMBEDDED:
@@ -185,12 +186,12 @@ def sensible(block: bytes, fields: Fields) -> Optional[Entry]:
     return Entry(KINDS[fields.type], moment, fields.links, fields.unique, size, first, inside, tag.location, tag.crc, proved, others)
 
 
-def greatest(kind: Kind) -> int:
+def greatest(kind: Kind) -> Size:
     """The bytes of what is of a kind, at most."""
     return GREATEST_FILE if kind is Kind.FILE else FILE_BYTES
 
 
-def firsts_at(block: bytes, size: int) -> Optional[Tuple[int, ...]]:
+def firsts_at(block: bytes, size: Size) -> Optional[Tuple[BlockNumber, ...]]:
     """The numbers of the first blocks of the extents of so many bytes; None where they make no sense. Of one alone, its length is the
     size."""
     count = extent_count(size)
@@ -277,7 +278,7 @@ def write_entry(entry: Entry) -> bytes:
 
 # ---- the file set
 
-def write_file_set(label: str, moment: int) -> bytes:
+def write_file_set(label: str, moment: Moment) -> bytes:
     """The block of the file set descriptor, at virtual address 0."""
     body = b"".join((
         write_timestamp(moment), struct.pack("<HHIIII", 3, 3, 1, 1, 0, 0), CHARACTERS, write_dstring(label, 128), CHARACTERS,
@@ -286,7 +287,7 @@ def write_file_set(label: str, moment: int) -> bytes:
     return (write_tag(FILE_SET, body, 0) + body).ljust(BLOCK, b"\0")
 
 
-def read_file_set(block: bytes) -> Tuple[Optional[str], Optional[int], Faults]:
+def read_file_set(block: bytes) -> Tuple[Optional[str], Optional[Moment], Faults]:
     """The label and the moment of a file set descriptor, each where it can be read, and all that is not as it must be."""
     label, moment = read_dstring(block[304:336]), read_timestamp(block[16:28])
     if not is_label(label):

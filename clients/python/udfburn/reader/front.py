@@ -5,6 +5,7 @@ from __future__ import annotations
 import struct
 from typing import Callable, Dict, Iterator, List, NamedTuple, Optional, Tuple, TypeVar
 
+from ..protocol.units import Address, Moment
 from .basics import (
     BLOCK, CHARACTERS, DEVELOPER, GREATEST_CAPACITY, LEAST_CAPACITY, PARTITION, UDF_SUFFIX, UNUSED, crc, descriptor, entity, is_label,
     read_dstring, read_tag, read_timestamp, write_dstring, write_timestamp,
@@ -12,11 +13,11 @@ from .basics import (
 from .medium import Medium
 from .notes import Cause, Notes
 
-MAIN, RESERVE = 32, 48
+MAIN, RESERVE = Address(32), Address(48)
 """The addresses of the two volume descriptor sequences."""
 
-INTEGRITY = 64
-ANCHOR = 256
+INTEGRITY = Address(64)
+ANCHOR = Address(256)
 
 T = TypeVar("T")
 
@@ -25,11 +26,11 @@ class Front(NamedTuple):
     """What the volume header says; None where neither sequence says it."""
 
     label: Optional[str]
-    moment: Optional[int]
+    moment: Optional[Moment]
     capacity: Optional[int]
 
 
-def primary(label: str, moment: int, location: int) -> bytes:
+def primary(label: str, moment: Moment, location: int) -> bytes:
     """The primary volume descriptor (ECMA-167 3/10.1)."""
     return descriptor(1, b"".join((
         struct.pack("<II", 1, 0), write_dstring(label, 32), struct.pack("<HHHHII", 1, 1, 2, 3, 1, 1),
@@ -62,7 +63,7 @@ def logical(label: str, location: int) -> bytes:
     )), location)
 
 
-def integrity(moment: int, capacity: int) -> bytes:
+def integrity(moment: Moment, capacity: int) -> bytes:
     """The logical volume integrity descriptor (ECMA-167 3/10.10; UDF 2.01 2.2.6)."""
     return descriptor(9, b"".join((
         write_timestamp(moment), bytes(12), struct.pack("<Q", 16), bytes(24),
@@ -70,7 +71,7 @@ def integrity(moment: int, capacity: int) -> bytes:
     )), INTEGRITY)
 
 
-def blocks_of_front(label: str, moment: int, capacity: int) -> Dict[int, bytes]:
+def blocks_of_front(label: str, moment: Moment, capacity: int) -> Dict[int, bytes]:
     """The blocks of a volume header that are not zeros."""
     blocks = {at: (b"\0" + word + b"\1").ljust(BLOCK, b"\0") for at, word in ((16, b"BEA01"), (17, b"NSR03"), (18, b"TEA01"))}
     for at in (MAIN, RESERVE):
@@ -108,7 +109,7 @@ def long_label(start: int) -> Callable[[bytes], Optional[str]]:
     return read
 
 
-def moment_at(start: int) -> Callable[[bytes], Optional[int]]:
+def moment_at(start: int) -> Callable[[bytes], Optional[Moment]]:
     """The moment whose timestamp is at a place."""
     return lambda block: read_timestamp(block[start : start + 12])
 
@@ -121,7 +122,7 @@ def capacity_at(start: int) -> Callable[[bytes], Optional[int]]:
     return read
 
 
-def said_at(medium: Medium, places: List[Tuple[int, int, Callable[[bytes], Optional[T]]]]) -> Optional[T]:
+def said_at(medium: Medium, places: List[Tuple[Address, int, Callable[[bytes], Optional[T]]]]) -> Optional[T]:
     """What the first place says whose descriptor is whole; else the first place that says it at all."""
     loose: List[T] = []
     for at, identifier, read in places:
@@ -138,18 +139,17 @@ def said_at(medium: Medium, places: List[Tuple[int, int, Callable[[bytes], Optio
 def read_front(medium: Medium) -> Front:
     """The label, the moment and the capacity, from the main sequence or the reserve one, or unknown."""
     both = (MAIN, RESERVE)
-    label = said_at(medium, [(at, 1, label_at) for at in both] + [(at + 3, 6, long_label(84)) for at in both] + [(at + 1, 4, long_label(116)) for at in both])
+    label = said_at(medium, [(at, 1, label_at) for at in both] + [(Address(at + 3), 6, long_label(84)) for at in both] + [(Address(at + 1), 4, long_label(116)) for at in both])
     moment = said_at(medium, [(at, 1, moment_at(376)) for at in both] + [(INTEGRITY, 9, moment_at(16))])
-    capacity = said_at(medium, [(at + 2, 5, capacity_at(192)) for at in both] + [(INTEGRITY, 9, capacity_at(88))])
+    capacity = said_at(medium, [(Address(at + 2), 5, capacity_at(192)) for at in both] + [(INTEGRITY, 9, capacity_at(88))])
     return Front(label, moment, capacity)
 
 
 def note_front(medium: Medium, front: Front, notes: Notes) -> None:
     """Notes each block of the volume header that is not as the three values have it. What is unknown is not compared."""
     if front.label is None or front.moment is None or front.capacity is None:
-        notes.add(MAIN if front.capacity is not None else MAIN + 2, Cause.FRONT, "the volume header does not give label, moment and capacity")
-    known = Front(front.label or "?", front.moment or 0, front.capacity or LEAST_CAPACITY)
-    expected = blocks_of_front(known.label or "", known.moment or 0, known.capacity or 0)
+        notes.add(MAIN if front.capacity is not None else Address(MAIN + 2), Cause.FRONT, "the volume header does not give label, moment and capacity")
+    expected = blocks_of_front(front.label or "?", front.moment or Moment(0), front.capacity or LEAST_CAPACITY)
     for at, text in differences(medium, expected, set(unknown_blocks(front))):
         notes.add(at, Cause.MISSING if not text else Cause.FRONT, text or "the block cannot be read")
 
@@ -167,10 +167,10 @@ def unknown_blocks(front: Front) -> Iterator[int]:
         yield INTEGRITY
 
 
-def differences(medium: Medium, expected: Dict[int, bytes], unknown: "set[int]") -> Iterator[Tuple[int, str]]:
+def differences(medium: Medium, expected: Dict[int, bytes], unknown: "set[int]") -> Iterator[Tuple[Address, str]]:
     """The blocks that differ, with the first byte that does; an empty text where a block is missing."""
     zeros = bytes(BLOCK)
-    for at in range(PARTITION):
+    for at in map(Address, range(PARTITION)):
         block = medium.block(at)
         if block is None:
             yield at, ""

@@ -6,7 +6,8 @@ import os
 from bisect import bisect_right
 from typing import Iterator, List, NamedTuple, Optional, Tuple
 
-from ..beneath import open_given, open_medium
+from ..base.beneath import open_given, open_medium
+from ..protocol.units import Address
 from .basics import BLOCK
 
 PIECE = 512
@@ -24,7 +25,7 @@ class Run(NamedTuple):
     """Blocks in a row: their bytes, with zeros where a block is missing, and the addresses of those."""
 
     data: bytes
-    missing: Tuple[int, ...]
+    missing: Tuple[Address, ...]
 
 
 class RescueMap:
@@ -53,7 +54,7 @@ class RescueMap:
             raise MapError(f"{path}: is not a map of ddrescue") from error
         return RescueMap(read)
 
-    def has(self, address: int) -> bool:
+    def has(self, address: Address) -> bool:
         """Whether the whole block was read."""
         start = address * BLOCK
         index = bisect_right(self._starts, start) - 1
@@ -88,7 +89,7 @@ class Medium:
             os.close(self._file)
             raise
         self.blocks = self.size // BLOCK
-        self.missing: "set[int]" = set()
+        self.missing: "set[Address]" = set()
 
     def close(self) -> None:
         """Closes it."""
@@ -100,7 +101,7 @@ class Medium:
     def __exit__(self, *_: object) -> None:
         self.close()
 
-    def block(self, address: int) -> Optional[bytes]:
+    def block(self, address: Address) -> Optional[bytes]:
         """The bytes of a block; None where it is missing or past the end."""
         if not 0 <= address < self.blocks or address in self.missing:
             return None
@@ -111,22 +112,22 @@ class Medium:
             self.missing.add(address)
         return data
 
-    def run(self, address: int, count: int) -> Run:
+    def run(self, address: Address, count: int) -> Run:
         """So many blocks from an address on."""
         if self._map is None and 0 <= address and address + count <= self.blocks:
             data = self._read(address, count)
             if data is not None:
                 return Run(data, ())
-        blocks = [self.block(address + index) for index in range(count)]
-        gone = tuple(address + index for index, block in enumerate(blocks) if block is None)
-        return Run(b"".join(block or bytes(BLOCK) for block in blocks), gone)
+        blocks = [(at, self.block(at)) for at in map(Address, range(address, address + count))]
+        gone = tuple(at for at, block in blocks if block is None)
+        return Run(b"".join(block or bytes(BLOCK) for _, block in blocks), gone)
 
-    def pieces(self, start: int, end: int) -> Iterator[Tuple[int, Run]]:
+    def pieces(self, start: Address, end: Address) -> Iterator[Tuple[Address, Run]]:
         """All blocks from one address to another, in pieces."""
-        for address in range(start, end, PIECE):
+        for address in map(Address, range(start, end, PIECE)):
             yield address, self.run(address, min(PIECE, end - address))
 
-    def _read(self, address: int, count: int) -> Optional[bytes]:
+    def _read(self, address: Address, count: int) -> Optional[bytes]:
         """Whole blocks as the system has them; None where it does not give them all."""
         want = count * BLOCK
         parts: List[bytes] = []

@@ -6,6 +6,7 @@ import struct
 from itertools import product
 from typing import Iterable, Iterator, List, NamedTuple, Optional, Sequence, Tuple, TypeVar
 
+from ..protocol.units import BlockNumber, Size, VirtualAddress
 from .basics import BLOCK, EXTENTS, FILE_BYTES, GREATEST_CAPACITY, INSIDE, NODES, NUMBERS, blocks_of, crc, expand, is_name, read_tag, read_timestamp, write_tag
 from .budget import Budget, Work
 from .entry import EMBEDDED, END, EXTENT, KINDS, LAYOUT, LONG, PERMISSIONS, Entry, Fields, Kind, extent_count, extent_size, read_entry, write_entry
@@ -16,7 +17,7 @@ T = TypeVar("T")
 class Hint(NamedTuple):
     """What is known of an entry from elsewhere: the block number at which it is, and what a table and a directory say."""
 
-    number: int
+    number: BlockNumber
     location: Optional[int] = None
     unique: Optional[int] = None
     kind: Optional[Kind] = None
@@ -78,22 +79,24 @@ def candidates(block: bytes, hint: Hint, location: int) -> Iterator[Entry]:
                 yield Entry(kind, moment, 1, unique, size, firsts[0], None, location, read_tag(block).crc, True, firsts[1:])
 
 
-def places(block: bytes, fields: Fields, hint: Hint, extent: int, first: int) -> Iterator[Tuple[int, Optional[int], Optional[bytes]]]:
+def places(
+    block: bytes, fields: Fields, hint: Hint, extent: int, first: BlockNumber,
+) -> Iterator[Tuple[Size, Optional[BlockNumber], Optional[bytes]]]:
     """The sizes, and the places of the bytes, that an entry may say. Data ends where its entry is."""
     if fields.flags != LONG or fields.blocks == 0:
-        for size in unlike((fields.size, fields.allocation_length)):
+        for size in unlike((fields.size, Size(fields.allocation_length))):
             if 0 < size <= INSIDE:
                 yield size, None, block[END : END + size]
     if fields.flags != EMBEDDED or fields.blocks:
         if fields.size == 0 or fields.allocation_length == 0:
-            yield 0, None, None
-        for size in unlike((fields.size, extent % 2**30, fields.blocks * BLOCK)):
-            for place in unlike((first, hint.number - blocks_of(size))):
+            yield Size(0), None, None
+        for size in unlike((fields.size, Size(extent % 2**30), Size(fields.blocks * BLOCK))):
+            for place in unlike((first, BlockNumber(hint.number - blocks_of(size)))):
                 if 0 < size <= FILE_BYTES and 0 <= place <= NUMBERS - blocks_of(size):
                     yield size, place, None
 
 
-def lists(block: bytes, fields: Fields) -> Iterator[Tuple[int, Tuple[int, ...]]]:
+def lists(block: bytes, fields: Fields) -> Iterator[Tuple[Size, Tuple[BlockNumber, ...]]]:
     """The sizes and the first blocks of several extents that a file's entry may say."""
     for count in unlike((extent_count(fields.size), fields.allocation_length // EXTENT.size)):
         if not 1 < count <= EXTENTS:
@@ -117,13 +120,13 @@ class Words(NamedTuple):
     """The fields of an identifier, which its bytes spell."""
 
     characteristics: int
-    virtual: int
+    virtual: VirtualAddress
     unique: int
     use: int
     name: bytes
 
 
-def mend_identifier(data: bytes, number: int, is_first: bool, tries_bits: bool) -> Optional[bytes]:
+def mend_identifier(data: bytes, number: BlockNumber, is_first: bool, tries_bits: bool) -> Optional[bytes]:
     """The identifier that these bytes were written as, in the block of this number; None where no one reading is left.
 
     First what always says the same is restored, then each bit is tried, where that is asked for.
@@ -138,11 +141,11 @@ def mend_identifier(data: bytes, number: int, is_first: bool, tries_bits: bool) 
 
 
 def is_check_alone(data: bytes, text: bytes) -> bool:
-    """Whether the CRC alone is wrong, by the checksum of the tag."""
-    return data[16:] == text[16:] and data[:8] + data[10:16] == text[:8] + text[10:16]
+    """Whether the CRC alone is wrong, by the checksum of the tag: with the CRC that is there it is not right."""
+    return not read_tag(data).agrees and data[16:] == text[16:] and data[:8] + data[10:16] == text[:8] + text[10:16]
 
 
-def restored(data: bytes, number: int, is_first: bool) -> Iterator[bytes]:
+def restored(data: bytes, number: BlockNumber, is_first: bool) -> Iterator[bytes]:
     """The identifiers of so many bytes that agree with the fields, where all else is as it always is."""
     characteristics, length = data[18], data[19]
     virtual, = struct.unpack_from("<I", data, 24)
@@ -160,7 +163,7 @@ def restored(data: bytes, number: int, is_first: bool) -> Iterator[bytes]:
                 yield spelled(Words(kind, virtual, unique, more, name), number)
 
 
-def flipped(data: bytes, number: int) -> Iterator[bytes]:
+def flipped(data: bytes, number: BlockNumber) -> Iterator[bytes]:
     """The identifiers that differ in one bit of the fields or the name."""
     for at, bit in product((*range(16, 38), *range(max(38, len(data) - 258), len(data))), range(8)):
         changed = bytearray(data)
@@ -168,14 +171,14 @@ def flipped(data: bytes, number: int) -> Iterator[bytes]:
         yield from restored(bytes(changed), number, changed[18] == 10)
 
 
-def with_other_bytes(data: bytes, number: int) -> Iterator[bytes]:
+def with_other_bytes(data: bytes, number: BlockNumber) -> Iterator[bytes]:
     """The identifiers that differ in one byte of the virtual address or the unique ID."""
     for at in (*range(24, 28), *range(32, 36)):
         for byte in range(256):
             yield from restored(data[:at] + bytes([byte]) + data[at + 1 :], number, data[18] == 10)
 
 
-def spelled(words: Words, number: int) -> bytes:
+def spelled(words: Words, number: BlockNumber) -> bytes:
     """The bytes of an identifier."""
     use = (b"\0*udfburn" + bytes(23))[: words.use].ljust(words.use, b"\0")
     body = struct.pack("<HBBIIHHIH", 1, words.characteristics, len(words.name), BLOCK, words.virtual, 1, 0, words.unique, words.use) + use + words.name

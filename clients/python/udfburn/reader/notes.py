@@ -5,6 +5,8 @@ from __future__ import annotations
 from enum import IntEnum
 from typing import List, NamedTuple, Tuple
 
+from ..protocol.units import Address
+
 
 class Cause(IntEnum):
     """Why a structure is not as docs/FORMAT.md has it. The numbers are those of `67 Damaged block B cause C`."""
@@ -55,7 +57,7 @@ Faults = List[Fault]
 class Note(NamedTuple):
     """What is wrong on a medium. `block` is the address of the structure's first block."""
 
-    block: int
+    block: Address
     cause: Cause
     text: str
 
@@ -71,19 +73,19 @@ class Notes:
     """Notes in the order in which they were met, each once."""
 
     def __init__(self) -> None:
-        self._seen: "dict[Tuple[int, int, str], Note]" = {}
+        self._seen: "dict[Tuple[Address, int, str], Note]" = {}
         self._characters = 0
 
-    def add(self, block: int, cause: Cause, text: str) -> None:
+    def add(self, block: Address, cause: Cause, text: str) -> None:
         """Adds one. Where there are too many, the last one says so."""
         if len(self._seen) >= MOST or self._characters > CHARACTERS:
-            block, cause, text = 0, Cause.COUNTS, "more than this is not as it must be, and is not named"
+            block, cause, text = Address(0), Cause.COUNTS, "more than this is not as it must be, and is not named"
         key = (block, int(cause), text)
         if key not in self._seen:
             self._seen[key] = Note(block, cause, text)
             self._characters += len(text)
 
-    def extend(self, block: int, faults: Faults) -> None:
+    def extend(self, block: Address, faults: Faults) -> None:
         """Adds the faults of a structure whose first block is at this address."""
         for cause, text in faults:
             self.add(block, cause, text)

@@ -5,18 +5,19 @@ from __future__ import annotations
 from collections import Counter
 from typing import Dict, List, NamedTuple, Optional, Tuple
 
-from .basics import PARTITION
+from ..protocol.units import Address, BlockNumber, Commit
+from .basics import address_of
 from .table import Table
 
 
 class Span(NamedTuple):
     """The commits that something may be of: the least and the greatest. Where these are one, it is known."""
 
-    low: int
-    high: int
+    low: Commit
+    high: Commit
 
     @property
-    def commit(self) -> Optional[int]:
+    def commit(self) -> Optional[Commit]:
         """The commit; None where there may be several."""
         return self.low if self.low == self.high else None
 
@@ -32,30 +33,30 @@ class Link(NamedTuple):
     that no commit is between the two. `broken` is what is wrong with it.
     """
 
-    address: int
+    address: Address
     table: Optional[Table]
-    said: Optional[int] = None
+    said: Optional[Commit] = None
     follows: bool = False
     broken: Tuple[str, ...] = ()
-    numbers: Span = Span(0, 0)
+    numbers: Span = Span(Commit(0), Commit(0))
     adjacent: bool = False
-    first: Optional[int] = None
+    first: Optional[BlockNumber] = None
     """The number of the first block of its data, as its VAT ICB has it."""
 
     @property
-    def start(self) -> int:
+    def start(self) -> Address:
         """The address of the first block of its data, or of its entry where that is not known."""
-        return self.first + PARTITION if self.first is not None else self.address
+        return address_of(self.first) if self.first is not None else self.address
 
     @property
-    def commit(self) -> Optional[int]:
+    def commit(self) -> Optional[Commit]:
         """Its commit; None where that is not known."""
         return self.numbers.commit
 
 
-def greatest_at(address: int) -> int:
+def greatest_at(address: Address) -> Commit:
     """The greatest commit whose VAT ICB can have an address: the format takes 262 blocks, and each commit two or more."""
-    return max((address - 261) // 2, 0)
+    return Commit(max((address - 261) // 2, 0))
 
 
 class Row(NamedTuple):
@@ -64,7 +65,7 @@ class Row(NamedTuple):
 
     begin: int
     end: int
-    newest: int
+    newest: Commit
     votes: int
 
 
@@ -87,12 +88,12 @@ def rows_of(links: List[Link]) -> List[Row]:
         if said and (len(said) == 1 or said[0][1] > said[1][1]):
             newest, votes = said[0]
             if all(0 <= newest - index <= greatest_at(links[begin + index].address) for index in range(end - begin)):
-                rows.append(Row(begin, end, newest, votes))
+                rows.append(Row(begin, end, Commit(newest), votes))
         begin = end
     return rows
 
 
-def numbered(rows: List[Row]) -> Dict[int, int]:
+def numbered(rows: List[Row]) -> Dict[int, Commit]:
     """The commits of the links in rows. Commits go up with addresses: of two rows that do not, that counts which more tables say."""
     kept: List[Row] = []
     for row in rows:
@@ -104,17 +105,17 @@ def numbered(rows: List[Row]) -> Dict[int, int]:
             kept.pop()
         if not dropped:
             kept.append(row)
-    return {index: row.newest - (index - row.begin) for row in kept for index in range(row.begin, row.end)}
+    return {index: Commit(row.newest - (index - row.begin)) for row in kept for index in range(row.begin, row.end)}
 
 
-def oldest_of(row: Row) -> int:
+def oldest_of(row: Row) -> Commit:
     """The commit of the oldest link of a row."""
-    return row.newest - (row.end - row.begin - 1)
+    return Commit(row.newest - (row.end - row.begin - 1))
 
 
-def limits(links: List[Link], known: Dict[int, int]) -> List[Span]:
+def limits(links: List[Link], known: Dict[int, Commit]) -> List[Span]:
     """What each link may be, between those that are known."""
-    spans = [Span(0, 0)] * len(links)
+    spans = [Span(Commit(0), Commit(0))] * len(links)
     high, begin = greatest_at(links[0].address) if links else 0, 0
     for end in range(len(links) + 1):
         if end < len(links) and end not in known:
@@ -122,7 +123,7 @@ def limits(links: List[Link], known: Dict[int, int]) -> List[Span]:
         low = known[end] if end < len(links) else -1
         spans[begin:end] = between(low, high, links[begin:end])
         if end < len(links):
-            spans[end], high = Span(low, low), low - 1
+            spans[end], high = Span(known[end], known[end]), low - 1
         begin = end + 1
     return spans
 
@@ -132,8 +133,8 @@ def between(low: int, high: int, links: List[Link]) -> List[Span]:
     are more of them than commits."""
     count = len(links)
     if high - low < count:
-        return [Span(max(low, 0), max(low, high + 1, 0))] * count
-    return [Span(low + count - index, min(high - index, greatest_at(link.address))) for index, link in enumerate(links)]
+        return [Span(Commit(max(low, 0)), Commit(max(low, high + 1, 0)))] * count
+    return [Span(Commit(low + count - index), Commit(min(high - index, greatest_at(link.address)))) for index, link in enumerate(links)]
 
 
 def is_adjacent(links: List[Link], spans: List[Span], index: int) -> bool:

@@ -6,7 +6,8 @@ from array import array
 from bisect import bisect_left
 from typing import Dict, Iterator, List, Optional
 
-from .basics import BLOCK, GREATEST_CAPACITY, PARTITION
+from ..protocol.units import Address, VirtualAddress
+from .basics import BLOCK, GREATEST_CAPACITY, PARTITION, number_of
 from .entry import Kind
 from .medium import Run
 from .mend import Hint, mend_entry
@@ -30,62 +31,62 @@ class Survey:
     def __init__(self, volume: Volume):
         self.medium = medium = volume.medium
         self._budget = volume.budget
-        self.tables: List[int] = []
-        self.hurt: List[int] = []
-        self.heads: List[int] = []
-        self.missing: List[int] = []
+        self.tables: List[Address] = []
+        self.hurt: List[Address] = []
+        self.heads: List[Address] = []
+        self.missing: List[Address] = []
         self._nodes: "Dict[int, array[int]]" = {}
         self._entries: "array[int]" = array("I")
-        for at, run in medium.pieces(PARTITION, min(medium.blocks, GREATEST_CAPACITY)):
+        for at, run in medium.pieces(PARTITION, Address(min(medium.blocks, GREATEST_CAPACITY))):
             self._look(at, run)
 
-    def _look(self, start: int, run: Run) -> None:
+    def _look(self, start: Address, run: Run) -> None:
         data = run.data
         self.missing += run.missing
         for offset in range(0, len(data), BLOCK):
             if data[offset : offset + 4] == ENTRY or data[offset + 16 : offset + 27] == ICB_TAG:
-                self._entry(start + offset // BLOCK, data[offset : offset + BLOCK])
+                self._entry(Address(start + offset // BLOCK), data[offset : offset + BLOCK])
             elif data[offset + HEAD_AT : offset + HEAD_AT + 32] == SESSIONS:
-                self.heads.append(start + offset // BLOCK)
+                self.heads.append(Address(start + offset // BLOCK))
 
-    def _entry(self, at: int, block: bytes) -> None:
-        if block[27] == TABLE_TYPE and is_table_entry(block, at - PARTITION):
+    def _entry(self, at: Address, block: bytes) -> None:
+        if block[27] == TABLE_TYPE and is_table_entry(block, at):
             self.tables.append(at)
             return
-        entry = mend_entry(block, Hint(at - PARTITION), self._budget)
+        entry = mend_entry(block, Hint(number_of(at)), self._budget)
         if entry is None or not entry.proved or entry.kind is Kind.TABLE:
             self.hurt.append(at)
         else:
             self._nodes.setdefault(entry.location, array("I")).append(at)
 
-    def nodes(self, location: int, below: int) -> Iterator[int]:
+    def nodes(self, virtual: VirtualAddress, below: Address) -> Iterator[Address]:
         """The addresses of nodes' entries for a virtual address, below an address, the last one first."""
-        known = self._nodes.get(location, array("I"))
+        known = self._nodes.get(virtual, array("I"))
         for index in range(bisect_left(known, below) - 1, -1, -1):
-            yield known[index]
+            yield Address(known[index])
 
-    def entry_below(self, address: int) -> Optional[int]:
+    def entry_below(self, address: Address) -> Optional[Address]:
         """The last entry of a node or a table below an address."""
         if not self._entries:
-            self._entries = array("I", sorted([at for known in self._nodes.values() for at in known] + self.tables))
+            self._entries = array("I", sorted([at for known in self._nodes.values() for at in known] + list(self.tables)))
         index = bisect_left(self._entries, address)
-        return self._entries[index - 1] if index else None
+        return Address(self._entries[index - 1]) if index else None
 
-    def nodes_after(self, address: int) -> List[int]:
+    def nodes_after(self, address: Address) -> List[Address]:
         """The addresses of nodes' entries after an address."""
-        return sorted(at for known in self._nodes.values() for at in known[bisect_left(known, address) :])
+        return sorted(Address(at) for known in self._nodes.values() for at in known[bisect_left(known, address) :])
 
-    def last_node(self, location: int, low: int, high: int) -> Optional[int]:
+    def last_node(self, virtual: VirtualAddress, low: Address, high: Address) -> Optional[Address]:
         """The last entry for a virtual address from one address on and below another."""
-        at = next(self.nodes(location, high), None)
+        at = next(self.nodes(virtual, high), None)
         return at if at is not None and at >= low else None
 
-    def heads_below(self, address: int) -> Iterator[int]:
+    def heads_below(self, address: Address) -> Iterator[Address]:
         """Tables' heads below an address, the last one first."""
         for index in range(bisect_left(self.heads, address) - 1, -1, -1):
             yield self.heads[index]
 
-    def table_below(self, address: int) -> Optional[int]:
+    def table_below(self, address: Address) -> Optional[Address]:
         """The last VAT ICB below an address that is as it must be."""
         index = bisect_left(self.tables, address)
         return self.tables[index - 1] if index else None

@@ -7,7 +7,8 @@ import sys
 from array import array
 from typing import Iterator, List, NamedTuple, Optional, Tuple
 
-from .basics import BLOCK, CLIENTS, FIRST_UNIQUE, NODES, PARTITION, UNUSED, entity, is_label, read_dstring
+from ..protocol.units import Address, BlockNumber, Commit, Moment, Size
+from .basics import BLOCK, CLIENTS, FIRST_UNIQUE, NODES, UNUSED, address_of, entity, is_label, read_dstring
 from .notes import Cause, Fault
 
 SESSIONS = entity(b"*udfburn sessions")
@@ -24,7 +25,7 @@ class Reply(NamedTuple):
     """A reply that is kept: its code, and the number of its commit."""
 
     code: int
-    commit: int
+    commit: Commit
 
 
 class Client(NamedTuple):
@@ -38,10 +39,10 @@ class Client(NamedTuple):
 class Head(NamedTuple):
     """The head of a table's data, as it is."""
 
-    length: int
+    length: Size
     use_length: int
     label: bytes
-    previous: int
+    previous: BlockNumber
     files: int
     directories: int
     read_revision: int
@@ -52,7 +53,7 @@ class Head(NamedTuple):
     version: int
     clients: int
     next_unique: int
-    commits: int
+    commits: Commit
 
 
 class Table(NamedTuple):
@@ -63,10 +64,10 @@ class Table(NamedTuple):
     `length` those of its head with the clients' records. Counts are those that the table says, the root counted as a directory.
     """
 
-    commit: int
-    address: int
-    previous: Optional[int]
-    moment: Optional[int]
+    commit: Commit
+    address: Address
+    previous: Optional[Address]
+    moment: Optional[Moment]
     check: int
     label: Optional[str]
     files: int
@@ -74,9 +75,9 @@ class Table(NamedTuple):
     next_unique: int
     clients: int
     version: int
-    first: int
-    size: int
-    length: int
+    first: BlockNumber
+    size: Size
+    length: Size
 
 
 def read_head(data: bytes) -> Optional[Head]:
@@ -84,7 +85,7 @@ def read_head(data: bytes) -> Optional[Head]:
     return Head(*LAYOUT.unpack_from(data)) if len(data) >= HEAD else None
 
 
-def is_sensible(head: Head, size: int, number: int) -> bool:
+def is_sensible(head: Head, size: Size, number: BlockNumber) -> bool:
     """Whether a table with this head, of so many bytes, whose entry has this block number, can be used.
 
     The identifier of the sessions or the two lengths have to be as they must be, so that the entries are found.
@@ -99,13 +100,13 @@ def lengths_agree(head: Head, size: int) -> bool:
     return head.length == 152 + head.use_length == HEAD + record * head.clients and head.length <= size and (size - head.length) % 4 == 0
 
 
-def entries_at(head: Head, size: int) -> Optional[int]:
+def entries_at(head: Head, size: int) -> Optional[Size]:
     """Where the entries begin: by two of the three that say it, where they agree; None where no two do."""
     record = RECORD_SIZES.get(head.version, RECORD_SIZES[2])
     said = (head.length, 152 + head.use_length, HEAD + record * head.clients)
     for at in said:
         if said.count(at) >= 2 and HEAD <= at <= size - 8 and (size - at) % 4 == 0:
-            return at
+            return Size(at)
     return None
 
 
@@ -129,7 +130,7 @@ def read_entries(data: bytes, at: int) -> "array[int]":
     return entries
 
 
-def table_faults(data: bytes, number: int) -> Iterator[Fault]:
+def table_faults(data: bytes, number: BlockNumber) -> Iterator[Fault]:
     """All that is not as it must be with the data of a table, in the order in which `udfburn` looks for it.
 
     `number` is the block number of the VAT ICB.
@@ -172,13 +173,13 @@ def client_faults(data: bytes, head: Head) -> Iterator[Fault]:
         yield Fault(Cause.CLIENT_TWICE, "a client has two records")
 
 
-def is_kept(client: Client, commits: int) -> bool:
+def is_kept(client: Client, commits: Commit) -> bool:
     """Whether a client can have this record after so many commits."""
     limit = commits
     for reply in client.replies:
         if reply.code > 10 or not 0 < reply.commit <= limit:
             return False
-        limit = reply.commit - 1
+        limit = Commit(reply.commit - 1)
     return client.client > 0 and client.latest > 0 and 0 < len(client.replies) <= client.latest
 
 
@@ -188,7 +189,7 @@ def write_client(client: Client, size: int) -> bytes:
     return (struct.pack("<QQ", client.client, client.latest) + replies).ljust(size, b"\0")
 
 
-def entries_faults(entries: "array[int]", head: Head, number: int) -> Iterator[Fault]:
+def entries_faults(entries: "array[int]", head: Head, number: BlockNumber) -> Iterator[Fault]:
     """What is wrong with the entries of virtual addresses."""
     used = [entry for entry in entries if entry != UNUSED]
     if used and max(used) >= number or UNUSED in entries[:2]:
@@ -199,12 +200,12 @@ def entries_faults(entries: "array[int]", head: Head, number: int) -> Iterator[F
         yield Fault(Cause.COUNT, f"{len(used)} virtual addresses are used, and the table counts {head.files} files and {head.directories} directories")
 
 
-def previous_of(head: Head, number: int) -> Optional[int]:
+def previous_of(head: Head, number: BlockNumber) -> Optional[Address]:
     """The address of the entry of the table before; None in the first, and where it makes no sense."""
-    return head.previous + PARTITION if head.previous < number else None
+    return address_of(head.previous) if head.previous < number else None
 
 
-def used_size(data: bytes, head: Head) -> Optional[int]:
+def used_size(data: bytes, head: Head) -> Optional[Size]:
     """The bytes of a table by its data alone: no virtual address but the file set's can have block number 0, and the last is 4 bytes."""
     at = entries_at(head, len(data))
     if at is None:
@@ -214,6 +215,6 @@ def used_size(data: bytes, head: Head) -> Optional[int]:
     used = 0
     for index, entry in enumerate(entries[: NODES + 1]):
         if index > 0 and (entry == 0 or used == wanted and (at + 4 * index) % BLOCK == 0):
-            return at + 4 * index if used == wanted else None
+            return Size(at + 4 * index) if used == wanted else None
         used += entry != UNUSED
-    return at + 4 * min(len(entries), NODES + 1) if used == wanted else None
+    return Size(at + 4 * min(len(entries), NODES + 1)) if used == wanted else None

@@ -4,7 +4,8 @@ from __future__ import annotations
 
 from typing import Dict, Iterator, List, NamedTuple, Optional, Set, Tuple
 
-from .basics import BLOCK, FIRST_UNIQUE, GREATEST_CAPACITY, PARTITION, PATH_NAMES, UNUSED, blocks_of, read_dstring
+from ..protocol.units import Address, BlockNumber, Commit, Moment, Size, VirtualAddress
+from .basics import BLOCK, FIRST_UNIQUE, GREATEST_CAPACITY, PARTITION, PATH_NAMES, UNUSED, address_of, blocks_of, number_of, read_dstring
 from .budget import TABLE_BYTES, Budget, Work, room_of
 from .directory import Directory, Identifier, Known, read_directory
 from .entry import Entry, Extent, Kind, is_entry_like, read_entry, read_file_set
@@ -16,7 +17,7 @@ from .table import Client, Table, entries_at, is_sensible, previous_of, read_cli
 Path = Tuple[str, ...]
 """The names from the root on. The root has none."""
 
-ROOT = 1
+ROOT = VirtualAddress(1)
 """The root's virtual address."""
 
 
@@ -36,14 +37,14 @@ class Node(NamedTuple):
     path: Path
     kind: Kind
     unique: int
-    virtual: int
-    address: int
-    moment: Optional[int]
-    size: int
-    data: Optional[int]
+    virtual: VirtualAddress
+    address: Address
+    moment: Optional[Moment]
+    size: Size
+    data: Optional[Address]
     blocks: int
     links: int
-    above: int
+    above: VirtualAddress
     """The virtual address of the directory above; the root's own."""
     check: int
     """The CRC in its entry's tag."""
@@ -77,7 +78,7 @@ class Volume:
             raise NoVolume(f"{self.medium.path}: there is no VAT ICB")
         return self._chain
 
-    def table(self, commit: Optional[int] = None) -> Table:
+    def table(self, commit: Optional[Commit] = None) -> Table:
         """The table of a commit, or the newest; NoVolume where the chain has none of it."""
         chain = self.chain()
         if commit is None:
@@ -87,25 +88,25 @@ class Volume:
                 return table
         raise NoVolume(f"{self.medium.path}: the chain has commits {chain[-1].commit} to {chain[0].commit}, and not {commit}")
 
-    def last_entry(self) -> Optional[int]:
+    def last_entry(self) -> Optional[Address]:
         """The address of the last VAT ICB that is as it must be."""
         # A device may be larger than any volume.
         end = min(self.medium.blocks, GREATEST_CAPACITY)
         for start in range((end - 1) // 512 * 512, -1, -512):
-            run = self.medium.run(start, min(512, end - start))
+            run = self.medium.run(Address(start), min(512, end - start))
             for index in range(len(run.data) // BLOCK - 1, -1, -1):
-                at = start + index
-                if at >= PARTITION and is_table_entry(run.data[index * BLOCK : (index + 1) * BLOCK], at - PARTITION):
+                at = Address(start + index)
+                if at >= PARTITION and is_table_entry(run.data[index * BLOCK : (index + 1) * BLOCK], at):
                     return at
         return None
 
-    def table_at(self, address: int) -> Optional[Table]:
+    def table_at(self, address: Address) -> Optional[Table]:
         """The table whose entry is at an address; None where there is none that can be used. What is wrong is noted."""
         block = self.medium.block(address)
         if block is None:
             self.notes.add(address, Cause.MISSING, "the VAT ICB cannot be read")
             return None
-        number = address - PARTITION
+        number = number_of(address)
         entry, faults = read_entry(block, number)
         self.notes.extend(address, faults)
         if entry is None or entry.kind is not Kind.TABLE or entry.first is None:
@@ -116,11 +117,11 @@ class Volume:
             return None
         return self.table_of(address, entry)
 
-    def table_of(self, address: int, entry: Entry) -> Optional[Table]:
+    def table_of(self, address: Address, entry: Entry) -> Optional[Table]:
         """The table of an entry; None where its head cannot be used, which is noted."""
         if entry.first is None:
             raise ValueError("the entry has no extent")
-        start, number = entry.first + PARTITION, address - PARTITION
+        start, number = address_of(entry.first), number_of(address)
         if entry.size > TABLE_BYTES:
             self.notes.add(start, Cause.COUNT, f"a table of {entry.size} bytes has more clients or virtual addresses than a volume can have")
             return None
@@ -157,7 +158,7 @@ class Volume:
 
     def data_of(self, table: Table) -> Run:
         """The data of a table, in whole blocks."""
-        return self.medium.run(table.first + PARTITION, blocks_of(table.size))
+        return self.medium.run(address_of(table.first), blocks_of(table.size))
 
     def clients(self, table: Table) -> List[Client]:
         """The records of clients that a table has, in order of their first commits."""
@@ -165,7 +166,7 @@ class Volume:
 
     # ---- states
 
-    def state(self, commit: Optional[int] = None) -> "State":
+    def state(self, commit: Optional[Commit] = None) -> "State":
         """The state after a commit, or the newest; NoVolume where the chain has none of it."""
         return State(self, self.table(commit))
 
@@ -182,7 +183,7 @@ class Volume:
         if node.data is None:
             yield self.read(node)
         for extent in node.extents:
-            run = self.medium.run(extent.first + PARTITION, blocks_of(extent.size))
+            run = self.medium.run(address_of(extent.first), blocks_of(extent.size))
             yield Run(run.data[: extent.size], run.missing)
 
     def check(self) -> Notes:
@@ -194,34 +195,38 @@ class Volume:
         return self.notes
 
 
-def is_table_entry(block: bytes, number: int) -> bool:
-    """Whether the block is a VAT ICB at this block number, by its whole descriptor."""
+def is_table_entry(block: bytes, address: Address) -> bool:
+    """Whether the block is a VAT ICB at this address, by its whole descriptor."""
     if not is_entry_like(block) or block[27] != Kind.TABLE:
         return False
-    entry, faults = read_entry(block, number)
+    entry, faults = read_entry(block, number_of(address))
     return entry is not None and not faults
 
 
+EntryKey = Tuple[Address, VirtualAddress]
+DirectoryKey = Tuple[Address, Size]
+
+
 class Seen:
-    """What was read already: entries by their addresses and locations, and directories by their data."""
+    """What was read already: entries by their addresses and virtual addresses, and directories by their data."""
 
     def __init__(self) -> None:
-        self.entries: Dict[Tuple[int, int], Optional[Entry]] = {}
-        self.directories: Dict[Tuple[int, int], Optional[Directory]] = {}
-        self._before: Tuple[Dict[Tuple[int, int], Optional[Entry]], Dict[Tuple[int, int], Optional[Directory]]] = ({}, {})
+        self.entries: Dict[EntryKey, Optional[Entry]] = {}
+        self.directories: Dict[DirectoryKey, Optional[Directory]] = {}
+        self._before: Tuple[Dict[EntryKey, Optional[Entry]], Dict[DirectoryKey, Optional[Directory]]] = ({}, {})
 
     def begin(self) -> None:
         """Begins with another state: keeps what the last one had, and lets the one before it go."""
         self._before = (self.entries, self.directories)
         self.entries, self.directories = {}, {}
 
-    def entry(self, key: Tuple[int, int]) -> Tuple[bool, Optional[Entry]]:
+    def entry(self, key: EntryKey) -> Tuple[bool, Optional[Entry]]:
         """Whether an entry was read in the last state, and what it said."""
         if key in self._before[0]:
             self.entries[key] = self._before[0][key]
         return key in self.entries, self.entries.get(key)
 
-    def directory(self, key: Tuple[int, int]) -> Tuple[bool, Optional[Directory]]:
+    def directory(self, key: DirectoryKey) -> Tuple[bool, Optional[Directory]]:
         """Whether a directory was read in the last state, and what it said."""
         if key in self._before[1]:
             self.directories[key] = self._before[1][key]
@@ -241,7 +246,7 @@ class State:
         self.entries = read_entries(self._data, table.length)
         for at in run.missing:
             volume.notes.add(at, Cause.MISSING, "a block of the table cannot be read")
-        volume.notes.extend(table.first + PARTITION, list(table_faults(self._data, table.address - PARTITION)))
+        volume.notes.extend(address_of(table.first), list(table_faults(self._data, number_of(table.address))))
         self._room = 0
         self.broken: List[Tuple[Path, Identifier]] = []
         """Names whose nodes could not be read in the last walk."""
@@ -251,14 +256,14 @@ class State:
         """The records of clients, in order of their first commits."""
         return read_clients(self._data, self.table.version, self.table.clients)
 
-    def address(self, virtual: int) -> Optional[int]:
+    def address(self, virtual: VirtualAddress) -> Optional[Address]:
         """The address of what has a virtual address; None where it is unused or does not lie below the VAT ICB."""
-        number = self.entries[virtual] if 0 <= virtual < len(self.entries) else UNUSED
-        return number + PARTITION if number < self.table.address - PARTITION else None
+        number = BlockNumber(self.entries[virtual]) if 0 <= virtual < len(self.entries) else UNUSED
+        return address_of(number) if number < number_of(self.table.address) else None
 
     def root(self) -> Optional[Node]:
         """The root; None where its entry cannot be read."""
-        return self._node((), Identifier("", True, ROOT, 0, True), ROOT, self.table.first + PARTITION)
+        return self._node((), Identifier("", True, ROOT, 0, True), ROOT, address_of(self.table.first))
 
     def names(self, node: Node) -> List[Identifier]:
         """The names of a directory, in stored order, as far as they can be read."""
@@ -280,10 +285,10 @@ class State:
         self._room = room_of(min(self.volume.medium.blocks, GREATEST_CAPACITY))
         root = top if top is not None else self.root()
         if root is not None:
-            reached: Set[int] = {root.virtual}
+            reached: Set[VirtualAddress] = {root.virtual}
             yield from self._below(root, reached)
 
-    def _below(self, node: Node, reached: Set[int]) -> Iterator[Node]:
+    def _below(self, node: Node, reached: Set[VirtualAddress]) -> Iterator[Node]:
         yield node
         if node.kind is not Kind.DIRECTORY:
             return
@@ -319,7 +324,7 @@ class State:
             node = self.child(node, name) if name is not None else None
         return node
 
-    def _node(self, path: Path, name: Identifier, above: int, named_at: int) -> Optional[Node]:
+    def _node(self, path: Path, name: Identifier, above: VirtualAddress, named_at: Address) -> Optional[Node]:
         notes = self.volume.notes
         at = self.address(name.virtual)
         if at is None:
@@ -334,15 +339,15 @@ class State:
             return None
         if kind is Kind.FILE and entry.links != 1:
             notes.add(at, Cause.IDENTITY, f"{show(path)} has {entry.links} links, and not 1")
-        if entry.end > self.table.address - PARTITION:
+        if entry.end > number_of(self.table.address):
             notes.add(at, Cause.RANGE, f"the bytes of {show(path)} do not lie below the VAT ICB")
             return None
-        data = entry.first + PARTITION if entry.first is not None else None
+        data = address_of(entry.first) if entry.first is not None else None
         return Node(
             path, kind, entry.unique, name.virtual, at, entry.moment, entry.size, data, entry.blocks, entry.links, above, entry.check, entry.extents,
         )
 
-    def _entry(self, at: int, virtual: int) -> Optional[Entry]:
+    def _entry(self, at: Address, virtual: VirtualAddress) -> Optional[Entry]:
         known, entry = self._seen.entry((at, virtual))
         if known:
             return entry
@@ -364,7 +369,7 @@ class State:
             run = self.volume.medium.run(node.data, node.blocks)
             for at in run.missing:
                 self.volume.notes.add(at, Cause.MISSING, f"a block of the directory {show(node.path)} cannot be read")
-            directory, faults = read_directory(run.data, node.size, node.data - PARTITION, self.volume.known)
+            directory, faults = read_directory(run.data, node.size, number_of(node.data), self.volume.known)
             self.volume.notes.extend(node.data, faults)
             self._seen.directories[node.data, node.size] = directory
         if directory is None:
@@ -380,7 +385,7 @@ class State:
     def check(self) -> None:
         """Notes what does not agree: the file set, the tree, the counts and the labels."""
         table, notes = self.table, self.volume.notes
-        start = table.first + PARTITION
+        start = address_of(table.first)
         self._check_file_set()
         files = directories = 0
         uniques: Set[int] = set()
@@ -396,8 +401,8 @@ class State:
             notes.add(start, Cause.COUNTS, "the count of commits is not that of the table's place")
 
     def _check_file_set(self) -> None:
-        volume, notes, start = self.volume, self.volume.notes, self.table.first + PARTITION
-        at = self.address(0)
+        volume, notes, start = self.volume, self.volume.notes, address_of(self.table.first)
+        at = self.address(VirtualAddress(0))
         block = volume.medium.block(at) if at is not None else None
         if at is None or block is None:
             notes.add(at or start, Cause.RANGE if at is None else Cause.MISSING, "there is no file set descriptor that can be read")

@@ -1,8 +1,7 @@
-use Rattle.std.proofs.Common.{◌++◌, ◌+◌, ◌≤◌, length, sym, subst, ap, ◌∙◌, arith, append-nil, length-append, take_all, refl}
-use Rattle.drive.specs.Journal.{AddsPrefix, written}
-use Rattle.drive.proofs.Fronts.{front_whole}
+use Rattle.std.proofs.Common.{◌++◌, ◌+◌, ◌≤◌, length, sym, ap, ◌∙◌, arith, append-nil, length-append, take_all, refl}
+use Rattle.drive.specs.Journal.{written}
 use Rattle.drive.proofs.Packing.{packet_begins}
-use Rattle.drive.proofs.Running.{runs_none, runs_one, runs_as, runs_front, packet_runs, packet_broken, packet_written}
+use Rattle.drive.proofs.Running.{runs_none, runs_whole, runs_cut, runs_as, runs_front, packet_runs, packet_broken, packet_written}
 use Rattle.drive.proofs.Drive.write_run.Goals as goal
 
 pub write-requires-clause-begins : goal.write-requires-clause-begins
@@ -15,13 +14,11 @@ loop-done-preserved g c =
     let all = c.args.first.now ++ c.args.second.now in
     let packet = c.packet_of-packet.result.now in
     let J1 = g.Self.Drive.journal c.loop-done.self in
-    let at = c.args.at + c.loop-done.done in
     let le : c.loop-done.done + length packet ≤ length all = omega (arith, c.packet_of-packet.ensures.within, length-append c.args.first.now c.args.second.now) in
     record {
       in_range = c.packet_of-packet.ensures.within;
       journal = packet_written c.args.at c.loop-done.done all packet le c.packet_of-packet.ensures.blocks (g.Self.Drive.journal c.args.self.now) J1 (g.Self.Drive.journal c.write.new.self) c.loop-done.invariant.journal c.in-Ok.ensures.ok;
-      runs = packet_runs c.args.at c.loop-done.done all packet le c.packet_of-packet.ensures.blocks c.loop-done.invariant.journal c.loop-done.invariant.runs
-          (runs_one packet (subst (λ J. AddsPrefix J1 at packet J) (sym c.in-Ok.ensures.ok) (front_whole J1 at packet)) c.write.ensures.writes);
+      runs = packet_runs c.args.at c.loop-done.done all packet le c.packet_of-packet.ensures.blocks c.loop-done.invariant.runs (runs_whole packet c.in-Ok.ensures.ok c.write.ensures.writes);
       capacity = c.write.ensures.capacity ∙ c.loop-done.invariant.capacity;
       failures = c.in-Ok.ensures.failures ∙ c.loop-done.invariant.failures;
       misreads = c.write.ensures.misreads ∙ c.loop-done.invariant.misreads;
@@ -44,7 +41,7 @@ returns-in-Err-clause-runs g c =
     let all = c.args.first.now ++ c.args.second.now in
     let packet = c.packet_of-packet.result.now in
     let le : c.loop-done.done + length packet ≤ length all = omega (arith, c.packet_of-packet.ensures.within, length-append c.args.first.now c.args.second.now) in
-    packet_broken c.args.at c.loop-done.done all packet le c.packet_of-packet.ensures.blocks c.loop-done.invariant.journal c.loop-done.invariant.runs (runs_one packet c.in-Err.ensures.err c.write.ensures.writes)
+    packet_broken c.args.at c.loop-done.done all packet le c.packet_of-packet.ensures.blocks c.loop-done.invariant.runs (runs_cut packet c.in-Err.ensures.err c.write.ensures.writes)
 
 pub returns-in-Err-clause-err : goal.returns-in-Err-clause-err
 returns-in-Err-clause-err g c = runs_front (returns-in-Err-clause-runs g c)

@@ -5,6 +5,7 @@ use Rattle.std.proofs.lemmas.Result.{err_from_is_err_and}
 use Rattle.drive.specs.Journal.{written, next_of, AddsPrefix}
 use Rattle.drive.proofs.Fronts.{front_longer, front_after, written_after, begins_after}
 use Rattle.drive.proofs.Running.{runs_as, runs_front, runs_send}
+use Rattle.drive.proofs.Turns.{turn_whole, turn_cut}
 use Rattle.drive.proofs.Sending.{sends_as, alone_stopped, alone_sent, front_split, last_split}
 use Rattle.drive.proofs.packet.write_last_alone.Goals as goal
 
@@ -53,7 +54,8 @@ returns-in_err-write-clause-alone g c = λ before last is.
     let p = err_from_is_err_and c.from_residual-in_err-write.result c.from_residual-in_err-write.ensures.1 in
     let front = c.split_at.ensures.front ∙ front_split c.args.blocks.now before last (length c.args.blocks.now - 1) refl is in
     let back = c.split_at.ensures.back ∙ last_split c.args.blocks.now before last (length c.args.blocks.now - 1) refl is in
-    rw p.1 (alone_sent last (sends_as front (runs_send (runs_as (append-nil c.split_at.result.0.now) c.in_ok-write_run.ensures.runs))) (c.write.ensures.writes ∙ ap (λ (b : List (List ℕ)). g.D.Drive.writes c.write_run.new.self ++ b ∷ []) back))
+    rw p.1 (alone_sent last (ap (λ (bs : List (List ℕ)). c.args.at + length bs) front) (sends_as front (runs_send (runs_as (append-nil c.split_at.result.0.now) c.in_ok-write_run.ensures.runs)))
+    (turn_cut (last ∷ []) (subst (λ (bs : List (List ℕ)). AddsPrefix (g.D.Drive.journal c.write_run.new.self) (c.args.at + length c.split_at.result.0.now) bs (g.D.Drive.journal c.write.new.self)) back c.in_err-write.ensures.err)) (c.write.ensures.writes ∙ ap (λ (b : List (List ℕ)). g.D.Drive.writes c.write_run.new.self ++ b ∷ []) back))
 
 pub returns-clause-ok : goal.returns-clause-ok
 returns-clause-ok g c =
@@ -71,4 +73,5 @@ pub returns-clause-alone : goal.returns-clause-alone
 returns-clause-alone g c = λ before last is.
     let front = c.split_at.ensures.front ∙ front_split c.args.blocks.now before last (length c.args.blocks.now - 1) refl is in
     let back = c.split_at.ensures.back ∙ last_split c.args.blocks.now before last (length c.args.blocks.now - 1) refl is in
-    alone_sent last (sends_as front (runs_send (runs_as (append-nil c.split_at.result.0.now) c.in_ok-write_run.ensures.runs))) (c.write.ensures.writes ∙ ap (λ (b : List (List ℕ)). g.D.Drive.writes c.write_run.new.self ++ b ∷ []) back)
+    alone_sent last (ap (λ (bs : List (List ℕ)). c.args.at + length bs) front) (sends_as front (runs_send (runs_as (append-nil c.split_at.result.0.now) c.in_ok-write_run.ensures.runs)))
+    (turn_whole (last ∷ []) (c.in_ok-write.ensures.ok ∙ ap (λ (bs : List (List ℕ)). g.D.Drive.journal c.write_run.new.self ++ written (c.args.at + length c.split_at.result.0.now) bs) back)) (c.write.ensures.writes ∙ ap (λ (b : List (List ℕ)). g.D.Drive.writes c.write_run.new.self ++ b ∷ []) back)

@@ -1,5 +1,8 @@
-use Rattle.std.proofs.Common.{Err, ap}
+use Rattle.std.proofs.Common.{Err, ap, subst, sym}
 use Rattle.recover.specs.declared.fault.StoreFault.{StoreFault}
+use Rattle.embedding.specs.declared.fault.Fault.{Fault}
+use Rattle.embedding.specs.Formats.{AreWordsRefused}
+use Rattle.embedding.proofs.Wording.{words_made, words_refused}
 use Rattle.embedding.proofs.volumes.make.Goals as goal
 
 pub returns-in-Err-clause-makes : goal.returns-in-Err-clause-makes
@@ -7,5 +10,5 @@ returns-in-Err-clause-makes g c = (
   c.in-Err.fault,
   c.fault_of.ensures,
   c.in-Err.ensures.err,
-  (λ e. c.in-Err.ensures.label.0 (ap (λ (f : StoreFault). Err f) e), λ e. (c.in-Err.ensures.small.0 (ap (λ (f : StoreFault). Err f) e)).1),
+  λ e. (c.in-Err.ensures.small.0 (ap (λ (f : StoreFault). Err f) e)).1,
 )

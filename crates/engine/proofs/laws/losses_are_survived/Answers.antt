@@ -1,3 +1,4 @@
+use Rattle.engine.proofs.Lives.{cuts_join}
 use Rattle.engine.proofs.Losses.{losses_reach, runs_reach, served_reach}
 use Rattle.engine.proofs.laws.losses_are_survived.Goals as goal
 
@@ -9,3 +10,6 @@ returns-clause-streams c = served_reach
 
 pub returns-clause-losses : goal.returns-clause-losses
 returns-clause-losses c = losses_reach
+
+pub returns-clause-joined : goal.returns-clause-joined
+returns-clause-joined c = cuts_join

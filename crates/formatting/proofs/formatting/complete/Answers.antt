@@ -46,7 +46,7 @@ returns-in-Ok-write_last_alone-clause-withstands g c =
     let seen = rw c.in-Ok-Some.field-0-is at c.in-Ok-Some.ensures.seen in
     let room = c.requires.room in
     withstands_is capacity (words_of parts) parts.low parts.high room before between (g.D.Drive.journal c.write_last_alone.new.drive) (g.D.Drive.honest c.begun.new.drive) now c.in-Ok-Some.count c.in-Ok.blocks.items
-    c.in-Ok-Some.ensures.reads.journal next.0 next.1 seen c.in-Ok.ensures (subst IsTrue c.in-Ok-write_last_alone.ensures.writes.honest) (g.D.Drive.writes c.args.drive.now) c.in-Ok-Some.ensures.reads.writes
+    c.in-Ok-Some.ensures.reads.journal next.0 next.1 seen c.in-Ok.ensures (subst IsTrue c.in-Ok-write_last_alone.ensures.writes.honest) (g.D.Drive.writes c.args.drive.now) c.in-Ok-Some.ensures.reads.journal c.in-Ok-Some.ensures.reads.writes
     (λ none. c.in-Ok-write_last_alone.ensures.none (c.deref.ensures.value ∙ none))
     (λ front last ends. c.in-Ok-write_last_alone.ensures.alone front last (c.deref.ensures.value ∙ ends))
 
@@ -61,6 +61,6 @@ returns-clause-withstands g c =
     let seen = rw c.in-Ok-Some.field-0-is at c.in-Ok-Some.ensures.seen in
     let room = c.requires.room in
     withstands_is capacity (words_of parts) parts.low parts.high room before between (g.D.Drive.journal c.write_last_alone.new.drive) (g.D.Drive.honest c.begun.new.drive) now c.in-Ok-Some.count c.in-Ok.blocks.items
-    c.in-Ok-Some.ensures.reads.journal next.0 next.1 seen c.in-Ok.ensures (subst IsTrue c.in-Err-write_last_alone.ensures.writes.honest) (g.D.Drive.writes c.args.drive.now) c.in-Ok-Some.ensures.reads.writes
+    c.in-Ok-Some.ensures.reads.journal next.0 next.1 seen c.in-Ok.ensures (subst IsTrue c.in-Err-write_last_alone.ensures.writes.honest) (g.D.Drive.writes c.args.drive.now) c.in-Ok-Some.ensures.reads.journal c.in-Ok-Some.ensures.reads.writes
     (λ none. c.in-Err-write_last_alone.ensures.none (c.deref.ensures.value ∙ none))
     (λ front last ends. c.in-Err-write_last_alone.ensures.alone front last (c.deref.ensures.value ∙ ends))

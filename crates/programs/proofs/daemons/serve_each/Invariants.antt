@@ -1,5 +1,6 @@
 use Rattle.std.proofs.Common.{None, ◌-◌, ◌^◌}
 use Rattle.engine.specs.Situation.{IsReady, seen_on, situation_on}
+use Rattle.programs.specs.FaultLines.{said_on}
 use Rattle.programs.specs.Listening.{heard_on}
 use Rattle.programs.specs.Refusals.{ReportsFaults}
 use Rattle.programs.proofs.Hearing.{Hearing}
@@ -10,7 +11,7 @@ invariant-loop-left g l = record {
   hears : Hearing l.fn.connections l.left l.tries (heard_on g.L.Listener l.fn.listener) (heard_on g.L.Listener l.listener) (situation_on g.D.Drive None l.fn.drive)
       (seen_on g.D.Drive l.engine l.drive);
   ready : IsReady (seen_on g.D.Drive l.engine l.drive);
-  said : ReportsFaults (g.E.Write.contents l.fn.errors) (g.E.Write.contents l.errors);
+  said : ReportsFaults (said_on g.E.Write l.fn.errors) (said_on g.E.Write l.errors);
 }
 
 abbrev pub decreases-loop-left : goal.decreases-loop-left

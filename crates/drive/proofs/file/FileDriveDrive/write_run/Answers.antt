@@ -1,9 +1,9 @@
-use Rattle.std.proofs.Common.{◌++◌, ◌+◌, List, length, refl, sym, subst, ap, ◌∙◌, arith, append-nil}
+use Rattle.std.proofs.Common.{◌++◌, ◌+◌, List, length, refl, sym, ap, ◌∙◌, arith, append-nil}
 use Rattle.drive.specs.FileDrive.{journal_of, writes_of}
-use Rattle.drive.specs.Journal.{AddsPrefix, Event, written}
+use Rattle.drive.specs.Journal.{Event, written}
 use Rattle.drive.specs.Note.{longer}
-use Rattle.drive.proofs.Fronts.{front_whole, written_after}
-use Rattle.drive.proofs.Running.{longer_last, runs_one}
+use Rattle.drive.proofs.Fronts.{written_after}
+use Rattle.drive.proofs.Running.{longer_last, runs_whole, runs_cut}
 use Rattle.drive.proofs.file.FileDriveDrive.write_run.Goals as goal
 
 pub returns-then-is_err-clause-one : goal.returns-then-is_err-clause-one
@@ -11,7 +11,7 @@ returns-then-is_err-clause-one c =
     c.note-2.ensures.1 ∙ ap (λ ws. longer ws c.args.second.now) c.note.ensures.1 ∙ longer_last (writes_of c.args.self.now) c.args.first.now c.args.second.now
 
 pub returns-then-is_err-clause-runs : goal.returns-then-is_err-clause-runs
-returns-then-is_err-clause-runs c = runs_one (c.args.first.now ++ c.args.second.now) (0, omega arith, c.note-2.ensures.0 ∙ c.note.ensures.0 ∙ sym (append-nil (journal_of c.args.self.now))) (returns-then-is_err-clause-one c)
+returns-then-is_err-clause-runs c = runs_cut (c.args.first.now ++ c.args.second.now) (0, omega arith, c.note-2.ensures.0 ∙ c.note.ensures.0 ∙ sym (append-nil (journal_of c.args.self.now))) (returns-then-is_err-clause-one c)
 
 pub returns-clause-ok : goal.returns-clause-ok
 returns-clause-ok c =
@@ -24,7 +24,4 @@ returns-clause-one c =
     c.note_written-2.ensures.writes ∙ c.note_written.ensures.writes ∙ c.note-2.ensures.1 ∙ ap (λ ws. longer ws c.args.second.now) c.note.ensures.1 ∙ longer_last (writes_of c.args.self.now) c.args.first.now c.args.second.now
 
 pub returns-clause-runs : goal.returns-clause-runs
-returns-clause-runs c =
-    let J = journal_of c.args.self.now in
-    let blocks = c.args.first.now ++ c.args.second.now in
-    runs_one blocks (subst (λ (K : List Event). AddsPrefix J c.args.at blocks K) (sym (returns-clause-ok c)) (front_whole J c.args.at blocks)) (returns-clause-one c)
+returns-clause-runs c = runs_whole (c.args.first.now ++ c.args.second.now) (returns-clause-ok c) (returns-clause-one c)

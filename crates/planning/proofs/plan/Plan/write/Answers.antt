@@ -6,6 +6,7 @@ use Rattle.planning.specs.declared.layout.PlacedDirectory.{PlacedDirectory}
 use Rattle.planning.specs.Plan.{file_list, directories_list, table_data, node_list, plan_blocks}
 use Rattle.drive.proofs.Packing.{stops_longer}
 use Rattle.planning.proofs.Plans.{plan_ends}
+use Rattle.drive.proofs.Turns.{turn_whole, turn_cut}
 use Rattle.planning.proofs.Puttings.{takes_both, stops_first, stops_second, takes_written, stops_front, takes_fronted, alone_before, alone_after}
 use Rattle.planning.proofs.plan.Plan.write.Goals as goal
 
@@ -246,7 +247,8 @@ returns-in_err-finish_alone-clause-alone g c =
     let w3 = c.write_table.new.writer.packets in
     let e = p.table.entry in
     let all = takes_both J J2 J3 w w2 w3 (node_list p) (t ++ e ∷ []) ((node_list p ++ t) ++ e ∷ []) (sym (append_assoc (node_list p) t (e ∷ []))) both c.in_ok-write_table.ensures.ok in
-    rw q.1 (alone_after J J3 c.finish_alone.new.drive (next_of (g.D.Drive.journal J)) w w3 (node_list p ++ t) e (c.hold.ensures ∙ c.requires.plan.begins) all c.in_ok-write_table.ensures.waits c.finish_alone.ensures.sent)
+    rw q.1 (alone_after J J3 c.finish_alone.new.drive (next_of (g.D.Drive.journal J)) w w3 (node_list p ++ t) e (c.hold.ensures ∙ c.requires.plan.begins) all c.in_ok-write_table.ensures.waits
+    (turn_cut w3.blocks c.in_err-finish_alone.ensures.err) c.finish_alone.ensures.sent)
 
 pub returns-clause-alone : goal.returns-clause-alone
 returns-clause-alone g c =
@@ -265,4 +267,5 @@ returns-clause-alone g c =
     let w3 = c.write_table.new.writer.packets in
     let e = p.table.entry in
     let all = takes_both J J2 J3 w w2 w3 (node_list p) (t ++ e ∷ []) ((node_list p ++ t) ++ e ∷ []) (sym (append_assoc (node_list p) t (e ∷ []))) both c.in_ok-write_table.ensures.ok in
-    alone_after J J3 c.finish_alone.new.drive (next_of (g.D.Drive.journal J)) w w3 (node_list p ++ t) e (c.hold.ensures ∙ c.requires.plan.begins) all c.in_ok-write_table.ensures.waits c.finish_alone.ensures.sent
+    alone_after J J3 c.finish_alone.new.drive (next_of (g.D.Drive.journal J)) w w3 (node_list p ++ t) e (c.hold.ensures ∙ c.requires.plan.begins) all c.in_ok-write_table.ensures.waits
+    (turn_whole w3.blocks c.in_ok-finish_alone.ensures.ok) c.finish_alone.ensures.sent

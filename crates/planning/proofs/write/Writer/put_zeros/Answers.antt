@@ -1,8 +1,8 @@
 use Rattle.std.proofs.Common.{◌≡◌, ◌<◌, List, [], ℕ, length, get_or, replicate, arith}
 use Rattle.std.proofs.lemmas.List.{length-replicate, get_or-replicate, length-take-le}
 use Rattle.std.proofs.lemmas.Result.{err_from_is_err_and}
-use Rattle.drive.proofs.Packing.{stops_before}
-use Rattle.drive.proofs.Reading.{writes_then}
+use Rattle.drive.proofs.Packing.{stops_before, takes-nil}
+use Rattle.drive.proofs.Reading.{writes_none, writes_then}
 use Rattle.durability.specs.Plan.{zeros}
 use Rattle.planning.proofs.Puttings.{takes_item, stops_item, takes_whole}
 use Rattle.planning.proofs.write.Writer.put_zeros.Goals as goal
@@ -35,3 +35,6 @@ pub returns-clause-ok : goal.returns-clause-ok
 returns-clause-ok g c =
     let all = replicate c.args.count zeros in
     takes_whole c.args.drive.now c.loop-i.drive c.args.self.now.packets c.loop-i.self.packets c.loop-i.i all (omega (arith, c.loop-i-test.false, length-replicate {A = List ℕ} c.args.count zeros)) c.loop-i.invariant.takes
+
+pub loop-i-init : goal.loop-i-init
+loop-i-init g c = record { takes = takes-nil g.D.Drive c.args.drive.now c.args.self.now.packets; writes = writes_none g.D.Drive c.args.drive.now }

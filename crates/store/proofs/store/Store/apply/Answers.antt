@@ -182,7 +182,7 @@ returns-clause-withstands g c volume S honest knows =
     let makes : IsPlanOf c.args.self.now c.args.request.now change plan = makes_plan c.args.self.now _ c.args.request.now change plan c.unwrap-moment.result of_moment c.in_ok-plan.ensures.makes refl refl in
     let room = subst (λ (L : List Event). next_of L + change_need c.in_ok-change.change (begun c.args.self.now.vat_icb_address c.args.request.now.client c.args.request.now.number (code_number c.in_ok-change.change.code) c.in_ok-change.change.made (view c.args.self.now.vat)) ≤ c.args.self.now.capacity) c.change.ensures.reads.journal c.in_ok-plan.ensures.room in
     withstands capacity volume J S store knows r change does plan makes is room {drive = g.D.Drive} c.commit.result c.plan.new.drive c.commit.new.drive (g.D.Drive.writes c.args.drive.now) (c.plan.ensures.reads.writes ∙ c.change.ensures.reads.writes)
-    c.commit.ensures.alone (c.plan.ensures.reads.journal ∙ c.change.ensures.reads.journal) _ c.commit.new.self c.commit.ensures.done c.commit.ensures.failed
+    c.commit.ensures.alone (c.plan.ensures.reads.journal ∙ c.change.ensures.reads.journal) _ c.commit.new.self c.commit.ensures.failed
 
 pub returns-then-self-clause-withstands : goal.returns-then-self-clause-withstands
 returns-then-self-clause-withstands g c volume S honest knows =

@@ -131,9 +131,9 @@ returns-clause-kept g c once kept =
 pub returns-then-is_err-clause-alone : goal.returns-then-is_err-clause-alone
 returns-then-is_err-clause-alone g c =
     let failed : is_err c.write-written.result ≡ true = sym c.is_err.ensures.value ∙ c.if-is_err.true in
-    subst (λ (b : Bool). SendsAlone g.D.Drive (node_list c.args.plan ++ table_data c.args.plan.table) c.args.plan.table.entry b c.args.drive.now c.write-written.new.drive) failed c.write-written.ensures.alone
+    subst (λ (b : Bool). SendsAlone g.D.Drive (next_of (g.D.Drive.journal c.args.drive.now)) (node_list c.args.plan ++ table_data c.args.plan.table) c.args.plan.table.entry b c.args.drive.now c.write-written.new.drive) failed c.write-written.ensures.alone
 
 pub returns-clause-alone : goal.returns-clause-alone
 returns-clause-alone g c =
     let done : is_err c.write-written.result ≡ false = sym c.is_err.ensures.value ∙ c.if-is_err.false in
-    subst (λ (b : Bool). SendsAlone g.D.Drive (node_list c.args.plan ++ table_data c.args.plan.table) c.args.plan.table.entry b c.args.drive.now c.write-written.new.drive) done c.write-written.ensures.alone
+    subst (λ (b : Bool). SendsAlone g.D.Drive (next_of (g.D.Drive.journal c.args.drive.now)) (node_list c.args.plan ++ table_data c.args.plan.table) c.args.plan.table.entry b c.args.drive.now c.write-written.new.drive) done c.write-written.ensures.alone

@@ -1,0 +1,92 @@
+"""Programs that keep a tree: how each begins, stores, checks and gives back."""
+from __future__ import annotations
+
+import os
+import re
+import shutil
+import subprocess
+import sys
+import time
+from pathlib import Path
+from typing import Callable, NamedTuple
+
+TOP = Path(__file__).resolve().parent.parent.parent
+CALLS = "fsync,fdatasync,sync_file_range,syncfs,sync,msync"
+
+Step = list[str]
+
+
+class Way(NamedTuple):
+    """A program: its environment, and the commands of each step, where {} stands for a folder to give back into."""
+
+    name: str
+    keys: dict[str, str]
+    begin: Step
+    store: Step
+    end: Step
+    check: Step
+    back: Step
+
+
+def package(module: str, *words: str) -> Step:
+    return [sys.executable, "-m", module, *words]
+
+
+def installed(room: str) -> str:
+    """A copy of the client that is compiled, as an installation is."""
+    folder = os.path.join(room, "python")
+    if not os.path.exists(folder):
+        shutil.copytree(TOP / "clients" / "python" / "udfburn", os.path.join(folder, "udfburn"), ignore=shutil.ignore_patterns("__pycache__"))
+        subprocess.run([sys.executable, "-m", "compileall", "-q", folder], check=True)
+    return folder
+
+
+def ways(program: str, room: str, source: str) -> list[Way]:
+    """The archive first, then those that it is compared with. Each has its repository in the room."""
+    at = os.path.join(room, "kept")
+    own = {"PYTHONPATH": installed(room), "UDFBURN": program, "UDFBURN_ARCHIVE": at}
+    restic = {"RESTIC_PASSWORD": "x", "RESTIC_REPOSITORY": at, "XDG_CACHE_HOME": os.path.join(room, "cache")}
+    borg = {"BORG_BASE_DIR": os.path.join(room, "base"), "BORG_UNKNOWN_UNENCRYPTED_REPO_ACCESS_IS_OK": "yes", "BORG_REPO": at}
+    archive = "udfburn.archive"
+    return [
+        Way("udfburn-archive", own, package(archive, "init", at, "--quiet"), package(archive, "add", source, "--at", "/t", "--quiet"),
+            package(archive, "close", "--quiet"), package(archive, "check", "--quiet"), package(archive, "get", "/t", "{}", "--quiet")),
+        Way("restic", restic, ["restic", "init", "-q"], ["restic", "backup", "-q", source], [], ["restic", "check", "-q", "--read-data"],
+            ["restic", "restore", "-q", "latest", "--target", "{}"]),
+        Way("borg", borg, ["borg", "init", "-e", "none"], ["borg", "create", "::{now}", source], [], ["borg", "check", "--verify-data"],
+            ["sh", "-c", 'cd "$1" && borg extract "::$(borg list --last 1 --format "{archive}")"', "-", "{}"]),
+    ]
+
+
+def timed(words: Step, keys: dict[str, str]) -> float:
+    """The seconds of a command, which ends well."""
+    begun = time.monotonic()
+    subprocess.run(words, check=True, env={**os.environ, "PYTHONDONTWRITEBYTECODE": "1", **keys}, stdout=subprocess.DEVNULL)
+    return time.monotonic() - begun
+
+
+def syncs(words: Step, keys: dict[str, str], room: str) -> int:
+    """The calls of a command, and of those that it starts, that wait for the disk. Files in memory have none."""
+    trace = os.path.join(room, "trace")
+    timed(["strace", "-f", "-y", "-qq", "-o", trace, "-e", f"trace={CALLS}", "-e", "signal=none", *words], keys)
+    # A call that another thread comes between is in the trace twice.
+    return len(re.findall(rf"^[0-9]+ +(?:{CALLS.replace(',', '|')})\((?![0-9]+</dev/shm/)", Path(trace).read_text(errors="replace"), re.M))
+
+
+def bytes_of(folder: str) -> int:
+    return sum(os.lstat(os.path.join(at, name)).st_size for at, _, names in os.walk(folder) for name in names)
+
+
+def require_same(source: str, back: str) -> None:
+    """The tree is somewhere below the folder, byte by byte."""
+    depth = source if os.path.isdir(back + source) else ""
+    found = back + depth if depth else os.path.join(back, "t")
+    subprocess.run(["diff", "-r", source, found], check=True)
+
+
+def without(folder: str, call: Callable[[], float]) -> float:
+    """Calls, and removes the folder."""
+    try:
+        return call()
+    finally:
+        shutil.rmtree(folder, ignore_errors=True)

@@ -1,0 +1,35 @@
+"""The names of files above a mebibyte until they are whole.
+
+Such a file is in the root meanwhile, under a name that begins with `PREFIX` and has the client's number and a digest of the file's own
+path. So no other client makes a file of that name, and this one finds it again after a crash.
+"""
+
+from __future__ import annotations
+
+from ..protocol import Path, limits, show
+
+PREFIX = ".udfburn-unfinished-"
+"""How the name of a file in the root begins that is not whole yet."""
+
+UNDER_WAY = 4
+"""Files that are not whole at one time, at most: each is renamed once its pieces are acknowledged, and few requests are under way."""
+
+
+def grows(size: int, split: bool) -> bool:
+    """Whether a file of this size is stored piece by piece as one."""
+    return size > limits.FILE and not split
+
+
+def is_unfinished(path: Path) -> bool:
+    """Whether a path is that of a file that is not whole yet, or below it."""
+    return bool(path) and path[0].startswith(PREFIX)
+
+
+def unfinished_path(client: int, path: Path) -> Path:
+    """The path that a client's file has until it is whole."""
+    from hashlib import sha256
+
+    return (f"{PREFIX}{client:016x}-{sha256(show(path).encode()).hexdigest()[:32]}",)
+
+
+__all__ = ["PREFIX", "UNDER_WAY", "grows", "is_unfinished", "unfinished_path"]

@@ -1,0 +1,449 @@
+"""The ledger: what was sent under which number, and what came back, kept through any crash.
+
+A number and its frame are in the ledger before the frame is sent, and the reply before anything is done because of
+it. So after a crash at any moment the frames without a reply are known, and are sent again under their numbers; the
+volume runs each at most once, and keeps the replies of the last four. One process has a ledger at a time.
+"""
+
+from __future__ import annotations
+
+import os
+import sqlite3
+import time
+from contextlib import contextmanager
+from typing import Any, Dict, Iterable, Iterator, List, Mapping, Optional, Sequence, Set, Tuple, Union
+
+from ..base.durable import make_folder, sync_file, sync_folder
+from ..base.errors import LedgerError
+from ..protocol import Kind, limits
+from ..protocol.units import Commit
+from .file import Lock, connect, default_path, is_there, lengthen, remove
+from .records import (
+    FACTS, GIVEN_UP, ORIGIN, Identity, Mark, Pending, Reply, Sent, Volume, facts_row, origin_row, row_facts, row_origin,
+)
+from .schema import APPENDED, SCHEMA, VERSION, statements, upgrade
+
+LAST = (1 << 63) - 1
+"""The greatest number that the ledger's columns hold."""
+
+LATEST = """
+SELECT max(latest, coalesce(
+    (SELECT number FROM request WHERE volume = volume.id AND code IS NOT NULL ORDER BY number DESC LIMIT 1), 0))
+"""
+"""The latest number with a reply: that which was learnt, or a later one."""
+
+VOLUME = f"""
+SELECT id, volume.way, ({LATEST}), unsettled, label, formatted, capacity, mark_commit, mark_address, mark_check FROM volume
+"""
+
+BOUND = "INSERT INTO way VALUES (?, ?) ON CONFLICT (way) DO UPDATE SET volume = excluded.volume"
+
+IDENTIFIED = """
+UPDATE volume SET label = ?, formatted = ?, capacity = ?, mark_commit = ?, mark_address = ?, mark_check = ? WHERE id = ?
+"""
+
+PENDING = f"""
+SELECT number, payload, path, {', '.join((*FACTS, *ORIGIN))} FROM request JOIN frame ON frame.id = volume * 4 + number % 4
+WHERE volume = ?1 AND number > (SELECT max(number) FROM request WHERE volume = ?1) - 4 AND code IS NULL ORDER BY number
+"""
+"""Requests without a reply: they are among the last four. Four payloads are kept for a volume, each in the place of an older one."""
+
+KEPT_FRAME = f"""
+INSERT INTO frame (id, payload, {', '.join(ORIGIN)}) VALUES (?, ?{', ?' * len(ORIGIN)}) ON CONFLICT (id) DO UPDATE
+SET payload = excluded.payload, {', '.join(f'{name} = excluded.{name}' for name in ORIGIN)}
+"""
+"""Writes a payload over an older one, in the pages of that where both have one size."""
+
+NO_ORIGIN = f"UPDATE frame SET {', '.join(f'{name} = ?' for name in ORIGIN)} WHERE id = ?"
+
+ASKED = f"INSERT INTO request (volume, number, path, {', '.join(FACTS)}) VALUES (?, ?, ?{', ?' * len(FACTS)})"
+
+SENT_COLUMNS = ("number", "path", "code", "commit_number", "confirmed", *FACTS)
+
+NEWER = "UPDATE ledger SET version = ? WHERE version < ?"
+
+SENT = f"SELECT {', '.join(SENT_COLUMNS)} FROM request"
+
+LAST_COMMIT = """
+SELECT max(coalesce((SELECT commit_number FROM request WHERE volume = ? AND code IS NOT NULL ORDER BY number DESC LIMIT 1), 0),
+    coalesce((SELECT commit_number FROM found WHERE volume = ? ORDER BY number DESC LIMIT 1), 0))
+"""
+
+LOG_PAGES = 128
+"""Pages in the database's log before they are copied into the database, and the log is written from its beginning again."""
+
+LOG_BYTES = 32 + (LOG_PAGES + 16) * (24 + 4096)
+"""Bytes that such a log may take, with what the last transaction adds."""
+
+
+class Ledger:
+    """An open ledger. No other process has it meanwhile."""
+
+    def __init__(self, path: str, client: Optional[int] = None, wait: float = 10.0):
+        self.path = os.path.realpath(path)
+        is_there(self.path)
+        make_folder(os.path.dirname(self.path))
+        self._lock = Lock(self.path, wait)
+        try:
+            if not is_there(self.path):
+                self._make(client)
+            self._base, self.client = self._open(client)
+            # About the pages that the log has, and whether it has room for all that it gets.
+            self._logged = 0
+            self._roomy = False
+            self._foreseen: Optional[Tuple[Volume, Sequence[Reply], Sequence[Pending]]] = None
+        except BaseException:
+            # A ledger that was made is there, and one that is there has its lock.
+            self._lock.close(needless=True)
+            raise
+
+    # ---- opening
+
+    def _open(self, wanted: Optional[int]) -> Tuple[sqlite3.Connection, int]:
+        """The database, and the client that it belongs to. A database that is not a ledger is left as it is."""
+        try:
+            base, client = self._begin(wanted)
+            if client is None:
+                # A ledger of an earlier program whose making was cut short: it has no table, and so nothing to lose.
+                base.close()
+                self._make(wanted)
+                base, client = self._begin(wanted)
+            if client is None:
+                raise ValueError("it has no client, though it was just made")
+            return base, client
+        except (sqlite3.DatabaseError, TypeError, ValueError) as error:
+            raise self._unusable(error) from error
+
+    def _begin(self, wanted: Optional[int]) -> Tuple[sqlite3.Connection, Optional[int]]:
+        base = connect(self.path)
+        try:
+            client = self._client(base, wanted)
+            if client is not None:
+                base.execute("PRAGMA journal_mode = WAL")
+                base.execute(f"PRAGMA wal_autocheckpoint = {LOG_PAGES}")
+                base.execute("PRAGMA cache_size = -16384")
+        except BaseException:
+            base.close()
+            raise
+        return base, client
+
+    def _unusable(self, error: Exception) -> LedgerError:
+        """What is reported if the database cannot be opened, or is not a ledger's."""
+        if isinstance(error, sqlite3.OperationalError) and not str(error).startswith("no such"):
+            return LedgerError(f"{self.path}: cannot be written ({error}): check that its disk works and has room")
+        return LedgerError(f"{self.path}: is not a ledger ({error}): name another with --ledger")
+
+    def _client(self, base: sqlite3.Connection, wanted: Optional[int]) -> Optional[int]:
+        """The client that a database belongs to; None if it has no table at all."""
+        if not base.execute("SELECT 1 FROM sqlite_master").fetchone():
+            return None
+        version, client = base.execute("SELECT version, client FROM ledger").fetchone()
+        if not 0 < version <= APPENDED:
+            raise LedgerError(f"{self.path}: has version {version}, and this program knows those up to {APPENDED}: use a newer program")
+        number = int(client)
+        if wanted is not None and wanted != number:
+            raise LedgerError(
+                f"{self.path}: is the ledger of client {client}, not {wanted}: leave --client out, or name another ledger"
+            )
+        if version < VERSION:
+            upgrade(base, version)
+        return number
+
+    def _make(self, wanted: Optional[int]) -> None:
+        """Makes the ledger under another name, and gives it its own once it is whole and durable."""
+        client = 1 + int.from_bytes(os.urandom(8), "little") % LAST if wanted is None else wanted
+        if not 0 < client <= limits.U64:
+            raise LedgerError(f"{client} is not a client number: give one from 1 to {limits.U64}")
+        new = self.path + ".new"
+        # What an earlier making left; and a log without its base, which SQLite would take for the new one's.
+        for path in (new, new + "-journal", new + "-wal", self.path + "-journal", self.path + "-wal"):
+            remove(path)
+        try:
+            self._fill(new, client)
+            sync_file(new)
+            os.rename(new, self.path)
+        except sqlite3.Error as error:
+            raise self._unusable(error) from error
+        finally:
+            remove(new)
+        sync_folder(os.path.dirname(self.path))
+
+    def _fill(self, new: str, client: int) -> None:
+        """Writes a ledger that has no request yet."""
+        base = connect(new)
+        try:
+            # A making that is cut short is thrown away, so nothing of it has to be undone.
+            base.execute("PRAGMA journal_mode = MEMORY")
+            base.execute("BEGIN IMMEDIATE")
+            for statement in statements(SCHEMA):
+                base.execute(statement)
+            base.execute("INSERT INTO ledger VALUES (?, ?)", (VERSION, str(client)))
+            base.execute("COMMIT")
+            base.execute("PRAGMA journal_mode = WAL")
+        finally:
+            base.close()
+
+    def files(self) -> Set[Tuple[int, int]]:
+        """The device and the inode of each file that the ledger has."""
+        found: Set[Tuple[int, int]] = set()
+        for path in (self.path, self.path + "-wal", self._lock.path):
+            try:
+                status = os.stat(path)
+            except FileNotFoundError:
+                continue
+            found.add((status.st_dev, status.st_ino))
+        return found
+
+    def close(self) -> None:
+        """Gives the ledger to others."""
+        self._foreseen = None
+        self._base.close()
+        self._lock.close()
+
+    # ---- volumes
+
+    def volume(self, way: Union[str, bytes]) -> Optional[Volume]:
+        """The volume that is at this way."""
+        found = self._volumes("JOIN way ON way.volume = volume.id WHERE way.way = ?", way)
+        return found[0] if found else None
+
+    def volumes(self) -> List[Volume]:
+        """All volumes that were met, the first one first."""
+        return self._volumes("ORDER BY id")
+
+    def _volumes(self, where: str, *values: object) -> List[Volume]:
+        return [volume_of(row) for row in self._rows(f"{VOLUME} {where}", *values)]
+
+    def _rows(self, statement: str, *values: object) -> List[Any]:
+        """The rows that a statement gives."""
+        self.set_back()
+        try:
+            return self._base.execute(statement, values).fetchall()
+        except sqlite3.Error as error:
+            raise self._unusable(error) from error
+
+    def ways(self, volume: Volume) -> List[Union[str, bytes]]:
+        """The ways that lead to a volume."""
+        return [way for (way,) in self._rows("SELECT way FROM way WHERE volume = ? ORDER BY way", volume.id)]
+
+    def learn(self, way: Union[str, bytes], latest: int, replies: Mapping[int, Tuple[int, Commit]] = {}) -> Volume:
+        """Keeps a volume that is met for the first time: the number that it knows of this client, and the codes and commits of the
+        replies that it keeps, by their numbers."""
+        if latest >= LAST - limits.REPLIES:
+            raise LedgerError(f"client {self.client} has no numbers left: use a new ledger")
+        with self._transaction():
+            made = self._base.execute("INSERT INTO volume (way, latest, made) VALUES (?, ?, ?)", (way, latest, time.time())).lastrowid
+            self._base.executemany("INSERT INTO found VALUES (?, ?, ?, ?)", [(made, number, *reply) for number, reply in replies.items()])
+            self._base.execute(BOUND, (way, made))
+        found = self.volume(way)
+        if found is None:
+            raise RuntimeError("the volume that was just added is not in the ledger")
+        return found
+
+    def bind(self, way: Union[str, bytes], volume: Volume) -> Volume:
+        """Keeps that a way leads to a volume that is known."""
+        with self._transaction():
+            self._base.execute(BOUND, (way, volume.id))
+        return volume
+
+    def take_over(self, volume: Volume, latest: int, replies: Mapping[int, Tuple[int, Commit]]) -> Volume:
+        """Goes on at the number that a volume knows, where requests that this ledger has no reply of are given up."""
+        with self._transaction():
+            self._base.execute("DELETE FROM request WHERE volume = ? AND code IS NULL", (volume.id,))
+            self._base.execute("UPDATE volume SET latest = ? WHERE id = ?", (latest, volume.id))
+            kept = {number for (number,) in self._base.execute("SELECT number FROM request WHERE volume = ?", (volume.id,))}
+            rows = [(volume.id, number, *reply) for number, reply in replies.items() if number not in kept]
+            self._base.executemany("INSERT OR REPLACE INTO found VALUES (?, ?, ?, ?)", rows)
+        return self._volumes("WHERE id = ?", volume.id)[0]
+
+    def identify(self, volume: Volume, identity: Identity, mark: Mark) -> Volume:
+        """Keeps what an image says of itself, and a commit by which it is known again."""
+        if (volume.identity, volume.mark) == (identity, mark):
+            return volume
+        with self._transaction():
+            self._base.execute(IDENTIFIED, (*identity, *mark, volume.id))
+        return self._volumes("WHERE id = ?", volume.id)[0]
+
+    def begun(self, volume: Volume) -> int:
+        """The number that the volume knew of this client when it was first met."""
+        return int(self._rows("SELECT latest FROM volume WHERE id = ?", volume.id)[0][0])
+
+    def found(self, volume: Volume) -> Dict[int, Tuple[int, Commit]]:
+        """Code and commit of each reply that the volume kept when it was first met, by number."""
+        rows = self._rows("SELECT number, code, commit_number FROM found WHERE volume = ?", volume.id)
+        return {number: (code, commit) for number, code, commit in rows}
+
+    # ---- requests
+
+    def pending(self, volume: Volume) -> List[Pending]:
+        """The requests without a reply, in order of their numbers."""
+        return [pending_of(row) for row in self._rows(PENDING, volume.id)]
+
+    def latest(self, volume: Volume) -> int:
+        """The number of the last request with a reply."""
+        return int(self._rows(f"SELECT ({LATEST}) FROM volume WHERE id = ?", volume.id)[0][0])
+
+    def last_commit(self, volume: Volume) -> Commit:
+        """The greatest commit that was acknowledged."""
+        return Commit(int(self._rows(LAST_COMMIT, volume.id, volume.id)[0][0] or 0))
+
+    def record(self, volume: Volume, replies: Sequence[Reply], requests: Sequence[Pending]) -> None:
+        """Keeps replies that came and requests that are to be sent, as one: durable when it returns."""
+        if not replies and not requests:
+            return
+        if self._foreseen == (volume, replies, requests) and self._base.in_transaction:
+            self._foreseen = None
+            with self._ending():
+                self._base.execute("COMMIT")
+            return
+        with self._transaction():
+            self._write(volume, replies, requests)
+
+    def foresee(self, volume: Volume, replies: Sequence[Reply], requests: Sequence[Pending]) -> None:
+        """Begins what `record` is likely to be given next, while there is time. Nothing of it is kept before `record` is given the
+        same; whatever else is done with the ledger first sets it back."""
+        self.set_back()
+        try:
+            self.make_room()
+            # Else the log would be taken over at the end of a transaction, after which the program waits for requests.
+            if self._logged > LOG_PAGES * 7 // 8:
+                self._base.execute("PRAGMA wal_checkpoint").fetchall()
+                self._logged = 0
+            self._foreseen = volume, replies, requests
+            self._base.execute("BEGIN IMMEDIATE")
+            self._write(volume, replies, requests)
+        except sqlite3.Error:
+            # `record` meets the same trouble, and reports it.
+            self.set_back()
+
+    def make_room(self) -> None:
+        """Lengthens the log once, where it would grow by each transaction. Zeros after its last page are none to SQLite."""
+        if self._roomy:
+            return
+        self._roomy = True
+        try:
+            lengthen(self.path + "-wal", LOG_BYTES)
+        except OSError:
+            # It grows then, or reports it if that fails too.
+            pass
+
+    def set_back(self) -> None:
+        """Undoes what was foreseen and did not come."""
+        if self._foreseen is not None:
+            self._foreseen = None
+            if self._base.in_transaction:
+                self._base.execute("ROLLBACK")
+
+    def _write(self, volume: Volume, replies: Sequence[Reply], requests: Sequence[Pending]) -> None:
+        self._base.executemany(
+            "UPDATE request SET code = ?, commit_number = ?, confirmed = ? WHERE volume = ? AND number = ?",
+            [(int(r.code), r.commit, r.confirmed, volume.id, r.number) for r in replies],
+        )
+        self._base.executemany(ASKED, [(volume.id, r.number, r.path, *facts_row(r.facts)) for r in requests])
+        self._base.executemany(KEPT_FRAME, [(volume.id * 4 + r.number % 4, r.payload, *origin_row(r.origin)) for r in requests])
+        if any(r.facts is not None and r.facts.deed.kind is Kind.APPEND for r in requests):
+            self._base.execute(NEWER, (APPENDED, APPENDED))
+        self._logged += 2 + sum([len(r.payload) // 4000 for r in requests])
+
+    @contextmanager
+    def _transaction(self) -> Iterator[None]:
+        """All that is done within is kept as one, or nothing of it."""
+        self.set_back()
+        with self._ending():
+            self._base.execute("BEGIN IMMEDIATE")
+            yield
+            self._base.execute("COMMIT")
+
+    @contextmanager
+    def _ending(self) -> Iterator[None]:
+        """No transaction is left open after what is done within."""
+        try:
+            try:
+                yield
+            finally:
+                if self._base.in_transaction:
+                    self._base.execute("ROLLBACK")
+        except sqlite3.Error as error:
+            raise self._unusable(error) from error
+
+    def confirm(self, volume: Volume, numbers: Iterable[int]) -> None:
+        """Marks replies as those that the tree agrees with."""
+        with self._transaction():
+            self._base.executemany(
+                "UPDATE request SET confirmed = 1 WHERE volume = ? AND number = ?", [(volume.id, number) for number in numbers]
+            )
+
+    def withdraw(self, volume: Volume) -> List[Pending]:
+        """Takes out the requests without a reply, which are known to be committed never; gives them."""
+        gone = self.pending(volume)
+        with self._transaction():
+            self._base.execute("DELETE FROM request WHERE volume = ? AND code IS NULL", (volume.id,))
+        return gone
+
+    def give_up(self, volume: Volume, waiting: Iterable[Pending]) -> None:
+        """Records that the data of pending requests is no longer looked for, whatever is found at its place later."""
+        with self._transaction():
+            self._base.executemany(NO_ORIGIN, [(*origin_row(GIVEN_UP), volume.id * 4 + pending.number % 4) for pending in waiting])
+
+    def take(self, volume: Volume, other: "MemoryLedger") -> None:
+        """Keeps all that a ledger in memory has of a volume, as one: requests, their replies, and the commit that it is known by."""
+        theirs, *_ = other.volumes()
+        columns = ", ".join(SENT_COLUMNS)
+        rows = other._base.execute(f"SELECT {columns} FROM request WHERE volume = ? AND code IS NOT NULL", (theirs.id,)).fetchall()
+        frames = other._base.execute(f"SELECT id % 4, payload, {', '.join(ORIGIN)} FROM frame").fetchall()
+        with self._transaction():
+            self._base.executemany(f"INSERT INTO request (volume, {columns}) VALUES (?{', ?' * len(SENT_COLUMNS)})", [(volume.id, *row) for row in rows])
+            self._base.executemany(KEPT_FRAME, [(volume.id * 4 + place, *kept) for place, *kept in frames])
+            version = max(version for (version,) in other._base.execute("SELECT version FROM ledger"))
+            self._base.execute(NEWER, (version, version))
+            if theirs.identity is not None and theirs.mark is not None:
+                self._base.execute(IDENTIFIED, (*theirs.identity, *theirs.mark, volume.id))
+
+    def history(self, volume: Volume) -> List[Tuple[int, str, Optional[int], Optional[Commit], bool]]:
+        """Each request that is kept: number, path, code, commit, and whether the tree agreed."""
+        return [(sent.number, sent.path, sent.code, sent.commit, sent.confirmed) for sent in self.sent(volume)]
+
+    def sent(self, volume: Volume, after: int = 0) -> List[Sent]:
+        """Each request that is kept above a number, in order of the numbers."""
+        rows = self._rows(f"{SENT} WHERE volume = ? AND number > ? ORDER BY number", volume.id, after)
+        return [Sent(n, path, row_facts(path, facts), code, commit, bool(ok)) for n, path, code, commit, ok, *facts in rows]
+
+
+class MemoryLedger(Ledger):
+    """A ledger that ends with its process: for requests to a copy of an image that ends with it too. What it says of them is taken
+    over by the ledger of the image, where the copy's blocks are."""
+
+    def __init__(self, client: int):
+        self.path, self.client = ":memory:", client
+        self._base = sqlite3.connect(self.path, isolation_level=None)
+        for statement in statements(SCHEMA):
+            self._base.execute(statement)
+        self._base.execute("INSERT INTO ledger VALUES (?, ?)", (VERSION, str(client)))
+        # There is no log to make room in, or to take over.
+        self._logged, self._roomy = 0, True
+        self._foreseen = None
+
+    def files(self) -> Set[Tuple[int, int]]:
+        """None."""
+        return set()
+
+    def close(self) -> None:
+        """Forgets all."""
+        self._base.close()
+
+
+def volume_of(row: Sequence[Any]) -> Volume:
+    """The volume of a row."""
+    number, way, latest, unsettled, label, formatted, capacity, commit, address, check = row
+    identity = None if label is None else Identity(label, formatted, capacity)
+    mark = None if check is None else Mark(commit, address, check)
+    return Volume(number, way, latest, bool(unsettled), identity, mark)
+
+
+def pending_of(row: Sequence[Any]) -> Pending:
+    """The request of a row."""
+    number, payload, path, *rest = row
+    return Pending(number, payload, path, row_facts(path, tuple(rest[: len(FACTS)])), row_origin(tuple(rest[len(FACTS) :])))
+
+
+__all__ = ["LOG_BYTES", "Ledger", "Lock", "MemoryLedger", "Pending", "Reply", "Volume", "default_path"]

@@ -1,0 +1,173 @@
+"""What a ledger keeps, as values: volumes, requests, replies, and what distinguishes one volume from another."""
+
+from __future__ import annotations
+
+import os
+from typing import NamedTuple, Optional, Union
+
+from ..protocol import AnyRequest, Append, Create, Kind, Replace, path_of, show
+from ..protocol.units import Address, Commit, Moment, Size
+from ..wire.operations import Deed, Origin, Whole, deed_of
+
+
+class Identity(NamedTuple):
+    """What an image says of itself for its whole life: its label, the moment of its format in microseconds from 1970-01-01 UTC, and
+    its capacity in blocks. A client over a socket does not know it."""
+
+    label: str
+    moment: Moment
+    capacity: int
+
+    def __str__(self) -> str:
+        from ..base.progress import moment
+
+        return f"{self.label!r}, formatted at {moment(self.moment)} (moment {self.moment}), {self.capacity} blocks"
+
+
+class Mark(NamedTuple):
+    """A commit of an image: its number, the address of its VAT ICB, and the SHA-256 of all blocks that it wrote."""
+
+    commit: Commit
+    address: Address
+    check: bytes
+
+    def __str__(self) -> str:
+        return f"commit {self.commit} at block {self.address}, SHA-256 {self.check.hex()[:16]}.."
+
+
+class Volume(NamedTuple):
+    """A volume as the ledger knows it: the way by which it was first met, and `latest`, the number of the last request with a reply.
+
+    `identity` and `mark` are known once it was met as an image. `unsettled` says that a ledger of version 1 had it, which kept one
+    volume that was met by two ways as two.
+    """
+
+    id: int
+    way: Union[str, bytes]
+    latest: int
+    unsettled: bool = False
+    identity: Optional[Identity] = None
+    mark: Optional[Mark] = None
+
+
+class Facts(NamedTuple):
+    """What a request asks for: a deed, the SHA-256 of its data where it has some, and the whole file whose last part or piece it is."""
+
+    deed: Deed
+    sha256: Optional[bytes] = None
+    whole: Optional[Whole] = None
+
+
+class Pending(NamedTuple):
+    """A request without a reply: its number, its payload, the path it speaks of, and what it asks for.
+
+    Where there is an `origin` the payload has no data: what the origin has goes after it, if its digest is that of the facts. An origin
+    without a file (`GIVEN_UP`) says that the data is not looked for any more.
+    """
+
+    number: int
+    payload: bytes
+    path: str
+    facts: Optional[Facts] = None
+    origin: Optional[Origin] = None
+
+
+class Reply(NamedTuple):
+    """A reply that came."""
+
+    number: int
+    code: int
+    commit: Commit
+    confirmed: bool
+
+
+class Sent(NamedTuple):
+    """A request that is kept: its number, its path, what it asked for (None for one that an older program sent), and its reply.
+
+    `code` and `commit` are None while it has none. `confirmed` says that the tree agreed with it.
+    """
+
+    number: int
+    path: str
+    facts: Optional[Facts]
+    code: Optional[int]
+    commit: Optional[Commit]
+    confirmed: bool
+
+
+def facts_of(request: AnyRequest, sha256: Optional[bytes] = None, whole: Optional[Whole] = None) -> Facts:
+    """The facts of a request. The SHA-256 of its data is computed where it is not given."""
+    deed = deed_of(request)
+    if not isinstance(request, (Create, Replace, Append)):
+        return Facts(deed)
+    return Facts(deed, sha256 or digest(request.data), whole)
+
+
+def digest(data: bytes) -> bytes:
+    """The SHA-256 of bytes."""
+    from hashlib import sha256
+
+    return sha256(data).digest()
+
+
+LARGE = 1 << 14
+"""Bytes of data from which on a ledger keeps where the data can be read again, and its digest, in place of the data. To keep it would
+write it twice more, to the ledger's log and to the ledger, which have pages of 4 KiB: from four of them on an import takes a fifth to a
+half longer for that. Less is kept whole, since then a repeat needs no other file."""
+
+GIVEN_UP = Origin("", 0, 0, 0)
+"""The origin of data that was not found, and that no later process finds either."""
+
+ORIGIN = ("origin", "start", "size_then", "modified")
+"""The columns of an origin."""
+
+
+def origin_row(origin: Optional[Origin]) -> "tuple[object, ...]":
+    """The values of these columns."""
+    return (None,) * len(ORIGIN) if origin is None else (os.fsencode(origin.local), *origin[1:])
+
+
+def row_origin(row: "tuple[object, ...]") -> Optional[Origin]:
+    """The origin of these columns."""
+    local, start, size, modified = row
+    if local is None:
+        return None
+    if not (isinstance(local, bytes) and isinstance(start, int) and isinstance(size, int) and isinstance(modified, int)):
+        raise ValueError(f"no origin of data: {row!r}")
+    return Origin(os.fsdecode(local), start, size, modified)
+
+
+FACTS = ("kind", "target", "size", "moment", "sha256", "whole_path", "whole_size", "whole_sha256")
+"""The columns of a request's facts."""
+
+
+def facts_row(facts: Optional[Facts]) -> "tuple[object, ...]":
+    """The values of these columns."""
+    if facts is None:
+        return (None,) * len(FACTS)
+    deed, whole = facts.deed, facts.whole
+    target = show(deed.to) if deed.kind is Kind.RENAME else None
+    wholly = (None, None, None) if whole is None else (show(whole.path), whole.size, whole.sha256)
+    return (int(deed.kind), target, deed.size, deed.moment, facts.sha256, *wholly)
+
+
+def row_facts(path: str, row: "tuple[object, ...]") -> Optional[Facts]:
+    """The facts of a request at a path, from these columns."""
+    kind, target, size, moment, sha256, whole_path, whole_size, whole_sha256 = row
+    if kind is None:
+        return None
+    to = path_of(str(target)) if target is not None else ()
+    whole = None
+    if whole_path is not None:
+        if not (isinstance(whole_size, int) and isinstance(whole_sha256, bytes)):
+            raise ValueError(f"no facts of a file in parts: {row!r}")
+        whole = Whole(path_of(str(whole_path)), Size(whole_size), whole_sha256)
+    if not (isinstance(kind, int) and isinstance(size, int) and isinstance(moment, int) and (sha256 is None or isinstance(sha256, bytes))):
+        raise ValueError(f"no facts of a request: {row!r}")
+    return Facts(Deed(Kind(kind), path_of(path), to, Size(size), Moment(moment)), sha256, whole)
+
+
+__all__ = [
+    "FACTS", "Facts", "GIVEN_UP", "Identity", "LARGE", "Mark", "ORIGIN", "Pending", "Reply", "Sent", "Volume", "digest", "facts_of", "facts_row",
+    "origin_row", "row_facts", "row_origin",
+]

@@ -1,0 +1,141 @@
+"""The tables of a ledger, and how one of an earlier version becomes one of this version."""
+
+from __future__ import annotations
+
+import sqlite3
+
+from ..protocol import Fault, Request, decode_message, limits
+from .records import FACTS, facts_of, facts_row
+
+VERSION = 3
+"""The version of the tables that this program makes."""
+
+APPENDED = 4
+"""The version once an append is kept: the tables are those of version 3, and a program that knows no appends does not open them."""
+
+SCHEMA = """
+CREATE TABLE ledger (version INTEGER NOT NULL, client TEXT NOT NULL);
+CREATE TABLE volume (
+    id INTEGER PRIMARY KEY,
+    way TEXT NOT NULL,
+    latest INTEGER NOT NULL,
+    made REAL NOT NULL,
+    unsettled INTEGER NOT NULL DEFAULT 0,
+    label TEXT,
+    formatted INTEGER,
+    capacity INTEGER,
+    mark_commit INTEGER,
+    mark_address INTEGER,
+    mark_check BLOB
+);
+CREATE TABLE way (way TEXT PRIMARY KEY, volume INTEGER NOT NULL REFERENCES volume (id)) WITHOUT ROWID;
+CREATE TABLE found (
+    volume INTEGER NOT NULL REFERENCES volume (id),
+    number INTEGER NOT NULL,
+    code INTEGER NOT NULL,
+    commit_number INTEGER NOT NULL,
+    PRIMARY KEY (volume, number)
+) WITHOUT ROWID;
+CREATE TABLE request (
+    volume INTEGER NOT NULL REFERENCES volume (id),
+    number INTEGER NOT NULL,
+    path TEXT NOT NULL,
+    code INTEGER,
+    commit_number INTEGER,
+    confirmed INTEGER NOT NULL DEFAULT 0,
+    kind INTEGER,
+    target TEXT,
+    size INTEGER,
+    moment INTEGER,
+    sha256 BLOB,
+    whole_path TEXT,
+    whole_size INTEGER,
+    whole_sha256 BLOB,
+    PRIMARY KEY (volume, number)
+) WITHOUT ROWID;
+CREATE TABLE frame (id INTEGER PRIMARY KEY, payload BLOB NOT NULL, origin BLOB, start INTEGER, size_then INTEGER, modified INTEGER);
+"""
+"""`way` says which volume is at each way; several may lead to one. `found` has the replies that a volume kept when it was first met,
+of requests that this ledger did not send. The four frames of a volume are those of its last four requests. One with an `origin` has no
+data: that local file, of this size and time of modification, has it from its byte `start` on."""
+
+ORIGINS = """
+ALTER TABLE frame ADD COLUMN origin BLOB;
+ALTER TABLE frame ADD COLUMN start INTEGER;
+ALTER TABLE frame ADD COLUMN size_then INTEGER;
+ALTER TABLE frame ADD COLUMN modified INTEGER;
+"""
+"""What makes version 3 of version 2."""
+
+UPGRADE = """
+ALTER TABLE volume ADD COLUMN unsettled INTEGER NOT NULL DEFAULT 0;
+ALTER TABLE volume ADD COLUMN label TEXT;
+ALTER TABLE volume ADD COLUMN formatted INTEGER;
+ALTER TABLE volume ADD COLUMN capacity INTEGER;
+ALTER TABLE volume ADD COLUMN mark_commit INTEGER;
+ALTER TABLE volume ADD COLUMN mark_address INTEGER;
+ALTER TABLE volume ADD COLUMN mark_check BLOB;
+ALTER TABLE request ADD COLUMN kind INTEGER;
+ALTER TABLE request ADD COLUMN target TEXT;
+ALTER TABLE request ADD COLUMN size INTEGER;
+ALTER TABLE request ADD COLUMN moment INTEGER;
+ALTER TABLE request ADD COLUMN sha256 BLOB;
+ALTER TABLE request ADD COLUMN whole_path TEXT;
+ALTER TABLE request ADD COLUMN whole_size INTEGER;
+ALTER TABLE request ADD COLUMN whole_sha256 BLOB;
+CREATE TABLE way (way TEXT PRIMARY KEY, volume INTEGER NOT NULL REFERENCES volume (id)) WITHOUT ROWID;
+CREATE TABLE found (
+    volume INTEGER NOT NULL REFERENCES volume (id),
+    number INTEGER NOT NULL,
+    code INTEGER NOT NULL,
+    commit_number INTEGER NOT NULL,
+    PRIMARY KEY (volume, number)
+) WITHOUT ROWID;
+INSERT INTO way (way, volume) SELECT way, max(id) FROM volume GROUP BY way;
+UPDATE volume SET unsettled = 1;
+"""
+"""What makes version 2 of version 1. There a way was of the volume that was met on it last. Its two tables are in SCHEMA too: these are
+those of version 2, and stay as they are where a later version changes SCHEMA."""
+
+LAST_FRAMES = """
+SELECT volume, number, payload FROM request JOIN frame ON frame.id = volume * 4 + number % 4
+WHERE number > (SELECT max(number) FROM request AS other WHERE other.volume = request.volume) - ?
+"""
+
+
+def statements(script: str) -> "list[str]":
+    """The statements of a script."""
+    return [statement for statement in (part.strip() for part in script.split(";\n")) if statement]
+
+
+def upgrade(base: sqlite3.Connection, version: int) -> None:
+    """Makes a ledger of an earlier version one of this version, all at once or not at all. What the frames of the last four requests say
+    is kept beside them; of older ones version 1 has the path and the reply alone."""
+    base.execute("BEGIN IMMEDIATE")
+    try:
+        if version == 1:
+            for statement in statements(UPGRADE):
+                base.execute(statement)
+            keep_facts(base)
+        for statement in statements(ORIGINS):
+            base.execute(statement)
+        base.execute("UPDATE ledger SET version = ?", (VERSION,))
+        base.execute("COMMIT")
+    finally:
+        if base.in_transaction:
+            base.execute("ROLLBACK")
+
+
+def keep_facts(base: sqlite3.Connection) -> None:
+    """Keeps beside each request what its frame says, where the frame is its own."""
+    setting = ", ".join(f"{name} = ?" for name in FACTS)
+    for volume, number, payload in base.execute(LAST_FRAMES, (limits.REPLIES,)).fetchall():
+        try:
+            message = decode_message(payload)
+        except Fault:
+            continue
+        if isinstance(message, Request) and message.number == number:
+            base.execute(f"UPDATE request SET {setting} WHERE volume = ? AND number = ?", (*facts_row(facts_of(message)), volume, number))
+
+
+__all__ = ["APPENDED", "SCHEMA", "VERSION", "statements", "upgrade"]

@@ -1,0 +1,6 @@
+"""Local files: read as one whole, written whole, and deleted only as they were read.
+
+`sources` reads and deletes them, `saving` writes them, and `not_kept` says what of them a volume does not keep.
+
+Who may use it: every room further up, but not `reader`. What it may use: `ledger`, `wire`, `base` and `protocol`.
+"""

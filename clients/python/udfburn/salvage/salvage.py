@@ -1,0 +1,394 @@
+"""What is given back of a volume: each file, how it was had, and each structure that is not as docs/FORMAT.md has it."""
+
+from __future__ import annotations
+
+import hashlib
+from typing import Dict, FrozenSet, Iterator, List, NamedTuple, Optional, Set, Tuple
+
+from ..base.errors import UdfburnError
+from ..protocol import escaped
+from ..protocol.units import Address, Commit, Size
+from ..reader import Kind, Medium, Note, Volume
+from ..reader.audit import audit
+from ..reader.basics import BLOCK, FILE_BYTES, address_of, blocks_of, crc
+from ..reader.budget import Work
+from ..reader.chain import Chain, Link, Span
+from ..reader.entry import Entry
+from ..reader.notes import Cause
+from ..reader.survey import Survey
+from ..reader.volume import Path
+from .carve import Carver, IsKept
+from .digests import DECLARATION, Digests, Manifest, add_manifests, folder_of, is_manifest
+from .ledger import NOTHING, Kept, Seen, Stored, commits_of
+from .tree import LOST_AND_FOUND, Item, Tree
+from .write import InTheWay, Output, Written
+
+WHOLE, UNPROVED, EARLIER, NAMELESS, DAMAGED, LOST = "whole", "unproved", "earlier", "nameless", "damaged", "lost"
+UNFINISHED = "unfinished"
+STATES = (WHOLE, UNPROVED, EARLIER, NAMELESS, DAMAGED, LOST)
+"""How a file was obtained.
+
+`whole`: its bytes have the digest that the volume or the ledger keeps of them. `unproved`: all its blocks could be read, and no digest
+covers it. `earlier`: its name or its bytes are those of an earlier commit. `nameless`: its bytes could be read, and no name leads to it.
+`damaged`: some of its bytes are wrong or missing. `lost`: there is nothing of it. Beside these, `unfinished` is a file after the last
+VAT ICB, which no state has.
+"""
+
+DAMAGED_SUFFIX = ".damaged"
+
+
+class NothingToSalvage(UdfburnError):
+    """There is no table on the medium that can be read, or none of the commit that was asked for."""
+
+
+class Outcome(NamedTuple):
+    """What was had of a file or a directory.
+
+    `path` has its names on the volume, `written` is its path below the folder (None where nothing was written), `ranges` are the
+    missing bytes, each by the first and the count.
+    """
+
+    path: Path
+    kind: Optional[Kind]
+    state: str
+    size: int
+    commit: Optional[Span]
+    ranges: Tuple[Tuple[int, int], ...]
+    why: str
+    written: Optional[str]
+
+
+class Bytes(NamedTuple):
+    """The bytes of a file, with zeros where they are missing, and why they are not certain."""
+
+    data: bytes
+    ranges: Tuple[Tuple[int, int], ...]
+    why: str
+
+
+class Salvage:
+    """As much of a volume as can be read. Nothing is written to it."""
+
+    def __init__(self, medium: Medium, commit: Optional[Commit] = None, ledger: Optional[str] = None):
+        self.medium = medium
+        self.volume = Volume(medium)
+        self.chain = Chain(self.volume, Survey(self.volume))
+        self.index = self._index(commit)
+        self.digests = Digests()
+        audit(self.chain, self.index)
+        self.tree = Tree(self.chain, self.index)
+        self._stored: Kept = NOTHING
+        self._carver = Carver(self.chain)
+        self._digests_met: Set[str] = set()
+        self._manifests: Dict[Path, FrozenSet[Optional[Path]]] = {}
+        self._whole: Set[Optional[Path]] = set()
+        self._is_hurt = False
+        if ledger is not None:
+            self._stored = commits_of(ledger, self.volume, self._seen())
+        self._add_manifests()
+
+    @property
+    def link(self) -> Link:
+        """The table of the state that is given back."""
+        return self.chain.links[self.index]
+
+    @property
+    def notes(self) -> List[Note]:
+        """What is not as docs/FORMAT.md has it, by the addresses of blocks."""
+        return sorted(self.volume.notes.all())
+
+    def paths(self) -> Dict[Address, str]:
+        """The paths of nodes, by the addresses of their entries."""
+        return {item.version.address: "/" + "/".join(item.path) for item in self.tree.items if item.version is not None}
+
+    def missing(self) -> List[Commit]:
+        """The commits that were acknowledged to the ledger and that come after the newest table."""
+        return sorted(commit for commit in self._stored.commits if self.index == 0 and commit > self.link.numbers.high)
+
+    def stored(self, commit: Commit) -> Optional[Stored]:
+        """What the ledger stored by a commit."""
+        return self._stored.files.get(commit)
+
+    def _index(self, commit: Optional[Commit]) -> int:
+        if not self.chain.links:
+            raise NothingToSalvage(f"{self.medium.path}: no table of a volume can be read")
+        index = 0 if commit is None else self.chain.index_of(commit)
+        if index is None:
+            links = self.chain.links
+            may_be = [link for link in links if commit is not None and link.numbers.low <= commit <= link.numbers.high]
+            why = "; it may be one of several, of which it is not known which is whose" if may_be else ""
+            raise NothingToSalvage(
+                f"{self.medium.path}: no table of commit {commit} can be read; there are {len(links)}, from {links[-1].numbers} to {links[0].numbers}{why}"
+            )
+        return index
+
+    def _add_manifests(self) -> None:
+        found: List[Manifest] = []
+        files = {item.path: item for item in self.tree.items if item.kind is Kind.FILE and item.version is not None}
+        bags = {path[:-1] for path in files if path[-1] == DECLARATION}
+        for path, item in files.items():
+            is_nameless = path[0] == LOST_AND_FOUND and bool(item.why)
+            if (is_nameless or is_manifest(path[-1])) and item.version is not None:
+                read, digest = self.bytes_of(item.version.entry), hashlib.sha256
+                folder = folder_of(read.data, files) if is_nameless else path[:-1]
+                if folder is not None:
+                    found.append(Manifest(path, folder, read.data, digest(read.data).hexdigest(), bool(read.why), item.version.address))
+        self._manifests = add_manifests(self.digests, found, bags)
+
+    def _seen(self) -> Iterator[Seen]:
+        """Each file that was found."""
+        for item in self.tree.items:
+            seen = self._seen_as(item, item.version.address if item.version is not None else None)
+            if item.entry is not None and seen is not None and item.kind is Kind.FILE:
+                yield seen
+
+    def _seen_as(self, item: Item, address: Optional[Address]) -> Optional[Seen]:
+        """What is known of the file whose entry is at an address; None where it is of no commit."""
+        commits = self.chain.commit_of(address) if address is not None else None
+        entry = item.entry
+        if commits is None:
+            return None
+        return Seen(commits, entry.size if entry is not None else Size(-1), entry.moment if entry is not None else None)
+
+    # ---- digests
+
+    def agrees(self, item: Item, data: bytes) -> Tuple[Optional[bool], str]:
+        """Whether bytes have the digest that is kept of a file (None where none is), and their digest, where one is asked for."""
+        if not self._stored and not len(self.digests):
+            return None, ""
+        digest = hashlib.sha256(data).hexdigest()
+        address = item.version.address if item.version is not None else self.tree.address(item)
+        seen = self._seen_as(item, address)
+        agrees = self._stored.agrees(seen, item.path, digest) if seen is not None else None
+        return (agrees if agrees is not None else self.digests.agrees(item.path, digest, address or Address(0))), digest
+
+    def _carved(self, item: Item) -> Optional[bytes]:
+        """The newest bytes of a file whose newest entry is lost, where a digest of them is kept."""
+        address = self.tree.address(item)
+        is_lost = item.version is None or item.version.commit is not None or is_carved(item.version.entry)
+        if address is None or not is_lost or item.is_unfinished:
+            return None
+        commits = self.chain.commit_of(address)
+        stored = self._stored.files.get(commits.commit) if commits is not None and commits.commit is not None else None
+        if stored is not None:
+            kept = stored.digest
+            return self._appended(item, address, lambda digest: digest == kept) or self._carver.find(address, lambda digest: digest == kept)
+        if item.kind is None:
+            return self._carver.find(address, lambda digest: self.digests.path_of(digest) is not None)
+        if not self.digests.has(item.path):
+            return None
+
+        def is_known(digest: str) -> bool:
+            return self.digests.is_known(item.path, digest)
+
+        return self._appended(item, address, is_known) or self._carver.find(address, is_known)
+
+    def _appended(self, item: Item, address: Address, is_kept: IsKept) -> Optional[bytes]:
+        """The bytes of a file whose newest entry is lost, where the one before it has all of its extents but the last."""
+        entry = item.entry
+        if entry is None or item.version is None or item.version.commit is None or not entry.size or entry.size % FILE_BYTES:
+            return None
+        before = self.bytes_of(entry)
+        return self._carver.find(address, is_kept, before.data) if not before.why else None
+
+    # ---- files
+
+    def bytes_of(self, entry: Entry) -> Bytes:
+        """The bytes of a file."""
+        doubt = "" if entry.proved else "its entry has a wrong byte, which may be one of its own"
+        if is_carved(entry):
+            doubt = "its entry is lost, and how many bytes it has is not known"
+        if entry.inside is not None:
+            return Bytes(entry.inside, (), doubt)
+        if entry.first is None:
+            return Bytes(b"", (), doubt)
+        ranges, pieces = [], []
+        for index, extent in enumerate(entry.extents):
+            start = address_of(extent.first)
+            run = self.medium.run(start, blocks_of(extent.size))
+            for at in run.missing:
+                begin = (at - start) * BLOCK
+                ranges.append((FILE_BYTES * index + begin, min(BLOCK, extent.size - begin)))
+                self.volume.notes.add(at, Cause.MISSING, "a block of a file cannot be read")
+            if not run.missing and any(run.data[extent.size :]):
+                self.volume.notes.add(Address(address_of(extent.end) - 1), Cause.TAIL, "a byte after the bytes of a file is not zero")
+            pieces.append(run.data[: extent.size])
+        data = pieces[0] if len(pieces) == 1 else b"".join(pieces)
+        return Bytes(data, joined(ranges), "blocks of it cannot be read" if ranges else doubt)
+
+    def judged(self, item: Item) -> Tuple[Outcome, bytes]:
+        """What was had of a file, and its bytes."""
+        carved = self._carved(item)
+        if carved is not None:
+            return self._found(item, carved), carved
+        entry = item.entry
+        if entry is None:
+            return Outcome(item.path, item.kind, LOST, 0, None, (), item.why, None), b""
+        read = self.bytes_of(entry)
+        data = self._mended(item, entry, read.data)
+        agrees, digest = self.agrees(item, data)
+        state, why = self._state(item, read, agrees)
+        if state == NAMELESS:
+            why += self._called(digest)
+        self._digests_met.add(digest)
+        ranges = read.ranges if state == DAMAGED else ()
+        return Outcome(item.path, item.kind, state, len(data), item.commit, ranges, why, None), data
+
+    def _found(self, item: Item, data: bytes) -> Outcome:
+        """A file whose entry is lost, and whose bytes have the digest that is kept of it."""
+        digest = hashlib.sha256(data).hexdigest()
+        self._digests_met.add(digest)
+        if item.kind is None:
+            return Outcome(item.path, Kind.FILE, NAMELESS, len(data), None, (), "no name leads to it, and its entry is lost" + self._called(digest), None)
+        is_listed = item.version is not None and item.commit == item.version.commit or item.commit is None
+        state = WHOLE if is_listed else EARLIER
+        return Outcome(item.path, Kind.FILE, state, len(data), item.commit if state == EARLIER else None, (), "", None)
+
+    def _called(self, digest: str) -> str:
+        """What a manifest says of the path of a file without a name."""
+        known = self.digests.path_of(digest) if digest else None
+        return f"; it has the digest that is kept of /{'/'.join(known)}" if known is not None else ""
+
+    def _state(self, item: Item, read: Bytes, agrees: Optional[bool]) -> Tuple[str, str]:
+        """How a file was had, and why it is not whole."""
+        if read.why and not agrees:
+            return DAMAGED, read.why
+        if item.is_unfinished:
+            return UNFINISHED, item.why
+        if item.commit is not None:
+            return EARLIER, item.why or f"as of commit {item.commit}"
+        if item.why:
+            return NAMELESS, item.why
+        if agrees is False:
+            return DAMAGED, "its bytes do not have the digest that is kept of them"
+        return WHOLE if agrees else UNPROVED, item.why
+
+    def _mended(self, item: Item, entry: Entry, data: bytes) -> bytes:
+        """The bytes of a file inside an entry with a wrong byte, where one bit leads to the digest that is kept; else as read."""
+        if entry.proved or entry.inside is None or self.agrees(item, data)[0] is None:
+            return data
+        if not self.volume.budget.take(Work.FLIPS):
+            return data
+        for other in flips(self.medium, item, entry):
+            if self.agrees(item, other)[0]:
+                return other
+        return data
+
+    def outcomes(self, output: Optional[Output]) -> Iterator[Outcome]:
+        """Each file, and each directory that is not whole. With an output each is written there."""
+        waiting: Dict[int, Outcome] = {}
+        last: List[int] = []
+        nameless: List[Outcome] = []
+        for key, item in enumerate(self.tree.items):
+            if item.kind is Kind.DIRECTORY:
+                yield from self._directory(item, output, tail_of(item))
+            elif item.path in self._manifests:
+                # Whether it is whole is known once the files are that it lists.
+                last.append(key)
+            elif item.kind is None and item.version is None:
+                # It may be one that a manifest has.
+                nameless += self._file(key, item, output, waiting)
+            else:
+                yield from self._file(key, item, output, waiting)
+        for key in last:
+            yield from self._file(key, self.tree.items[key], output, waiting)
+        if output is not None:
+            yield from settled(waiting, output.finish())
+        unmet = list(self._unmet()) if self._is_hurt else []
+        lost = [outcome for outcome in nameless if outcome.state == LOST]
+        yield from (outcome for outcome in nameless if outcome.state != LOST)
+        yield from unmet
+        # Those that a manifest has are counted once.
+        yield from lost[len(unmet) :]
+
+    def _file(self, key: int, item: Item, output: Optional[Output], waiting: Dict[int, Outcome]) -> Iterator[Outcome]:
+        """A file, and those that got their names meanwhile."""
+        outcome, data = self.judged(item)
+        if outcome.state == WHOLE:
+            self._whole.add(item.path)
+        elif outcome.state == UNPROVED and self._manifests.get(item.path, frozenset([None])) <= self._whole:
+            outcome = outcome._replace(state=WHOLE)
+        self._is_hurt |= outcome.state in (LOST, NAMELESS)
+        if output is None or outcome.state == LOST:
+            yield outcome
+            return
+        waiting[key] = outcome
+        moment = item.entry.moment if item.entry is not None else None
+        yield from settled(waiting, output.write(key, target_of(item, outcome), data, moment, tail_of(item)))
+
+    def _unmet(self) -> Iterator[Outcome]:
+        """Files that a manifest has and that were not met, where nodes without a name were: it is not known which these are."""
+        met = {item.path for item in self.tree.items}
+        for path in self.digests.paths():
+            if path not in met and not self.digests.digests_of(path) & self._digests_met:
+                yield Outcome(path, Kind.FILE, LOST, 0, None, (), "a manifest has it, and nothing of it was found", None)
+
+    def _directory(self, item: Item, output: Optional[Output], tail: str) -> Iterator[Outcome]:
+        written = None
+        if output is not None and item.kind is Kind.DIRECTORY:
+            try:
+                written = output.folder(item.target, item.entry.moment if item.entry is not None else None, tail)
+            except InTheWay as error:
+                yield Outcome(item.path, item.kind, UNPROVED, 0, item.commit, (), str(error), None)
+                return
+        if item.entry is None:
+            yield Outcome(item.path, item.kind, LOST, 0, None, (), item.why, written)
+        elif item.commit is not None or item.why:
+            state = EARLIER if item.commit is not None else UNPROVED
+            yield Outcome(item.path, item.kind, state, 0, item.commit, (), item.why or f"as of commit {item.commit}", written)
+
+
+def tail_of(item: Item) -> str:
+    """What distinguishes a node from another of the same name."""
+    return str(item.entry.unique) if item.entry is not None else str(item.virtual)
+
+
+def target_of(item: Item, outcome: Outcome) -> Path:
+    """The names that a file is written under."""
+    if outcome.state == DAMAGED:
+        return item.target[:-1] + (item.target[-1] + DAMAGED_SUFFIX,)
+    if outcome.state == WHOLE:
+        return item.target[:-1] + (item.path[-1],)
+    return item.target
+
+
+def is_carved(entry: Entry) -> bool:
+    """Whether an entry is lost, and was made of the blocks before it."""
+    return not entry.proved and not entry.check
+
+
+def flips(medium: Medium, item: Item, entry: Entry) -> Iterator[bytes]:
+    """The bytes inside an entry with one bit changed, where its check agrees then."""
+    block = medium.block(item.version.address) if item.version is not None else None
+    if block is None or entry.inside is None:
+        return
+    body = bytearray(block[16 : 176 + entry.size])
+    for bit in range(160 * 8, len(body) * 8):
+        body[bit // 8] ^= 1 << bit % 8
+        if crc(body) == entry.check:
+            yield bytes(body[160:])
+        body[bit // 8] ^= 1 << bit % 8
+
+
+def settled(waiting: Dict[int, Outcome], done: List[Written]) -> Iterator[Outcome]:
+    """The outcomes of files that were written."""
+    for key, path, error in done:
+        outcome = waiting.pop(key)
+        if error is None:
+            yield outcome._replace(written=path)
+        else:
+            yield outcome._replace(why=f"{outcome.why}; {escaped(path)} {error}".lstrip("; "))
+
+
+def joined(ranges: List[Tuple[int, int]]) -> Tuple[Tuple[int, int], ...]:
+    """Ranges in order, those that touch as one."""
+    found: List[Tuple[int, int]] = []
+    for begin, count in ranges:
+        if found and sum(found[-1]) == begin:
+            found[-1] = (found[-1][0], found[-1][1] + count)
+        else:
+            found.append((begin, count))
+    return tuple(found)
+
+
+__all__ = ["DAMAGED", "EARLIER", "LOST", "NAMELESS", "NothingToSalvage", "Outcome", "STATES", "Salvage", "UNFINISHED", "UNPROVED", "WHOLE"]

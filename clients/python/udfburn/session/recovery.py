@@ -1,0 +1,190 @@
+"""What the ledger has pending: sent again, one by one, until each request has its reply and the tree agrees with it."""
+
+from __future__ import annotations
+
+from typing import Dict, Iterable, List, Optional, Tuple
+
+from ..base.errors import DAMAGE, ClientsFull, Damaged, ForeignReply, Full, NotCommitted, NumberUsedElsewhere, Rejected
+from ..ledger.ledger import Ledger
+from ..ledger.records import GIVEN_UP, Pending, Reply, Volume, digest
+from ..local.sources import data_again
+from ..protocol import (
+    CLIENTS_FULL, DAMAGED, FAULT, FULL, MEMORY, Answer, BadAnswer, Code, Committed, Gap, Malformed, Path, Remove, Stale, Stat, decode_message,
+    encode_message, frame, limits, printed,
+)
+from ..protocol.units import Moment
+from ..wire.connection import Connection, Lost
+from ..wire.operations import Deed, after_all, deed_of
+from ..wire.retrying import RetryingConnection
+from .conversation import Conversation
+from .in_flight import InFlightRequest
+
+Done = Dict[int, Tuple[Deed, Committed]]
+"""What was done of pending requests, by their numbers."""
+
+
+class Recovery:
+    """Requests without a reply, whose conversation was lost or whose process has ended."""
+
+    def __init__(self, line: RetryingConnection, ledger: Ledger, conversation: Conversation):
+        self.line = line
+        self.ledger = ledger
+        self.conversation = conversation
+        self.payloads: Dict[int, bytes] = {}
+        """The payloads of requests without a reply of which the ledger has no data, by their numbers."""
+        self.not_stored: Dict[int, str] = {}
+        """The paths of requests that were not committed before their data was gone, by their numbers."""
+
+    def _volume(self) -> Volume:
+        return self.conversation.volume()
+
+    def forget(self) -> List[str]:
+        """Drops what is pending at this endpoint, and asks again which number the volume knows; returns the dropped paths."""
+        known = self.ledger.volume(self.conversation.key)
+        waiting = self.ledger.pending(known) if known else []
+        self.payloads.clear()
+        self.conversation.anew()
+        # Not before, since where the volume cannot be asked nobody would learn what was dropped.
+        if known and known.id != self._volume().id:
+            self.ledger.withdraw(known)
+        return [pending.path for pending in waiting]
+
+    def sent(self, requests: Iterable[InFlightRequest]) -> None:
+        """Keeps the payloads of requests that are about to be sent, as far as the ledger has them not."""
+        self.payloads.update({request.number(): request.payload for request in requests if request.pending.origin is not None})
+
+    def replied(self, requests: Iterable[InFlightRequest]) -> None:
+        """Drops the payloads of requests whose replies are in the ledger."""
+        for request in requests:
+            self.payloads.pop(request.number(), None)
+
+    def run(self) -> Dict[int, Committed]:
+        """Sends again what has no reply, one by one, and gives the replies by number. They are in the ledger then, and
+        the tree agrees with them."""
+        try:
+            return self._run()
+        except BaseException:
+            # Whoever is interrupted has an answer to come, which is none to what is asked next.
+            self.line.drop()
+            raise
+
+    def _run(self) -> Dict[int, Committed]:
+        known = self.ledger.volume(self.conversation.key)
+        if known is None or not self.ledger.pending(known):
+            return {}
+        done: Done = {}
+        while True:
+            try:
+                connection = self.line.get()
+                waiting = self.ledger.pending(self._volume())
+                if waiting:
+                    self._repeat(connection, waiting[0], done)
+                    continue
+                self._confirm(connection, done)
+                return {number: reply for number, (_, reply) in done.items()}
+            except Lost as lost:
+                self.line.lost(str(lost))
+            except NotCommitted as error:
+                error.replies = self._confirmed_despite(done)
+                raise
+
+    def _repeat(self, connection: Connection, waiting: Pending, done: Done) -> None:
+        """Sends a request again, and keeps its reply. One whose data is gone is never sent: a removal of the root takes its number, which
+        changes nothing. Where the volume has the request already the reply is that of the request."""
+        payload = self._payload(waiting)
+        if payload is None:
+            self._give_up(waiting)
+        connection.send(frame(payload or encode_message(Remove(self.ledger.client, waiting.number, Moment(0), ()))))
+        answer = connection.answer()
+        if self.line.troubled(answer):
+            return
+        if isinstance(answer, Committed):
+            self.conversation.check_commit(answer)
+            self.ledger.record(self._volume(), [Reply(waiting.number, answer.code, answer.commit, False)], [])
+            self.payloads.pop(waiting.number, None)
+            self.line.patience.progress()
+            if payload is None and answer.code is Code.ROOT:
+                self.not_stored[waiting.number] = waiting.path
+            done[waiting.number] = deed_in(waiting), answer
+            return
+        self._not_committed(answer, waiting)
+
+    def _payload(self, waiting: Pending) -> Optional[bytes]:
+        """The payload of a request, byte for byte as it was sent; None where its data is gone, or is other data by now."""
+        if waiting.origin is None:
+            return waiting.payload
+        facts = waiting.facts
+        if facts is None or facts.sha256 is None:
+            raise RuntimeError(f"the ledger has no digest of the data of request {waiting.number}")
+        sent = self.payloads.get(waiting.number, b"")
+        if sent.startswith(waiting.payload) and digest(sent[len(waiting.payload) :]) == facts.sha256:
+            return sent
+        data = data_again(waiting.origin, facts.deed.data_size(), facts.sha256) if waiting.origin != GIVEN_UP else None
+        return None if data is None else waiting.payload + data
+
+    def _give_up(self, waiting: Pending) -> None:
+        """Gives up the data of a request and, since the file is not the one that was stored, of those after it from the same file: else
+        a file in parts would lack one in its middle."""
+        same = [other for other in self.ledger.pending(self._volume()) if other.origin is not None and waiting.origin is not None
+                and other.origin.local == waiting.origin.local]
+        self.ledger.give_up(self._volume(), same)
+
+    def _not_committed(self, answer: Answer, waiting: Pending) -> None:
+        """Raises what an answer means that is no reply. What is known to be committed never gives its number back."""
+        if answer == DAMAGED:
+            raise Damaged(DAMAGE)
+        if isinstance(answer, (Gap, Stale)):
+            raise NumberUsedElsewhere(
+                f"number {waiting.number} of client {self.ledger.client} is not its next one, the volume knows {answer.latest}:"
+                " another ledger with the same client is in use. Use a new ledger with a client of its own (--ledger FILE)"
+            )
+        if answer not in (FULL, CLIENTS_FULL) and not isinstance(answer, Malformed):
+            raise BadAnswer(f"{answer!r} is no answer to a request")
+        gone = ", ".join(pending.path for pending in self.ledger.withdraw(self._volume()))
+        if isinstance(answer, Malformed):
+            raise Rejected(f"{waiting.path}: the program calls the request malformed, {int(answer.cause)} {answer.cause.name}")
+        if answer == FULL:
+            raise Full(f"the medium has no room for {waiting.path}, and nothing was written of it (not stored: {gone})."
+                       " Smaller files may still fit; otherwise use another image")
+        raise ClientsFull(
+            f"the volume has its {limits.CLIENTS} clients, which it keeps for its life: use the ledger of a client that it knows"
+            " (--ledger FILE, or --client with a new ledger if the old one is lost), or another image"
+        )
+
+    def _confirm(self, connection: Connection, done: Done) -> None:
+        """Sees that the tree has what replies say that came after a lost conversation."""
+        wanted = after_all([(deed, reply.code) for deed, reply in done.values()])
+        for path, expected in wanted.items():
+            connection.send(frame(encode_message(Stat(path))))
+            answer = connection.answer()
+            if answer in (FAULT, MEMORY):
+                raise Lost("the program failed")
+            if not expected.agrees(answer):
+                raise self.foreign(path, answer)
+        self.ledger.confirm(self._volume(), done)
+
+    def _confirmed_despite(self, done: Done) -> Dict[int, Committed]:
+        """The replies that came before a request which was not committed, where the tree agrees with them."""
+        while True:
+            try:
+                self._confirm(self.line.get(), done)
+                return {number: reply for number, (_, reply) in done.items()}
+            except Lost as lost:
+                self.line.lost(str(lost))
+
+    def foreign(self, path: Path, answer: Answer) -> ForeignReply:
+        return ForeignReply(
+            f"{printed(path)}: a reply says what the tree does not have ({answer!r}): it is the reply of another ledger with"
+            f" client {self.ledger.client}, or somebody else has changed the path since. Nothing local was deleted because of it."
+            " Compare with 'verify'; if another ledger has this client, use a new one (--ledger FILE)"
+        )
+
+
+def deed_in(waiting: Pending) -> Deed:
+    """What a request does that has no reply yet."""
+    if waiting.facts is not None:
+        return waiting.facts.deed
+    return deed_of(decode_message(waiting.payload))  # type: ignore[arg-type]
+
+
+__all__ = ["Recovery"]

@@ -1,0 +1,136 @@
+"""Local files and folders, compared with what is stored."""
+
+from __future__ import annotations
+
+from contextlib import closing
+from typing import TYPE_CHECKING, Callable, Dict, List, Optional, Set, Tuple
+
+from ..base.errors import IsDirectory, NotFound, SourceError
+from ..base.split import base_of, part_folders, stays_in_parts, stored_paths
+from ..base.unfinished import is_unfinished
+from ..local.sources import Scan, Source, scan
+from ..protocol import Node, NodeKind, Path, Stat, limits, printed, show
+from ..wire.pieces import queries_of
+from .jobs import same_bytes
+from .stored import find_file
+from .walk import Told, quiet, walk
+
+if TYPE_CHECKING:
+    from .client import Client
+
+
+class Comparison:
+    """What a folder and a directory have in common, where they differ, by path and how, and what was left out."""
+
+    def __init__(self, differences: List[Tuple[str, str]]):
+        self.files = self.bytes = self.folders = 0
+        self.differences = differences
+        self.extra: List[str] = []
+        self.skipped: List[str] = []
+
+
+def verify_tree(
+    client: Client, local: str, path: Path, split: bool = False, skip_odd: bool = False, told: Told = quiet, escape: bool = False,
+    begin: Callable[[int, int], None] = lambda files, size: None,
+) -> Comparison:
+    """Compares a local file or folder with what is stored: that all that is here is there, with the same bytes."""
+    found = Scan()
+    scan(local, path, True, skip_odd, found, escape)
+    result = Comparison(differences=[(fault, "cannot be stored") for fault in found.faults])
+    result.skipped = found.skipped
+    with client.held():
+        kinds = look_below(client, path, bool(found.folders))
+        wanted = {folder.path for folder in found.folders}
+        for folder in found.folders:
+            compare_kind(show(folder.path), kinds.get(folder.path), NodeKind.DIRECTORY, result)
+        there: List[Source] = []
+        parts = {file.path for file in found.files if split and stays_in_parts(file.path, file.identity.size, kinds)}
+        for source in found.files:
+            paths = stored_paths(source.path, source.identity.size, source.path in parts)
+            wanted.update(paths, part_folders(source.path, source.identity.size, source.path in parts))
+            if all([compare_kind(show(part), kinds.get(part), NodeKind.FILE, result) for part in paths]):
+                there.append(source)
+        begin(len(there), sum(source.identity.size for source in there))
+        same = compare_files(client, there, parts, result, told)
+        for source in same:
+            if source.path in parts:
+                compare_parts(client, source, result)
+    result.folders = len(found.folders)
+    result.extra = sorted(show(extra) for extra in kinds if extra not in wanted and len(extra) > len(path) and not is_unfinished(extra))
+    return result
+
+
+def look_below(client: Client, path: Path, folder: bool) -> Dict[Path, NodeKind]:
+    """The kinds of a path and of all below it; of a file's parts too."""
+    kinds: Dict[Path, NodeKind] = {}
+    node = client.find(path)
+    if node is not None:
+        kinds[path] = node.kind
+    if folder and node is not None and node.kind is NodeKind.DIRECTORY:
+        for at, names in walk(client, path):
+            kinds.update({at + (name.name,): name.kind for name in names})
+    elif not folder and path and client.find(path[:-1]) is not None:
+        kinds.update({path[:-1] + (name.name,): name.kind for name in client.list(path[:-1]) if name.name.startswith(path[-1] + ".")})
+        if kinds.get(base_of(path)) is NodeKind.DIRECTORY:
+            for at, names in walk(client, base_of(path)):
+                kinds.update({at + (name.name,): name.kind for name in names})
+    return kinds
+
+
+def compare_kind(path: str, kind: Optional[NodeKind], wanted: NodeKind, result: Comparison) -> bool:
+    """Whether a path has the kind that it should have; else that is a difference."""
+    if kind is wanted:
+        return True
+    words = {None: "is not there", NodeKind.FILE: "is a file there", NodeKind.DIRECTORY: "is a directory there"}
+    result.differences.append((path, words[kind]))
+    return False
+
+
+def compare_parts(client: Client, source: Source, result: Comparison) -> None:
+    """Compares the parts of a file with those that are read as one file: an earlier, longer one may have left more, or a whole one."""
+    paths = stored_paths(source.path, source.identity.size, True)
+    if len(paths) == 1:
+        return
+    try:
+        others = [part for part in find_file(client, source.path, True).parts if part not in paths]
+    except (IsDirectory, NotFound):
+        result.differences.append((show(source.path), "is there in parts, but with --split they are not read as one file"))
+        return
+    if others:
+        result.differences.append((show(source.path), f"is there, but with --split {printed(others[0])} is read as a part of it"))
+
+
+def of_other_size(client: Client, sources: List[Source], parts: Set[Path]) -> Set[Path]:
+    """The files of more than a mebibyte that have another size on the volume: they are read piece by piece, as far as the local ones go."""
+    large = [source for source in sources if source.path not in parts and source.identity.size > limits.FILE]
+    with closing(client.ask_all(Stat(source.path) for source in large)) as answers:
+        return {source.path for source, node in zip(large, answers) if not isinstance(node, Node) or node.size != source.identity.size}
+
+
+def compare_files(client: Client, sources: List[Source], parts: Set[Path], result: Comparison, told: Told) -> List[Source]:
+    """Compares the bytes of local files with those that are stored, of which these are in parts. Gives those with the same bytes."""
+    equal: List[Source] = []
+    others = of_other_size(client, sources, parts)
+    asked = [
+        [] if source.path in others else queries_of(stored_paths(source.path, source.identity.size, source.path in parts), source.identity.size)
+        for source in sources
+    ]
+    with closing(client.ask_all(query for queries in asked for query in queries)) as answers:
+        for source, count in zip(sources, map(len, asked)):
+            try:
+                same = same_bytes(source, count, answers)
+            except SourceError as error:
+                result.differences.append((show(source.path), str(error)))
+                continue
+            same = same and source.path not in others
+            result.files += 1
+            result.bytes += source.identity.size
+            told("same" if same else "differs", source.path, source.identity.size, 0)
+            if same:
+                equal.append(source)
+            else:
+                result.differences.append((show(source.path), "has other bytes there"))
+    return equal
+
+
+__all__ = ["Comparison", "verify_tree"]

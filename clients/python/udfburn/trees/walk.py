@@ -1,0 +1,75 @@
+"""The volume's tree: walked, looked at, removed."""
+
+from __future__ import annotations
+
+from typing import TYPE_CHECKING, Callable, Iterable, Iterator, List, Tuple
+
+from ..protocol import Code, List as ListQuery, Name, Names, Node, NodeKind, Path, Remove, Stat
+from ..wire.operations import Operation, now
+from ..wire.refusals import expected, refusal
+from .preflight import Present
+
+if TYPE_CHECKING:
+    from .client import Client
+
+Told = Callable[[str, Path, int, int], None]
+"""Is called for each step: what was done, the path, its bytes, its commit."""
+
+
+def quiet(*_: object) -> None:
+    """Does nothing."""
+
+
+def walk(client: Client, path: Path) -> Iterator[Tuple[Path, Tuple[Name, ...]]]:
+    """Each directory from a path on, with its names in stored order: level by level."""
+    level = [path]
+    with client.held():
+        while level:
+            below: List[Path] = []
+            # All answers of a level are taken first, since whoever walks asks for more between.
+            for at, answer in zip(level, list(client.ask_all(ListQuery(at) for at in level))):
+                names = expected(Names, ListQuery(at), answer).names
+                yield at, names
+                below += [at + (name.name,) for name in names if name.kind is NodeKind.DIRECTORY]
+            level = below
+
+
+def look(client: Client, paths: Iterable[Path], whole: bool) -> Present:
+    """What the volume has at paths and above them; or all that it has."""
+    present = Present(whole=whole)
+    present.add((), NodeKind.DIRECTORY)
+    if whole:
+        for at, names in walk(client, ()):
+            present.names[at] = [name.name for name in names]
+            for name in names:
+                present.add(at + (name.name,), name.kind)
+        return present
+    asked = sorted({path[:depth] for path in paths for depth in range(1, len(path) + 1)})
+    for answer, path in zip(client.ask_all(map(Stat, asked)), asked):
+        if isinstance(answer, Node):
+            present.add(path, answer.kind)
+    return present
+
+
+def remove_tree(client: Client, path: Path, told: Told = quiet) -> int:
+    """Removes a directory with all below it, from the leaves up; the root itself stays. Gives how many went."""
+    with client.held():
+        found: List[Tuple[Path, NodeKind]] = []
+        for at, names in walk(client, path):
+            found += [(at + (name.name,), name.kind) for name in names]
+        order = sorted(found, key=lambda node: -len(node[0])) + ([(path, NodeKind.DIRECTORY)] if path else [])
+        return remove_paths(client, [at for at, _ in order], told)
+
+
+def remove_paths(client: Client, paths: Iterable[Path], told: Told = quiet) -> int:
+    """Removes files and empty directories in this order. Gives how many went; one that is gone already is as good."""
+    count = 0
+    for outcome in client.run(Operation(Remove, path, now()) for path in paths):
+        if outcome.code not in (Code.DONE, Code.NOT_FOUND):
+            raise refusal(outcome)
+        told("removed", outcome.operation.path, 0, outcome.commit)
+        count += 1
+    return count
+
+
+__all__ = ["Told", "look", "quiet", "remove_paths", "remove_tree", "walk"]

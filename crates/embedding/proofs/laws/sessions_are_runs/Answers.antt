@@ -1,0 +1,5 @@
+use Rattle.embedding.proofs.SessionRuns.{sessions_are_runs}
+use Rattle.embedding.proofs.laws.sessions_are_runs.Goals as goal
+
+pub returns : goal.returns
+returns c = sessions_are_runs

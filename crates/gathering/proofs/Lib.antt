@@ -1,0 +1,9 @@
+pub mod Marks
+pub mod Phases
+pub mod Beside
+pub mod Entries
+pub mod Nodes
+pub mod Reached
+pub mod After
+pub mod Past
+pub mod Choice
