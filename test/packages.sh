@@ -31,7 +31,7 @@ case $1 in
         shift
         for tool in gcc:gcc g++:g++ clang:clang valgrind:valgrind python3:python3 rsync:rsync mandoc:mandoc strace:strace lintian:lintian pkg-config:pkgconf strip:binutils mypy:mypy pyflakes3:pyflakes3 shellcheck:shellcheck systemd-analyze:systemd udfclient:udfclient \
             udfinfo:udftools ddrescue:gddrescue par2:par2 dvdisaster:dvdisaster blkid:util-linux mkfs.ext4:e2fsprogs mkfs.xfs:xfsprogs mkfs.btrfs:btrfs-progs mount:mount rclone:rclone \
-            pg_ctlcluster:postgresql qemu-system-x86_64:qemu-system-x86 chromium:chromium xorriso:xorriso register-python-argcomplete:python3-argcomplete zsh:zsh fusermount3:fuse3; do
+            pg_ctlcluster:postgresql qemu-system-x86_64:qemu-system-x86 chromium:chromium xorriso:xorriso register-python-argcomplete:python3-argcomplete zsh:zsh fusermount3:fuse3 promtool:prometheus; do
             command -v "${tool%:*}" > /dev/null || set -- "$@" "${tool#*:}"
         done
         [ -e /usr/include/stdio.h ] || set -- "$@" libc6-dev
