@@ -1,6 +1,6 @@
 -- What becomes of a new request, by where its commit ends.
 use Rattle.std.proofs.Common.{◌≡◌, ◌⊎◌, inl, inr, ℕ, ◌+◌, ◌<◌, ◌≤◌, true, List, [], ◌∷◌, ◌++◌, length, refl, sym, ap, subst, ◌∙◌, arith, append_assoc, append-nil}
-use Rattle.std.specs.Prelude.{Result, Ok, Err, IfOk, IfErr, is_err}
+use Rattle.std.specs.Prelude.{Result, Ok, Err, IfOk, IfErr, OnOk, is_err}
 use Rattle.std.proofs.lemmas.Bool.{false≢true}
 use Rattle.std.proofs.lemmas.List.{take_all}
 use Rattle.drive.specs.Journal.{AddsPrefix, Event, held, next_of, written}
@@ -32,7 +32,7 @@ use Rattle.planning.specs.declared.plan.Plan.{Plan}
 use Rattle.store.specs.declared.store.Store.{Store}
 use Rattle.lookup.specs.Asked.{model_operation, model_request}
 use Rattle.lookup.specs.Cache.{AreKept}
-use Rattle.store.specs.Calls.{Applies, IsCommitDone, IsFailed, IsOpenOn, RefusesRequest, CommitSurvivesPowerLoss}
+use Rattle.store.specs.Calls.{Applies, IsCommitDone, IsCommitPlanned, IsFailed, IsOpenOn, RefusesRequest, CommitSurvivesPowerLoss}
 use Rattle.planning.specs.Changes.{IsChangeOf}
 use Rattle.table_update.specs.Commits.{IsPart, IsWholeCommit}
 use Rattle.planning.specs.Needs.{change_need}
@@ -195,6 +195,17 @@ module _ (capacity volume : ℕ) (J : List Event) (S : State) (store : Store) (k
           where
             reply_planned : reply_said plan.reply ≡ reply_to S (model_request r)
             reply_planned = λ i. record { code = (ap code_number makes.code ∙ does.code_is) i; commit = (makes.commit ∙ ap (λ (n : ℕ). n + 1) (commits capacity volume J S store knows)) i }
+
+      -- what is written is what is planned
+      pub plans_written : (result : Result told.Reply StoreFault) (K J' : List Event) (old now : Store) → K ≡ J → IfOk result (KeepsPlan plan K J' old now) → OnOk result (IsCommitPlanned capacity volume J S (model_request r) J')
+      plans_written (Ok reply) K J' old now same all = record {
+        stands = knows.stands;
+        blocks = blocks;
+        mark = plan.table.entry;
+        planned = plans;
+        journal = there_all J' (all.journal ∙ ap (λ (L : List Event). L ++ written (next_of L) (plan_blocks plan)) same);
+      }
+      plans_written (Err refusal) K J' old now same all = tt
 
       -- by what the commit answered
       pub applies : (result : Result told.Reply StoreFault) (K J' : List Event) (old now : Store) → K ≡ J → IfOk result (KeepsPlan plan K J' old now) → IfErr result (BreaksPlan plan K J' old now) → old.capacity ≡ store.capacity → AreKept J' now.directories

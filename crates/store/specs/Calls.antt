@@ -13,6 +13,7 @@ use Rattle.model.specs.Session.{State, Request, reply_to, after_one, after}
 use Rattle.durability.specs.Volume.{RecoversTo}
 use Rattle.durability.specs.Commit.{need}
 use Rattle.durability.specs.Journal.{Advances}
+use Rattle.durability.specs.Plan.{IsPlanned}
 use Rattle.durability.specs.Runs.{Answer, told as shows}
 use Rattle.durability.specs.Runs.Answer.{NotFound, IsDirectory, NotDirectory, TooLong, Data, Names, NodeIs}
 use Rattle.durability.specs.Runs.Query.{Get, List_, Stat, Read}
@@ -92,6 +93,15 @@ pub record CommitSurvivesPowerLoss (capacity volume : ℕ) (before : List Event)
   pub cut : 0 < failed → ((added ≡ []) × (afterwards ≡ before)) ⊎ LastIsCut (length before) before added afterwards
   pub torn : (left : List (List ℕ)) (journal : List Event) → IsLeft added left → journal ≡ before ++ written (length before) left
       → Advances udf capacity volume before S journal S ⊎ Advances udf capacity volume before S journal (after_one S request)
+
+-- A request was committed: its blocks, and after them its VAT ICB, the mark, are those that are planned for it at the recovered
+-- state, and the journal goes on by these and nothing else.
+pub record IsCommitPlanned (capacity volume : ℕ) (before : List Event) (S : State) (request : Request) (afterwards : List Event) : Type 0 where
+  pub stands : RecoversTo udf capacity volume (held before) S
+  pub blocks : List (List ℕ)
+  pub mark : List ℕ
+  pub planned : IsPlanned udf capacity volume (held before) S stands request blocks mark
+  pub journal : afterwards ≡ before ++ written (length before) (blocks ++ mark ∷ [])
 
 -- ---- queries
 

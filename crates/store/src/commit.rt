@@ -8,7 +8,7 @@ ghost use Rattle.recover.specs.Faults.{devices};
 ghost use Rattle.model.specs.Session.{State};
 ghost use Rattle.store.specs.Agrees.{IsStoreOn};
 ghost use Rattle.lookup.specs.Asked.{model_request};
-ghost use Rattle.store.specs.Calls.{Applies, IsOpenOn, CommitSurvivesPowerLoss};
+ghost use Rattle.store.specs.Calls.{Applies, IsOpenOn, IsCommitPlanned, CommitSurvivesPowerLoss};
 ghost use Rattle.lookup.specs.Cache.{AreKept};
 ghost use Rattle.planning.specs.Plan.{IsPlan, table_data, node_list};
 ghost use Rattle.store.specs.Putting.{BreaksPlan, IsCommitRefused, KeepsPlan, WritesPlan};
@@ -40,6 +40,8 @@ impl Store {
         // What its writes leave on the journal, and what a power loss leaves of them: the disk may keep any of the
         // blocks of the last write that it was given.
         ensures withstands { (volume : ℕ) (S : State) → IsTrue (D.honest drive.new) → IsOpenOn (D.capacity drive.old) volume (D.journal drive.old) S self.old → CommitSurvivesPowerLoss (D.capacity drive.old) volume (D.journal drive.old) S (model_request request.now) (D.writes drive.old) (devices result) (D.journal drive.new) (D.writes drive.new) }
+        // If it is committed, what was written is what is planned for it at the recovered state, and nothing else.
+        ensures planned { (volume : ℕ) (S : State) → IsTrue (D.honest drive.new) → IsOpenOn (D.capacity drive.old) volume (D.journal drive.old) S self.old → OnOk result (IsCommitPlanned (D.capacity drive.old) volume (D.journal drive.old) S (model_request request.now) (D.journal drive.new)) }
         ensures agrees { IsStoreOn (D.journal drive.new) (D.capacity drive.new) self.new }
         ensures commit { IfOk result (λ reply. reply.commit ≡ self.old.vat.sessions.commits + 1) }
         ensures written { IfOk result (λ reply. WritesPlan self.old request.now (D.capacity drive.old) (D.journal drive.old) (D.journal drive.new) self.new reply) }

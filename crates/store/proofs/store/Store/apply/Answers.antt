@@ -18,7 +18,7 @@ use Rattle.planning.specs.Plan.{IsPlan}
 use Rattle.store.specs.Putting.{IsPlanOf, KeepsPlan}
 use Rattle.table_update.specs.TableChange.{committed}
 use Rattle.store.proofs.Commits.{if_ok, makes_plan, plan_is, writes_plan, has_failed, goes_on, open_is_ok, some_is}
-use Rattle.store.proofs.Applying.{applies, full, short, unwritten, withstands}
+use Rattle.store.proofs.Applying.{applies, full, plans_written, short, unwritten, withstands}
 use Rattle.store.proofs.Knowing.{does_at, few, knows_again, nodes, shows, takes}
 use Rattle.planning.specs.Last.{IsTakenBy}
 use Rattle.store.proofs.store.Store.apply.Goals as goal
@@ -196,3 +196,31 @@ pub returns-in_err-plan-clause-withstands : goal.returns-in_err-plan-clause-with
 returns-in_err-plan-clause-withstands g c volume S honest knows =
     unwritten (g.D.Drive.capacity c.args.drive.now) volume (g.D.Drive.journal c.args.drive.now) S c.args.self.now knows c.args.request.now (g.D.Drive.writes c.args.drive.now) _ _ _
     (c.plan.ensures.reads.journal ∙ c.change.ensures.reads.journal) (c.plan.ensures.reads.writes ∙ c.change.ensures.reads.writes)
+
+pub returns-clause-planned : goal.returns-clause-planned
+returns-clause-planned g c volume S honest knows =
+    let store = c.args.self.now in
+    let r = c.args.request.now in
+    let J = g.D.Drive.journal c.args.drive.now in
+    let capacity = g.D.Drive.capacity c.args.drive.now in
+    let plan = c.in_ok-plan.plan in
+    let change = c.in_ok-change.change in
+    let after_plan = c.commit.ensures.follows.honest honest in
+    let after_change = c.plan.ensures.reads.honest after_plan in
+    let of_moment : c.unwrap-moment.result ≡ c.args.request.now.moment = some_is c.of.result c.unwrap-moment.result c.args.request.now.moment _ (search rules) c.of.ensures in
+    let going_on = shows capacity volume J S store knows (g.D.Drive.honest c.change.new.drive) after_change in
+    let does = does_at capacity volume J S store knows r change c.unwrap-moment.result of_moment (c.in_ok-change.ensures.does S.tree knows.once going_on (record { count = nodes capacity volume J S store knows; few = few capacity volume J S store knows })) in
+    let is : IsPlan (next_of J) capacity plan = plan_is J (g.D.Drive.journal c.change.new.drive) capacity (g.D.Drive.capacity c.change.new.drive) plan c.change.ensures.reads.journal c.change.ensures.reads.capacity c.in_ok-plan.ensures.plan in
+    let makes : IsPlanOf c.args.self.now c.args.request.now change plan = makes_plan c.args.self.now _ c.args.request.now change plan c.unwrap-moment.result of_moment c.in_ok-plan.ensures.makes refl refl in
+    let room = subst (λ (L : List Event). next_of L + change_need c.in_ok-change.change (begun c.args.self.now.vat_icb_address c.args.request.now.client c.args.request.now.number (code_number c.in_ok-change.change.code) c.in_ok-change.change.made (view c.args.self.now.vat)) ≤ c.args.self.now.capacity) c.change.ensures.reads.journal c.in_ok-plan.ensures.room in
+    plans_written capacity volume J S store knows r change does plan makes is room c.commit.result (g.D.Drive.journal c.plan.new.drive) (g.D.Drive.journal c.commit.new.drive) _ c.commit.new.self (c.plan.ensures.reads.journal ∙ c.change.ensures.reads.journal) c.commit.ensures.done
+
+pub returns-in_err-change-clause-planned : goal.returns-in_err-change-clause-planned
+returns-in_err-change-clause-planned g c volume S honest knows =
+    let p = err_from_is_err_and c.from_residual.result c.from_residual.ensures.1 in
+    rw p.1 tt
+
+pub returns-in_err-plan-clause-planned : goal.returns-in_err-plan-clause-planned
+returns-in_err-plan-clause-planned g c volume S honest knows =
+    let p = err_from_is_err_and c.from_residual-in_err-plan.result c.from_residual-in_err-plan.ensures.1 in
+    rw p.1 tt
