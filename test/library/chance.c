@@ -4,6 +4,7 @@
 #ifndef _GNU_SOURCE
 #define _GNU_SOURCE
 #endif
+#include "chance.h"
 #include "support.h"
 
 enum { CAPACITY = 4000, FILES = 30, LONGEST = 90000, TRIES = 200 };
@@ -15,14 +16,7 @@ static struct {
     uint32_t lies;              /* one answer in so many is wrong; 0: none */
 } disc;
 
-static uint64_t state;
 static uint8_t data[LONGEST], found[LONGEST];
-
-/* A number below `bound`. */
-static uint32_t chance(uint32_t bound) {
-    state = state * UINT64_C(6364136223846793005) + UINT64_C(1442695040888963407);
-    return (uint32_t)(state >> 33) % bound;
-}
 
 static int one_in(uint32_t rate) { return rate > 0 && chance(rate) == 0; }
 

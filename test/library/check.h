@@ -1,4 +1,4 @@
-/* What the tests in C share: each expectation that fails is printed with its line. They compile as C99 and as C++. */
+/* What the tests in C share: each expectation that fails is printed with its line, in any thread. They compile as C99 and as C++. */
 #ifndef CHECK_H
 #define CHECK_H
 
@@ -7,11 +7,13 @@
 
 static int expected, failed;
 
+static inline void count_one(int *number) { __atomic_add_fetch(number, 1, __ATOMIC_RELAXED); }
+
 #define EXPECT(condition) \
     do { \
-        expected++; \
+        count_one(&expected); \
         if (!(condition)) { \
-            failed++; \
+            count_one(&failed); \
             printf("%s:%d: %s\n", __FILE__, __LINE__, #condition); \
         } \
     } while (0)
@@ -20,9 +22,9 @@ static int expected, failed;
 #define STATUS(wanted, call) \
     do { \
         int32_t status_of_call = (call); \
-        expected++; \
+        count_one(&expected); \
         if (status_of_call != (wanted)) { \
-            failed++; \
+            count_one(&failed); \
             printf("%s:%d: %s is %s and not %s\n", __FILE__, __LINE__, #call, udfburn_error_name(status_of_call), #wanted); \
         } \
     } while (0)

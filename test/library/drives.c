@@ -3,9 +3,10 @@
 #ifndef _GNU_SOURCE
 #define _GNU_SOURCE
 #endif
-#include "support.h"
 
-#define CAPACITY 600
+enum { CAPACITY = 600 };
+
+#include "memory_drive.h"
 
 /* What is wrong with a drive. */
 enum fault {
@@ -13,10 +14,9 @@ enum fault {
     WRITE_LOSES_ONE, TOO_SMALL, NEXT_BEYOND, LARGER_THAN_A_VOLUME
 };
 
-/* A medium that is an array, and what becomes of a write. */
+/* A medium, and what becomes of a write. */
 struct disc {
-    uint8_t blocks[CAPACITY * UDFBURN_BLOCK];
-    uint32_t next;
+    struct medium medium;
     uint32_t calls;             /* of capacity, while it grows */
     uint32_t asked;             /* calls of capacity and next */
     uint32_t reads;
@@ -40,15 +40,14 @@ static int32_t next_of(void *context, uint32_t *address) {
     struct disc *disc = (struct disc *)context;
     disc->asked++;
     if (disc->fault == LARGER_THAN_A_VOLUME) return *address = UDFBURN_GREATEST_CAPACITY + 1, 0;
-    *address = disc->fault == NEXT_BEYOND ? CAPACITY + 1 : disc->fault == NEXT_LAGS && disc->next > 0 ? disc->next - 1 : disc->next;
+    *address = disc->fault == NEXT_BEYOND ? CAPACITY + 1 : disc->fault == NEXT_LAGS && disc->medium.next > 0 ? disc->medium.next - 1 : disc->medium.next;
     return disc->fault == NEXT_FAILS ? -1 : 0;
 }
 
 static int32_t read_blocks(void *context, uint32_t address, uint32_t count, void *blocks) {
     struct disc *disc = (struct disc *)context;
-    EXPECT(address <= disc->next && count <= disc->next - address);
     disc->reads++;
-    memcpy(blocks, disc->blocks + (size_t)address * UDFBURN_BLOCK, (size_t)count * UDFBURN_BLOCK);
+    medium_read(&disc->medium, address, count, blocks);
     if (disc->fault == READ_GIVES_OTHERS && address + count > 100) ((uint8_t *)blocks)[count * UDFBURN_BLOCK - 1] ^= 1;
     if (disc->fault == READ_GIVES_MORE) ((uint8_t *)blocks)[count * UDFBURN_BLOCK] = 0;
     return disc->fault == READ_FAILS;
@@ -56,14 +55,12 @@ static int32_t read_blocks(void *context, uint32_t address, uint32_t count, void
 
 static int32_t write_blocks(void *context, uint32_t address, uint32_t count, const void *blocks) {
     struct disc *disc = (struct disc *)context;
-    EXPECT(address == disc->next && count <= CAPACITY - address && count > 0);
     int fails = ++disc->writes == disc->failing || disc->fault == WRITE_FAILS;
     uint32_t kept = fails ? disc->left : count;
-    memcpy(disc->blocks + (size_t)address * UDFBURN_BLOCK, blocks, (size_t)kept * UDFBURN_BLOCK);
+    write_first(&disc->medium, address, count, blocks, kept);
     /* Of a write that fails any choice of the blocks may be there. */
-    if (fails && kept > 1) memset(disc->blocks + (size_t)address * UDFBURN_BLOCK, 0, UDFBURN_BLOCK);
-    if (disc->fault == WRITE_LOSES_ONE && count > 60) memset(disc->blocks + (size_t)(address + 50) * UDFBURN_BLOCK, 0, UDFBURN_BLOCK);
-    disc->next += kept;
+    if (fails && kept > 1) memset(block_of(&disc->medium, address), 0, UDFBURN_BLOCK);
+    if (disc->fault == WRITE_LOSES_ONE && count > 60) memset(block_of(&disc->medium, address + 50), 0, UDFBURN_BLOCK);
     disc->last = count;
     if (count > disc->longest) disc->longest = count;
     return fails ? 5 : 0;
@@ -92,7 +89,7 @@ static udfburn *opened_on(struct disc *disc) {
 static void is_on_disc(const struct disc *disc, const char *path) {
     size_t count;
     uint8_t *bytes = file_bytes(path, &count);
-    EXPECT(count == (size_t)disc->next * UDFBURN_BLOCK && !memcmp(bytes, disc->blocks, count));
+    EXPECT(count == (size_t)disc->medium.next * UDFBURN_BLOCK && !memcmp(bytes, disc->medium.blocks, count));
     free(bytes);
 }
 
@@ -236,7 +233,7 @@ static void wrong_arguments(void) {
     discs[2].fault = TOO_SMALL;
     STATUS(UDFBURN_VOLUME, udfburn_format_drive(&drive, "DISC", MOMENT));
     discs[2].fault = NONE;
-    EXPECT(discs[2].next == 0);
+    EXPECT(discs[2].medium.next == 0);
     STATUS(UDFBURN_ARGUMENT, udfburn_format_drive(NULL, "DISC", MOMENT));
     STATUS(UDFBURN_ARGUMENT, udfburn_format_drive(&drive, NULL, MOMENT));
     STATUS(UDFBURN_ARGUMENT, udfburn_open_drive(NULL, &handle));

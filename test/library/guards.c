@@ -4,7 +4,10 @@
 #ifndef _GNU_SOURCE
 #define _GNU_SOURCE
 #endif
-#include "support.h"
+
+enum { THREADS = 4, FILES = 60, CAPACITY = 4000, LONGEST = 6000, MOST_RUNS = 1000 };
+
+#include "memory_drive.h"
 
 #include <errno.h>
 #include <pthread.h>
@@ -12,8 +15,6 @@
 #include <sys/file.h>
 #include <sys/syscall.h>
 #include <sys/wait.h>
-
-enum { THREADS = 4, FILES = 60, CAPACITY = 4000, LONGEST = 6000 };
 
 static int misused;
 
@@ -141,7 +142,7 @@ static void children(pid_t (*divide)(void)) {
 static pid_t waiting_child(void) {
     pid_t child = fork();
     if (child == 0) {
-        alarm(60);
+        alarm(PATIENCE);
         for (;;) pause();
     }
     return child;
@@ -220,8 +221,7 @@ static void locks_of_others(void) {
 /* ---- A drive whose functions call the library ---- */
 
 static struct {
-    uint8_t blocks[CAPACITY * UDFBURN_BLOCK];
-    uint32_t next;
+    struct medium medium;
     udfburn *handle;            /* on which each call is tried */
     int tried;
     int forks;                  /* a child closes the handle, and the parent waits for it */
@@ -280,29 +280,11 @@ static void try_all(udfburn *handle) {
     udfburn_close(handle);
 }
 
-static int32_t capacity_of(void *context, uint32_t *blocks) {
-    (void)context;
-    *blocks = CAPACITY;
-    return 0;
-}
-
-static int32_t next_of(void *context, uint32_t *address) {
-    (void)context;
-    *address = disc.next;
-    return 0;
-}
-
-static int32_t read_blocks(void *context, uint32_t address, uint32_t count, void *blocks) {
-    (void)context;
-    memcpy(blocks, disc.blocks + (size_t)address * UDFBURN_BLOCK, (size_t)count * UDFBURN_BLOCK);
-    return 0;
-}
-
 static void child_closes(void) {
     int status;
     pid_t child = fork();
     if (child == 0) {
-        alarm(20);
+        alarm(PATIENCE);
         udfburn_close(disc.handle);
         _exit(0);
     }
@@ -310,9 +292,7 @@ static void child_closes(void) {
 }
 
 static int32_t write_blocks(void *context, uint32_t address, uint32_t count, const void *blocks) {
-    (void)context;
-    memcpy(disc.blocks + (size_t)address * UDFBURN_BLOCK, blocks, (size_t)count * UDFBURN_BLOCK);
-    disc.next = address + count;
+    medium_write(context, address, count, blocks);
     if (disc.handle) {
         disc.tried++;
         try_all(disc.handle);
@@ -323,7 +303,7 @@ static int32_t write_blocks(void *context, uint32_t address, uint32_t count, con
 
 /* On the volume of this file another handle is used from within: calls of other handles are not refused. */
 static void from_within(void) {
-    static const struct udfburn_drive drive = {&disc, capacity_of, next_of, read_blocks, write_blocks};
+    static const struct udfburn_drive drive = {&disc.medium, medium_capacity, medium_next, medium_read, write_blocks};
     udfburn *handle = NULL;
     STATUS(UDFBURN_OK, udfburn_format_drive(&drive, "DISC", MOMENT));
     STATUS(UDFBURN_OK, udfburn_open_drive(&drive, &handle));
@@ -344,7 +324,8 @@ static void from_within(void) {
 int main(int argc, char **argv) {
     if (argc < 3 || chdir(argv[1])) return EXIT_FAILURE;
     int runs = atoi(argv[2]), before = descriptors();
-    for (int run = 0; run < runs; run++) threads();
+    /* Where one processor runs the threads in turn it may take more of them until two meet. */
+    for (int run = 0; run < runs || (misused == 0 && run < MOST_RUNS); run++) threads();
     EXPECT(misused > 0);
     if (argc == 3) {
         for (int run = 0; run < runs; run++) children(run % 2 ? fork_of_system : fork);

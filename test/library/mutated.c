@@ -1,18 +1,14 @@
 /* Images that somebody changed, and arguments at random: each call returns a status, and none crashes, hangs or writes where it may not.
- * usage: mutated IMAGE SECONDS SEED     works on copies beside IMAGE; its last line says how many of each it tried */
+ * usage: mutated IMAGE SECONDS SEED     works on copies beside IMAGE, LEAST of them however slow it is; it says how many of each it tried */
 #ifndef _GNU_SOURCE
 #define _GNU_SOURCE
 #endif
+#include "chance.h"
 #include "support.h"
 
 #include <time.h>
 
-static uint64_t state;
-
-static uint32_t chance(uint32_t bound) {
-    state = state * UINT64_C(6364136223846793005) + UINT64_C(1442695040888963407);
-    return (uint32_t)(state >> 33) % bound;
-}
+enum { LEAST = 100 };
 
 static uint8_t *image;
 static size_t length;
@@ -146,7 +142,7 @@ int main(int argc, char **argv) {
     image = file_bytes(argv[1], &length);
     state = strtoull(argv[3], NULL, 10) * 7919 + 13;
     snprintf(path, sizeof path, "%s.changed", argv[1]);
-    for (time_t end = time(NULL) + atol(argv[2]); time(NULL) < end;) one(path);
+    for (time_t end = time(NULL) + atol(argv[2]); images < LEAST || time(NULL) < end;) one(path);
     unlink(path);
     free(image);
     printf("%ld %ld %ld\n", images, opened_ones, calls);

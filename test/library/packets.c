@@ -3,17 +3,17 @@
 #ifndef _GNU_SOURCE
 #define _GNU_SOURCE
 #endif
-#include "support.h"
 
 enum { CAPACITY = 2000, FILES = 20, LONGEST = 9000, NONE_FAILS = -1 };
+
+#include "memory_drive.h"
 
 /* What a drive does beside what it owes. */
 enum fault { NONE, JUMPS_EARLY, LOSES_A_COMMIT, LOSES_A_VAT_ICB, COPIES_THE_FIRST, LOSES_A_BLOCK, LIES_BETWEEN, GOES_BEYOND, FORGETS_WHAT_IT_HOLDS };
 
 static struct {
-    uint8_t blocks[CAPACITY * UDFBURN_BLOCK];
+    struct medium medium;
     uint8_t held[CAPACITY * UDFBURN_BLOCK];
-    uint32_t next;              /* of the medium */
     uint32_t count;             /* blocks that are held */
     uint32_t unit, copies;
     uint32_t packets;
@@ -21,46 +21,40 @@ static struct {
     enum fault fault;
 } disc;
 
-static uint8_t *block_at(uint32_t address) { return disc.blocks + (size_t)address * UDFBURN_BLOCK; }
+static uint8_t *block_at(uint32_t address) { return block_of(&disc.medium, address); }
 
 static uint8_t *held_at(uint32_t number) { return disc.held + (size_t)number * UDFBURN_BLOCK; }
 
-static int32_t capacity_of(void *context, uint32_t *blocks) {
-    (void)context;
-    *blocks = CAPACITY;
-    return 0;
-}
-
 static int32_t next_of(void *context, uint32_t *address) {
     (void)context;
-    *address = disc.next + (disc.fault == FORGETS_WHAT_IT_HOLDS ? 0 : disc.count);
+    *address = disc.medium.next + (disc.fault == FORGETS_WHAT_IT_HOLDS ? 0 : disc.count);
     return 0;
 }
 
 static int32_t read_blocks(void *context, uint32_t address, uint32_t count, void *blocks) {
     (void)context;
     for (uint32_t i = 0; i < count; i++, address++) {
-        EXPECT(address < disc.next + disc.count);
-        memcpy((uint8_t *)blocks + (size_t)i * UDFBURN_BLOCK, address < disc.next ? block_at(address) : held_at(address - disc.next), UDFBURN_BLOCK);
+        EXPECT(address < disc.medium.next + disc.count);
+        memcpy((uint8_t *)blocks + (size_t)i * UDFBURN_BLOCK, address < disc.medium.next ? block_at(address) : held_at(address - disc.medium.next), UDFBURN_BLOCK);
     }
     return 0;
 }
 
 /* Writes what is held as one packet, which is filled up. */
 static int32_t write_packet(void) {
-    uint32_t last = disc.count - 1, end = disc.next + disc.count;
+    uint32_t last = disc.count - 1, end = disc.medium.next + disc.count;
     uint32_t wanted = disc.copies ? end + disc.copies : end;
     disc.packets++;
     if (disc.left != NONE_FAILS) {
-        memcpy(block_at(disc.next), disc.held, (size_t)disc.left * UDFBURN_BLOCK);
-        disc.next += (uint32_t)disc.left;
+        memcpy(block_at(disc.medium.next), disc.held, (size_t)disc.left * UDFBURN_BLOCK);
+        disc.medium.next += (uint32_t)disc.left;
         disc.count = 0;
         disc.left = NONE_FAILS;
         return 7;
     }
-    if (disc.fault != LOSES_A_COMMIT) memcpy(block_at(disc.next), disc.held, (size_t)disc.count * UDFBURN_BLOCK);
-    if (disc.fault == LOSES_A_BLOCK) memset(block_at(disc.next + 3), 0, UDFBURN_BLOCK);
-    if (disc.fault == LOSES_A_VAT_ICB) memset(block_at(disc.next + last), 0, UDFBURN_BLOCK);
+    if (disc.fault != LOSES_A_COMMIT) memcpy(block_at(disc.medium.next), disc.held, (size_t)disc.count * UDFBURN_BLOCK);
+    if (disc.fault == LOSES_A_BLOCK) memset(block_at(disc.medium.next + 3), 0, UDFBURN_BLOCK);
+    if (disc.fault == LOSES_A_VAT_ICB) memset(block_at(disc.medium.next + last), 0, UDFBURN_BLOCK);
     for (; end < wanted || end % disc.unit; end++) {
         EXPECT(end < CAPACITY);
         if (disc.copies && disc.fault != LOSES_A_COMMIT && disc.fault != LOSES_A_VAT_ICB) udfburn_copy_vat_icb(held_at(last), end, block_at(end));
@@ -68,19 +62,19 @@ static int32_t write_packet(void) {
         if (disc.fault == LIES_BETWEEN) memset(block_at(end), 1, 9);
     }
     disc.count = 0;
-    disc.next = disc.fault == GOES_BEYOND ? CAPACITY + 1 : end;
+    disc.medium.next = disc.fault == GOES_BEYOND ? CAPACITY + 1 : end;
     return 0;
 }
 
 static int32_t write_blocks(void *context, uint32_t address, uint32_t count, const void *blocks) {
     (void)context;
-    EXPECT(address == disc.next + disc.count && count <= CAPACITY - address && count > 0);
+    EXPECT(address == disc.medium.next + disc.count && count <= CAPACITY - address && count > 0);
     memcpy(held_at(disc.count), blocks, (size_t)count * UDFBURN_BLOCK);
     disc.count += count;
     return disc.fault == JUMPS_EARLY || (count == 1 && udfburn_is_vat_icb(blocks, address)) ? write_packet() : 0;
 }
 
-static const struct udfburn_drive drive = {&disc, capacity_of, next_of, read_blocks, write_blocks};
+static const struct udfburn_drive drive = {&disc.medium, medium_capacity, next_of, read_blocks, write_blocks};
 
 static void blank(uint32_t unit, uint32_t copies) {
     memset(&disc, 0, sizeof disc);
@@ -92,7 +86,7 @@ static void blank(uint32_t unit, uint32_t copies) {
 static void format(uint32_t unit, uint32_t copies) {
     blank(unit, copies);
     STATUS(UDFBURN_OK, udfburn_format_drive(&drive, "DISC", MOMENT));
-    EXPECT(disc.packets == 1 && disc.count == 0 && disc.next % unit == 0 && disc.next >= 262 + copies);
+    EXPECT(disc.packets == 1 && disc.count == 0 && disc.medium.next % unit == 0 && disc.medium.next >= 262 + copies);
 }
 
 static udfburn *opened_on_disc(void) {
@@ -138,10 +132,10 @@ static void files(uint32_t unit, uint32_t copies) {
         STATUS(UDFBURN_OK, create(handle, number));
         EXPECT(disc.packets == packets + 1 && disc.count == 0);
         STATUS(UDFBURN_OK, udfburn_status(handle, &status));
-        EXPECT(status.next == disc.next && status.commits == (uint32_t)number + 1 && status.files == (uint32_t)number + 1);
+        EXPECT(status.next == disc.medium.next && status.commits == (uint32_t)number + 1 && status.files == (uint32_t)number + 1);
         volume.size = sizeof volume;
         STATUS(UDFBURN_OK, udfburn_describe(handle, &volume));
-        EXPECT(volume.next == disc.next && (copies == 0 || volume.unused == 0) && volume.identity == MOMENT);
+        EXPECT(volume.next == disc.medium.next && (copies == 0 || volume.unused == 0) && volume.identity == MOMENT);
         STATUS(UDFBURN_OK, udfburn_room(handle, "/new", 5000));
         STATUS(UDFBURN_OK, udfburn_expect(handle, (uint32_t)number + 1));
         has(handle, number);

@@ -4,58 +4,40 @@
 #ifndef _GNU_SOURCE
 #define _GNU_SOURCE
 #endif
-#include "stream.h"
 
 enum { CAPACITY = 6000, MOST_CALLS = 5000 };
 
+#include "memory_drive.h"
+#include "stream.h"
+
 static struct {
-    uint8_t blocks[(size_t)CAPACITY * UDFBURN_BLOCK];
-    uint32_t next, capacity;
+    struct medium medium;
     uint32_t unit;              /* blocks of a packet; 0: nothing is filled up */
     int writes, reads;          /* until one fails; 0: none does */
     uint32_t kept;              /* blocks of the failed write that are there */
 } disc;
 
-static int32_t capacity_of(void *context, uint32_t *blocks) {
-    (void)context;
-    *blocks = disc.capacity;
-    return 0;
-}
-
-static int32_t next_of(void *context, uint32_t *address) {
-    (void)context;
-    *address = disc.next;
-    return 0;
-}
-
 static int32_t read_blocks(void *context, uint32_t address, uint32_t count, void *blocks) {
-    (void)context;
-    EXPECT(address < disc.next && count <= disc.next - address);
-    if (disc.reads > 0 && --disc.reads == 0) return 5;
-    memcpy(blocks, disc.blocks + (size_t)address * UDFBURN_BLOCK, (size_t)count * UDFBURN_BLOCK);
-    return 0;
+    return disc.reads > 0 && --disc.reads == 0 ? 5 : medium_read(context, address, count, blocks);
 }
 
 /* With at least three copies of the VAT ICB, up to the end of the packet, as far as the disc goes. */
 static void fill_up(const void *block) {
-    for (uint32_t copies = 0; disc.next < disc.capacity && (copies < 3 || disc.next % disc.unit); copies++) {
-        udfburn_copy_vat_icb(block, disc.next, disc.blocks + (size_t)disc.next * UDFBURN_BLOCK);
-        disc.next++;
+    struct medium *medium = &disc.medium;
+    for (uint32_t copies = 0; medium->next < medium->capacity && (copies < 3 || medium->next % disc.unit); copies++) {
+        udfburn_copy_vat_icb(block, medium->next, block_of(medium, medium->next));
+        medium->next++;
     }
 }
 
 static int32_t write_blocks(void *context, uint32_t address, uint32_t count, const void *blocks) {
-    (void)context;
-    EXPECT(address == disc.next && count > 0 && count <= disc.capacity - address);
     int fails = disc.writes > 0 && --disc.writes == 0;
-    uint32_t kept = fails && count > disc.kept ? disc.kept : count;
-    memcpy(disc.blocks + (size_t)address * UDFBURN_BLOCK, blocks, (size_t)kept * UDFBURN_BLOCK);
-    disc.next = address + kept;
+    write_first((struct medium *)context, address, count, blocks, fails && count > disc.kept ? disc.kept : count);
     if (disc.unit > 0 && count == 1 && udfburn_is_vat_icb(blocks, address)) fill_up(blocks);
     return fails ? 5 : 0;
 }
 
-static const struct udfburn_drive drive = {&disc, capacity_of, next_of, read_blocks, write_blocks};
+static const struct udfburn_drive drive = {&disc.medium, medium_capacity, medium_next, read_blocks, write_blocks};
 
 static udfburn *open_again(udfburn *handle) {
     udfburn_close(handle);
@@ -70,8 +52,8 @@ static udfburn *open_again(udfburn *handle) {
 static udfburn *new_disc(const struct stream *kept, uint32_t capacity, uint32_t unit) {
     struct udfburn_request request = {9, 0, MOMENT, 0, 0};
     struct stream stream = *kept;
-    disc.next = 0;
-    disc.capacity = capacity;
+    disc.medium.next = 0;
+    disc.medium.capacity = capacity;
     disc.unit = unit;
     disc.writes = disc.reads = 0;
     STATUS(UDFBURN_OK, udfburn_format_drive(&drive, "DISC", MOMENT));

@@ -3,7 +3,10 @@
 #ifndef _GNU_SOURCE
 #define _GNU_SOURCE
 #endif
-#include "support.h"
+
+enum { CAPACITY = 600 };
+
+#include "memory_drive.h"
 
 #include <errno.h>
 #include <signal.h>
@@ -205,11 +208,8 @@ static void of_a_lost_file(void) {
 
 /* ---- Drives ---- */
 
-enum { CAPACITY = 600 };
-
 static struct {
-    uint8_t blocks[CAPACITY * UDFBURN_BLOCK];
-    uint32_t next;
+    struct medium medium;
     int32_t reads, writes;      /* what these functions return */
 } disc;
 
@@ -218,29 +218,18 @@ static int32_t capacity_of(void *context, uint32_t *blocks) {
     return context ? 0 : 44;
 }
 
-static int32_t next_of(void *context, uint32_t *address) {
-    (void)context;
-    *address = disc.next;
-    return 0;
-}
-
 static int32_t read_blocks(void *context, uint32_t address, uint32_t count, void *blocks) {
-    (void)context;
-    memcpy(blocks, disc.blocks + (size_t)address * UDFBURN_BLOCK, (size_t)count * UDFBURN_BLOCK);
-    return disc.reads;
+    int32_t status = medium_read(context, address, count, blocks);
+    return disc.reads ? disc.reads : status;
 }
 
 static int32_t write_blocks(void *context, uint32_t address, uint32_t count, const void *blocks) {
-    (void)context;
-    if (disc.writes) return disc.writes;
-    memcpy(disc.blocks + (size_t)address * UDFBURN_BLOCK, blocks, (size_t)count * UDFBURN_BLOCK);
-    disc.next = address + count;
-    return 0;
+    return disc.writes ? disc.writes : medium_write(context, address, count, blocks);
 }
 
 static void of_drives(void) {
     struct udfburn_request request = {7, 0, MOMENT, 0, 0};
-    struct udfburn_drive drive = {&disc, capacity_of, next_of, read_blocks, write_blocks}, broken = drive;
+    struct udfburn_drive drive = {&disc.medium, capacity_of, medium_next, read_blocks, write_blocks}, broken = drive;
     udfburn *handle = NULL, *second = NULL;
     broken.context = NULL;
     STATUS(UDFBURN_DEVICE, udfburn_open_drive(&broken, &handle));

@@ -3,14 +3,12 @@
 #ifndef _GNU_SOURCE
 #define _GNU_SOURCE
 #endif
+#include "chance.h"
 #include "support.h"
-
-static uint64_t state;
 
 /* A number from 1 to `most`, small ones as often as great ones. */
 static size_t piece(size_t most) {
-    state = state * UINT64_C(6364136223846793005) + 1442695040888963407u;
-    size_t bound = (size_t)1 << (state >> 33) % 18;
+    size_t bound = (size_t)1 << chance(18);
     size_t found = 1 + (size_t)(state >> 20) % bound;
     return found < most ? found : most;
 }

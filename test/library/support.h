@@ -13,6 +13,9 @@
 
 #define MOMENT UINT64_C(1700000000000000)
 
+/* Seconds after which a child that hangs is ended. No call takes nearly as long, however slow the machine is. */
+enum { PATIENCE = 300 };
+
 /* The example of docs/PROTOCOL.md: client 7, number 1, moment 0 creates /a with "hello"; its answer; Get, and its answer. */
 static const uint8_t create_a[] = {0x26, 0, 0, 0, 1, 7, 0, 0, 0, 0, 0, 0, 0, 1, 0, 0, 0, 0, 0, 0, 0, 0, 0, 0, 0, 0, 0, 0, 0,
                                    1, 1, 0, 0x61, 5, 0, 0, 0, 0x68, 0x65, 0x6C, 0x6C, 0x6F};

@@ -4,53 +4,28 @@
 #ifndef _GNU_SOURCE
 #define _GNU_SOURCE
 #endif
-#include "support.h"
-
-#include <pthread.h>
-#include <sys/wait.h>
 
 enum { THREADS = 4, FILES = 50, CAPACITY = 2000, HANDLES = 300, FORKS = 300 };
 
-struct disc {
-    uint8_t blocks[CAPACITY * UDFBURN_BLOCK];
-    uint32_t next;
-};
+#include "memory_drive.h"
+
+#include <pthread.h>
+#include <sys/wait.h>
 
 struct work {
     pthread_t thread;
     int number;
     int32_t status;             /* of the first call that failed */
-    struct disc disc;
+    struct medium medium;
 };
 
-static int32_t capacity_of(void *context, uint32_t *blocks) {
-    (void)context;
-    *blocks = CAPACITY;
-    return 0;
-}
+/* Many drives on one medium, to which nothing is written any more. */
+static int32_t capacity_there(void *context, uint32_t *blocks) { return medium_capacity(*(struct medium **)context, blocks); }
 
-static int32_t next_of(void *context, uint32_t *address) {
-    *address = ((struct disc *)context)->next;
-    return 0;
-}
-
-static int32_t read_blocks(void *context, uint32_t address, uint32_t count, void *blocks) {
-    memcpy(blocks, ((struct disc *)context)->blocks + (size_t)address * UDFBURN_BLOCK, (size_t)count * UDFBURN_BLOCK);
-    return 0;
-}
-
-static int32_t write_blocks(void *context, uint32_t address, uint32_t count, const void *blocks) {
-    struct disc *disc = (struct disc *)context;
-    memcpy(disc->blocks + (size_t)address * UDFBURN_BLOCK, blocks, (size_t)count * UDFBURN_BLOCK);
-    disc->next = address + count;
-    return 0;
-}
-
-/* The same for many drives on one disc, to which nothing is written any more. */
-static int32_t next_there(void *context, uint32_t *address) { return next_of(*(struct disc **)context, address); }
+static int32_t next_there(void *context, uint32_t *address) { return medium_next(*(struct medium **)context, address); }
 
 static int32_t read_there(void *context, uint32_t address, uint32_t count, void *blocks) {
-    return read_blocks(*(struct disc **)context, address, count, blocks);
+    return medium_read(*(struct medium **)context, address, count, blocks);
 }
 
 static int32_t write_nothing(void *context, uint32_t address, uint32_t count, const void *blocks) {
@@ -72,7 +47,7 @@ static int32_t fill(udfburn *handle, int number) {
 
 /* Opens and fills a volume: of the file of a thread, or of its drive. */
 static int32_t run(struct work *work, const char *path) {
-    struct udfburn_drive drive = {&work->disc, capacity_of, next_of, read_blocks, write_blocks};
+    struct udfburn_drive drive = {&work->medium, medium_capacity, medium_next, medium_read, medium_write};
     udfburn *handle;
     int32_t status = path ? udfburn_format(path, "DISC", MOMENT, CAPACITY) : udfburn_format_drive(&drive, "DISC", MOMENT);
     if (status == UDFBURN_OK) status = path ? udfburn_open(path, &handle) : udfburn_open_drive(&drive, &handle);
@@ -143,21 +118,21 @@ static int child_ends(udfburn *handle) {
     int status;
     pid_t child = fork();
     if (child == 0) {
-        alarm(20);
+        alarm(PATIENCE);
         udfburn_close(handle);
         _exit(EXIT_SUCCESS);
     }
     return child > 0 && waitpid(child, &status, 0) == child && status == 0;
 }
 
-static void forks(struct disc *disc) {
-    static struct disc *contexts[HANDLES];
+static void forks(struct medium *medium) {
+    static struct medium *contexts[HANDLES];
     udfburn *handles[HANDLES];
     pthread_t thread;
     int ended = 0;
     for (int i = 0; i < HANDLES; i++) {
-        struct udfburn_drive drive = {&contexts[i], capacity_of, next_there, read_there, write_nothing};
-        contexts[i] = disc;
+        struct udfburn_drive drive = {&contexts[i], capacity_there, next_there, read_there, write_nothing};
+        contexts[i] = medium;
         STATUS(UDFBURN_OK, udfburn_open_drive(&drive, &handles[i]));
     }
     if (pthread_create(&thread, NULL, ask, handles[HANDLES - 1])) abort();
@@ -182,16 +157,16 @@ int main(int argc, char **argv) {
         STATUS(UDFBURN_OK, works[i].status);
         snprintf(path, sizeof path, "thread%d.img", i);
         uint8_t *bytes = file_bytes(path, &count);
-        EXPECT(count == (size_t)works[i].disc.next * UDFBURN_BLOCK && !memcmp(bytes, works[i].disc.blocks, count));
+        EXPECT(count == (size_t)works[i].medium.next * UDFBURN_BLOCK && !memcmp(bytes, works[i].medium.blocks, count));
         free(bytes);
         /* No thread's bytes are on another's medium. */
         snprintf(path, sizeof path, "thread %d, file", (i + 1) % THREADS);
-        EXPECT(!memmem(works[i].disc.blocks, count, path, strlen(path)));
+        EXPECT(!memmem(works[i].medium.blocks, count, path, strlen(path)));
         snprintf(path, sizeof path, "thread %d, file", i);
-        EXPECT(memmem(works[i].disc.blocks, count, path, strlen(path)));
+        EXPECT(memmem(works[i].medium.blocks, count, path, strlen(path)));
     }
     in_turn(works);
-    forks(&works[0].disc);
+    forks(&works[0].medium);
     free(works);
     return finish("threads");
 }

@@ -3,56 +3,32 @@
 #ifndef _GNU_SOURCE
 #define _GNU_SOURCE
 #endif
-#include "support.h"
 
 enum { CAPACITY = 3000, FILES = 40, LONGEST = 20000, TRIES = 50 };
 
+#include "chance.h"
+#include "memory_drive.h"
+
 static struct {
-    uint8_t blocks[CAPACITY * UDFBURN_BLOCK];
-    uint32_t next;
+    struct medium medium;
     uint32_t rate;              /* one write in so many flips a bit; 0: none */
     uint32_t reads;             /* blocks that were read */
     int32_t fails;              /* what a read returns */
 } disc;
 
-static uint64_t state;
-
-static uint32_t chance(uint32_t bound) {
-    state = state * UINT64_C(6364136223846793005) + UINT64_C(1442695040888963407);
-    return (uint32_t)(state >> 33) % bound;
-}
-
-static int32_t capacity_of(void *context, uint32_t *blocks) {
-    (void)context;
-    *blocks = CAPACITY;
-    return 0;
-}
-
-static int32_t next_of(void *context, uint32_t *address) {
-    (void)context;
-    *address = disc.next;
-    return 0;
-}
-
 static int32_t read_blocks(void *context, uint32_t address, uint32_t count, void *blocks) {
-    (void)context;
-    EXPECT(address <= disc.next && count <= disc.next - address);
+    int32_t status = medium_read(context, address, count, blocks);
     disc.reads += count;
-    memcpy(blocks, disc.blocks + (size_t)address * UDFBURN_BLOCK, (size_t)count * UDFBURN_BLOCK);
-    return disc.fails;
+    return disc.fails ? disc.fails : status;
 }
 
 static int32_t write_blocks(void *context, uint32_t address, uint32_t count, const void *blocks) {
-    (void)context;
-    EXPECT(address == disc.next && count <= CAPACITY - address);
-    memcpy(disc.blocks + (size_t)address * UDFBURN_BLOCK, blocks, (size_t)count * UDFBURN_BLOCK);
-    if (disc.rate > 0 && chance(disc.rate) == 0)
-        disc.blocks[(size_t)address * UDFBURN_BLOCK + chance(count * UDFBURN_BLOCK)] ^= (uint8_t)(1 << chance(8));
-    disc.next = address + count;
-    return 0;
+    int32_t status = medium_write(context, address, count, blocks);
+    if (disc.rate > 0 && chance(disc.rate) == 0) block_of(&disc.medium, address)[chance(count * UDFBURN_BLOCK)] ^= (uint8_t)(1 << chance(8));
+    return status;
 }
 
-static const struct udfburn_drive drive = {&disc, capacity_of, next_of, read_blocks, write_blocks};
+static const struct udfburn_drive drive = {&disc.medium, medium_capacity, medium_next, read_blocks, write_blocks};
 
 static size_t content(int number, uint8_t *bytes) {
     size_t length = (size_t)(number * 1733 % LONGEST);
@@ -108,10 +84,10 @@ static void one_flip(void) {
     STATUS(UDFBURN_ARGUMENT, udfburn_open_drive_with(NULL, 0, &handle));
     STATUS(UDFBURN_ARGUMENT, udfburn_open_drive_with(&drive, 0, NULL));
     STATUS(UDFBURN_OK, udfburn_open_drive_with(&drive, UDFBURN_VERIFY, &handle));
-    uint32_t before = disc.next;
+    uint32_t before = disc.medium.next;
     reads = disc.reads;
     STATUS(UDFBURN_OK, udfburn_mkdir(handle, &request, "/d"));
-    EXPECT(disc.reads - reads >= disc.next - before);
+    EXPECT(disc.reads - reads >= disc.medium.next - before);
     disc.rate = 1;
     request.number = 0;
     STATUS(UDFBURN_DEVICE, udfburn_mkdir(handle, &request, "/e"));
