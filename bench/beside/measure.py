@@ -9,6 +9,7 @@ import statistics
 import subprocess
 import sys
 import tempfile
+import time
 from collections import defaultdict
 from pathlib import Path
 from typing import Sequence
@@ -20,8 +21,9 @@ from timing import load, ratio  # noqa: E402
 from ways import Step, Way, bytes_of, installed, package, require_same, syncs, timed, ways, without  # noqa: E402
 
 PIECE = 1 << 20
-STEPS = ("first run", "`close`", "second run", "check", "restore")
-PARTS = ("small", "photos", "large", "put")
+PARTS = {"small": "{files:,} small files, {size:,.0f} MB", "photos": "{files} photos, {size:,.0f} MB", "large": "{files} large files, {size:,.0f} MB"}
+
+Taken = dict[tuple[str, str], list[float]]
 
 
 def make(folder: str, files: int, least: int, most: int, a_folder: int = 32) -> str:
@@ -50,32 +52,58 @@ def sources(room: str, part: str, shrink: int) -> str:
 
 # ---- beside restic and borg
 
-def one_round(way: Way, room: str, source: str, taken: dict[tuple[str, str], list[float]]) -> int:
-    """The seconds of each step, and the bytes that were taken for the tree."""
-    kept, back = os.path.join(room, "kept"), os.path.join(room, "back")
-    for folder in (kept, os.path.join(room, "cache"), os.path.join(room, "base")):
-        shutil.rmtree(folder, ignore_errors=True)
+def begin(way: Way, room: str) -> None:
+    for folder in ("kept", "cache", "base"):
+        shutil.rmtree(os.path.join(room, folder), ignore_errors=True)
     timed(way.begin, way.keys)
-    for step, words in zip(STEPS, (way.store, way.end, way.store, way.check, way.back)):
+
+
+def one_round(way: Way, room: str, source: str, taken: Taken) -> int:
+    """Notes the seconds of each step; the bytes that were taken for the tree."""
+    back = os.path.join(room, "back")
+    begin(way, room)
+    size = 0
+    # The first run that trusts times reads all once more, so that the next one need not.
+    steps = {"first": way.store, "close": way.end, "second": way.store, "reading": way.trusting, "trusting": way.trusting, "restore": way.back, "check": way.check}
+    for step, words in steps.items():
+        if not words:
+            continue
         os.sync()
         os.makedirs(back, exist_ok=True)
-        taken[way.name, step].append(timed([word.replace("{}", back) if word == "{}" else word for word in words], way.keys) if words else 0.0)
-        if step == "first run" and not way.end or step == "`close`":
-            room_taken = bytes_of(kept)
+        taken[way.name, step].append(timed([back if word == "{}" else word for word in words], way.keys))
+        if step in ("first", "close"):
+            size = bytes_of(os.path.join(room, "kept"))
     require_same(source, back)
     shutil.rmtree(back)
-    return room_taken
+    return size
 
 
-def counted(way: Way, room: str) -> tuple[int, int]:
-    """The syncs of a first run, and of one in which nothing is new."""
-    for folder in (os.path.join(room, "kept"), os.path.join(room, "cache"), os.path.join(room, "base")):
-        shutil.rmtree(folder, ignore_errors=True)
-    timed(way.begin, way.keys)
-    return syncs(way.store, way.keys, room), syncs(way.store, way.keys, room)
+def cell(times: Sequence[float], beside_own: Sequence[float] = ()) -> str:
+    """A median, and its ratio to the archive's, with those of the rounds where there are several."""
+    text = f"{statistics.median(times):.1f} s"
+    if beside_own:
+        text += f", {ratio([round(1e9 * one) for one in times], [round(1e9 * one) for one in beside_own])}"
+    return text if len(times) > 1 else text.split(" (")[0]
+
+
+def times_of(way: Way, own: Way, taken: Taken) -> list[str]:
+    """The cells of first run, second run, restore and check."""
+    if way is own:
+        of = {step: cell(taken[way.name, step]) for step in ("first", "close", "second", "trusting", "restore", "check")}
+        return [f"{of['first']} + {of['close']}", f"{of['second']}; {of['trusting']}", of["restore"], of["check"]]
+    pairs = (("first", "first"), ("second", "trusting"), ("restore", "restore"), ("check", "check"))
+    return [cell(taken[way.name, step], taken[own.name, beside]) for step, beside in pairs]
+
+
+def syncs_of(way: Way, room: str) -> str:
+    """The syncs of a first run, of what ends it, and of a run in which nothing is new."""
+    begin(way, room)
+    first, end = syncs(way.store, way.keys, room), f" + {syncs(way.end, way.keys, room)}" if way.end else ""
+    return f"{first:,}{end}; {syncs(way.store, way.keys, room)}"
 
 
 def beside(program: str, room: str, part: str, asked: argparse.Namespace) -> None:
+    """Prints the rows of a part."""
     source = sources(room, part, asked.shrink)
     files, size = sum(len(names) for _, _, names in os.walk(source)), bytes_of(source)
     all_ways, taken = ways(program, room, source), defaultdict[tuple[str, str], list[float]](list)
@@ -83,17 +111,22 @@ def beside(program: str, room: str, part: str, asked: argparse.Namespace) -> Non
     for turn in range(asked.rounds):
         for way in all_ways[:: -1 if turn % 2 else 1]:
             rooms[way.name] = one_round(way, room, source, taken)
-    print(f"\n| {files:,} files, {size / 1e6:,.0f} MB, {asked.rounds} rounds, {load()} | {' | '.join(STEPS)} | Room | Syncs; when nothing is new |")
-    print(f"|{'---|' * (len(STEPS) + 3)}")
     for way in all_ways:
-        cells = [way.name]
-        for step in STEPS:
-            times, own = taken[way.name, step], taken[all_ways[0].name, step]
-            beside_own = "" if way is all_ways[0] or not any(times) else f", {ratio([round(1e9 * one) for one in times], [round(1e9 * one) for one in own])}"
-            cells.append(f"{statistics.median(times):.1f} s{beside_own}" if any(times) else "")
-        first, second = counted(way, room)
-        print(f"| {' | '.join([*cells, f'{rooms[way.name] / size:.2f}', f'{first:,}; {second}'])} |", flush=True)
+        what = PARTS[part].format(files=files, size=size / 1e6) if way is all_ways[0] else ""
+        cells = [what, way.name, *times_of(way, all_ways[0], taken), f"{rooms[way.name] / size:.2f}", syncs_of(way, room)]
+        print(f"| {' | '.join(cells)} |", flush=True)
     shutil.rmtree(source)
+
+
+def print_head(room: str, asked: argparse.Namespace, words: Sequence[str]) -> None:
+    """Prints what repeats the table and what its cells are, and its first rows."""
+    command = " ".join(["bench/beside/run", *("UDFBURN" if word == asked.program else word for word in words)])
+    kind = subprocess.check_output(["df", "--output=fstype", room], text=True).split()[-1]
+    restic, borg = (" ".join(subprocess.check_output(list(each), text=True).split()[:2]) for each in (("restic", "version"), ("borg", "--version")))
+    print(f"{asked.rounds} round{'s in turn' if asked.rounds > 1 else ''} on {kind}, {load()}, {restic}, {borg}: `{command}`. What follows `+` is `close`. "
+          "`add` runs without `--trust-times`, so its second run reads every file. After it stands a run with `--trust-times`. restic and borg trust times "
+          "by themselves, and their second runs are compared with that one. Room is that of the files' bytes; syncs are those of the first and the second run.")
+    print("\n| Files | Program | First run | Second run | Restore | Check | Room | Syncs |\n|---|---|---|---|---|---|---|---|", flush=True)
 
 
 # ---- beside rsync
@@ -138,17 +171,26 @@ def put_beside(program: str, room: str, asked: argparse.Namespace) -> None:
 def main(words: Sequence[str]) -> int:
     parser = argparse.ArgumentParser(prog="bench/beside/run")
     parser.add_argument("--rounds", type=int, default=5)
-    parser.add_argument("--part", action="append", choices=PARTS)
-    parser.add_argument("--shrink", type=int, default=1)
+    parser.add_argument("--part", action="append", choices=[*PARTS, "put"], help="one or several (default: all but put)")
+    parser.add_argument("--shrink", type=int, default=1, metavar="N", help="take one of N files or bytes")
     parser.add_argument("--folder", help="where all is made: on the disk that is measured")
     parser.add_argument("program", metavar="UDFBURN")
     asked = parser.parse_args(words)
+    parts = asked.part or list(PARTS)
+    for tool in ("strace", *(("rsync",) if "put" in parts else ()), *(("restic", "borg") if parts != ["put"] else ())):
+        if not shutil.which(tool):
+            parser.error(f"{tool} is not installed")
+    program = os.path.abspath(asked.program)
     with tempfile.TemporaryDirectory(prefix="bench.", dir=os.path.realpath(asked.folder or tempfile.gettempdir())) as room:
-        for part in asked.part or PARTS:
+        if parts != ["put"]:
+            print_head(room, asked, words)
+        for part in sorted(parts, key=[*PARTS, "put"].index):
+            begun = time.monotonic()
             if part == "put":
-                put_beside(os.path.abspath(asked.program), room, asked)
+                put_beside(program, room, asked)
             else:
-                beside(os.path.abspath(asked.program), room, part, asked)
+                beside(program, room, part, asked)
+            print(f"{part}: {time.monotonic() - begun:.0f} s", file=sys.stderr)
     return 0
 
 

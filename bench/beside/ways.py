@@ -17,13 +17,15 @@ Step = list[str]
 
 
 class Way(NamedTuple):
-    """A program: its environment, and the commands of each step, where {} stands for a folder to give back into."""
+    """A program: its environment, and the commands of each step, where {} stands for a folder to give back into. `end` and `trusting` are
+    the archive's alone: what completes a first run, and a run that trusts times."""
 
     name: str
     keys: dict[str, str]
     begin: Step
     store: Step
     end: Step
+    trusting: Step
     check: Step
     back: Step
 
@@ -48,12 +50,14 @@ def ways(program: str, room: str, source: str) -> list[Way]:
     restic = {"RESTIC_PASSWORD": "x", "RESTIC_REPOSITORY": at, "XDG_CACHE_HOME": os.path.join(room, "cache")}
     borg = {"BORG_BASE_DIR": os.path.join(room, "base"), "BORG_UNKNOWN_UNENCRYPTED_REPO_ACCESS_IS_OK": "yes", "BORG_REPO": at}
     archive = "udfburn.archive"
+    add = package(archive, "add", source, "--at", "/t", "--quiet")
     return [
-        Way("udfburn-archive", own, package(archive, "init", at, "--quiet"), package(archive, "add", source, "--at", "/t", "--quiet"),
-            package(archive, "close", "--quiet"), package(archive, "check", "--quiet"), package(archive, "get", "/t", "{}", "--quiet")),
-        Way("restic", restic, ["restic", "init", "-q"], ["restic", "backup", "-q", source], [], ["restic", "check", "-q", "--read-data"],
+        Way("`udfburn-archive`", own, package(archive, "init", at, "--quiet"), add, package(archive, "close", "--quiet"), [*add, "--trust-times"],
+            package(archive, "check", "--quiet"), package(archive, "get", "/t", "{}", "--quiet")),
+        Way("restic", restic, ["restic", "init", "-q"], ["restic", "backup", "-q", source], [], [], ["restic", "check", "-q", "--read-data"],
             ["restic", "restore", "-q", "latest", "--target", "{}"]),
-        Way("borg", borg, ["borg", "init", "-e", "none"], ["borg", "create", "::{now}", source], [], ["borg", "check", "--verify-data"],
+        # Two runs may begin in the same second, and each needs a name of its own.
+        Way("borg", borg, ["borg", "init", "-e", "none"], ["borg", "create", "::{now}-{pid}", source], [], [], ["borg", "check", "--verify-data"],
             ["sh", "-c", 'cd "$1" && borg extract "::$(borg list --last 1 --format "{archive}")"', "-", "{}"]),
     ]
 
