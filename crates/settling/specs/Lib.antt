@@ -1,0 +1,4 @@
+pub mod Phases
+pub mod Calls
+pub mod Given
+pub mod Gathered
