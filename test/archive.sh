@@ -27,12 +27,7 @@ if ! [ -x "$UDFBURN" ]; then
 fi
 PATH=$PATH:/usr/sbin:/sbin
 
-# Volumes are made in memory where there is room: what is tested is what happens to processes, not to disks.
-free=$(df -Pk /dev/shm 2> /dev/null | awk 'NR == 2 { print $4 }')
-if [ -z "${TMPDIR:-}" ] && [ -z "${LARGE:-}" ] && [ -w /dev/shm ] && [ "${free:-0}" -gt 4000000 ]; then
-    TMPDIR=/dev/shm
-    export TMPDIR
-fi
+[ -n "${LARGE:-}" ] || in_memory 4000000
 
 python=${PYTHON:-/usr/bin/python3}
 [ -x "$python" ] || python=python3

@@ -30,13 +30,7 @@ for program in "$UDFBURN" "$UDFBURND"; do
     fi
 done
 
-# Volumes are made in memory where there is room: what is tested is what happens to processes, not to disks.
-free=$(df -Pk /dev/shm 2> /dev/null | awk 'NR == 2 { print $4 }')
-if [ -z "${TMPDIR:-}" ] && [ -w /dev/shm ] && [ "${free:-0}" -gt 3000000 ]; then
-    TMPDIR=/dev/shm
-    export TMPDIR
-fi
-
+in_memory 3000000
 room=$(mktemp -d) || exit 1
 trap 'rm -rf "$room"' EXIT
 trap 'exit 1' HUP INT PIPE TERM

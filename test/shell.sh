@@ -9,6 +9,16 @@ absolute() {
     echo "$(cd "$(dirname "$1")" && pwd)/$(basename "$1")"
 }
 
+# in_memory KILOBYTES: has temporary files made in memory where there is so much room, and TMPDIR names no other place. What is tested
+# is what happens to processes, not to disks.
+in_memory() {
+    free=$(df -Pk /dev/shm 2> /dev/null | awk 'NR == 2 { print $4 }')
+    if [ -z "${TMPDIR:-}" ] && [ -w /dev/shm ] && [ "${free:-0}" -gt "$1" ]; then
+        TMPDIR=/dev/shm
+        export TMPDIR
+    fi
+}
+
 pass() {
     passed=$((passed + 1))
 }

@@ -172,6 +172,25 @@ def write(path: str, data: bytes) -> str:
     return path
 
 
+def change(path: str, place: int) -> None:
+    """Flips a bit of a byte of a file, also of one that is read-only."""
+    mode = os.stat(path).st_mode
+    os.chmod(path, 0o600)
+    with open(path, "r+b") as file:
+        file.seek(place)
+        byte = file.read(1)
+        file.seek(place)
+        file.write(bytes([byte[0] ^ 1]))
+    os.chmod(path, mode)
+
+
+def change_in(path: str, data: bytes) -> None:
+    """Flips a bit of the first byte of these bytes in a file that has them."""
+    with open(path, "rb") as file:
+        place = file.read().index(data)
+    change(path, place)
+
+
 class WithArchive(unittest.TestCase):
     """A room, and an archive where it is made."""
 
@@ -186,6 +205,14 @@ class WithArchive(unittest.TestCase):
 
     def path(self, *names: str) -> str:
         return os.path.join(self.room, *names)
+
+    def mount_memory(self, folder: str, size: str) -> None:
+        """Mounts a file system in memory on a folder for the time of the test, which is skipped where none can be mounted."""
+        os.makedirs(folder, exist_ok=True)
+        words = ["mount", "-t", "tmpfs", "-o", f"size={size}", "none", folder]
+        if os.geteuid() or subprocess.run(words, capture_output=True, check=False).returncode:
+            self.skipTest("a file system cannot be mounted here")
+        self.addCleanup(subprocess.call, ["umount", "-l", folder])
 
     def run_in(self, archive: str, command: str, *words: str, status: Optional[int] = 0) -> Done:
         """Runs a command on an archive, which has to end with a status."""

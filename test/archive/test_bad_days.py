@@ -9,8 +9,8 @@ import subprocess
 import sys
 from typing import List
 
-from .support import COMMANDS, PACKAGE, PATIENCE, WithArchive, digests, environment, make_tree, write
-from .test_remotes import WithRemotes, change
+from .support import COMMANDS, PACKAGE, PATIENCE, WithArchive, change, digests, environment, make_tree, write
+from .test_remotes import WithRemotes
 
 sys.path.insert(0, PACKAGE)
 
@@ -203,11 +203,7 @@ class FullDisk(WithArchive):
 
     def test_a_cut_copy_leaves_nothing(self) -> None:
         disk = self.path("disk")
-        os.mkdir(disk)
-        words = ["mount", "-t", "tmpfs", "-o", "size=1m", "none", disk]
-        if os.geteuid() != 0 or subprocess.run(words, capture_output=True, check=False).returncode:
-            self.skipTest("a file system cannot be mounted here")
-        self.addCleanup(subprocess.call, ["umount", "-l", disk])
+        self.mount_memory(disk, "1m")
         self.init("--copies", disk)
         write(os.path.join(self.source, "big"), os.urandom(2_500_000))
         self.add("--no-copy")

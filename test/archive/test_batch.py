@@ -10,7 +10,7 @@ import subprocess
 import sys
 from typing import List
 
-from .support import LARGE, PATIENCE, WithArchive, await_programs, digests, environment, make_tree, unmount, write
+from .support import LARGE, PATIENCE, WithArchive, await_programs, digests, environment, make_tree, write
 from .test_crash import STEPS
 
 BLOCK = 2048
@@ -223,17 +223,10 @@ class Batches(WithArchive):
         self.patched(folder, UNKNOWN)
         self.require_all()
 
-    @staticmethod
-    def mounted(folder: str, size: str) -> bool:
-        os.makedirs(folder)
-        return subprocess.run(["mount", "-t", "tmpfs", "-o", f"size={size}", "tmpfs", folder], capture_output=True).returncode == 0
-
     def test_little_memory(self) -> None:
         """The batch finds room for its copy, and not for what it adds."""
         folder = self.path("memory")
-        if not self.mounted(folder, "4m"):
-            self.skipTest("a file system in memory cannot be mounted here")
-        self.addCleanup(unmount, folder)
+        self.mount_memory(folder, "4m")
         self.init()
         for index in range(120):
             write(os.path.join(self.source, f"f{index}"), os.urandom(50_000))

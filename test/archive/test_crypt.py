@@ -7,8 +7,7 @@ import shutil
 import subprocess
 from typing import Dict
 
-from .support import WithArchive, digests, make_tree, write
-from .test_remotes import change
+from .support import WithArchive, change, digests, make_tree, write
 
 SECRET = b"what nobody else may read: " * 40
 

@@ -11,7 +11,7 @@ import sys
 from contextlib import closing
 from typing import List
 
-from .support import PACKAGE, WithArchive, digests, make_tree, write
+from .support import PACKAGE, WithArchive, change, change_in, digests, make_tree, write
 
 sys.path.insert(0, PACKAGE)
 
@@ -31,10 +31,7 @@ class Damage(WithArchive):
 
     def change(self, number: int, data: bytes) -> None:
         """Changes a byte of an image, at the place of some bytes of a file."""
-        with open(self.image(number), "r+b") as file:
-            place = file.read().index(data[:64])
-            file.seek(place)
-            file.write(bytes([data[0] ^ 1]))
+        change_in(self.image(number), data[:64])
 
     def names_of(self, failures: List[str]) -> List[str]:
         return [name for name in ("big", "file 3.bin") if any(name in failure for failure in failures)]
@@ -82,12 +79,7 @@ class Damage(WithArchive):
 
     def spoil(self, number: int) -> None:
         """Changes a byte that no file has, so that the program refuses the image."""
-        with open(self.image(number), "r+b") as file:
-            place = os.path.getsize(self.image(number)) - 3 * 2048
-            file.seek(place)
-            byte = file.read(1)[0]
-            file.seek(place)
-            file.write(bytes([byte ^ 1]))
+        change(self.image(number), os.path.getsize(self.image(number)) - 3 * 2048)
 
     def test_the_other_volumes_are_used(self) -> None:
         self.init("--capacity", "3000")
@@ -144,11 +136,9 @@ class Damage(WithArchive):
         self.add()
         self.do("close")
         closed, good, changed = self.path("archive", "closed", "T-000001.img"), self.path("good.img"), self.path("changed.img")
-        with open(closed, "rb") as file:
-            data = file.read()
-        write(good, data)
-        place = data.index(self.data[:64])
-        write(changed, data[:place] + bytes([data[place] ^ 1]) + data[place + 1 :])
+        for copy in (good, changed):
+            shutil.copyfile(closed, copy)
+        change_in(changed, self.data[:64])
         os.unlink(closed)
         before = digests(self.path("archive", "closed"))
         self.assertIn("is not T-000001 as it was closed", self.do("adopt", "T-000001", changed, status=1).errors)
@@ -195,8 +185,8 @@ class Damage(WithArchive):
         self.assertEqual((last["deleted"], last["kept"]), (0, 1))
         self.assertEqual(list(digests(self.source)), [b"big"])
 
-    def test_a_part_is_compared_with_the_manifest_of_its_volume(self) -> None:
-        """The catalogue has no digest of a part: where one volume is read alone, its bag says which part is damaged."""
+    def with_a_damaged_part(self) -> bytes:
+        """A file on several volumes, of which the second is closed and has its part damaged: the file's bytes."""
         self.init("--capacity", "4000")
         data = os.urandom(12_000_000)
         write(self.big, data)
@@ -204,29 +194,19 @@ class Damage(WithArchive):
         (row,) = self.rows()
         first = next(place["first"] for place in row["places"] if place["volume"] == "T-000002")
         self.do("close", "T-000002")
-        closed = self.path("archive", "closed", "T-000002.img")
-        os.chmod(closed, 0o644)
-        os.rename(closed, self.image(2))
-        self.change(2, data[first << 20 :])
-        os.rename(self.image(2), closed)
+        change_in(self.path("archive", "closed", "T-000002.img"), data[first << 20 :][:64])
+        return data
+
+    def test_a_part_is_compared_with_the_manifest_of_its_volume(self) -> None:
+        """The catalogue has no digest of a part: where one volume is read alone, its bag says which part is damaged."""
+        self.with_a_damaged_part()
         done = self.do("check", "--data", "T-000002", status=1)
         self.assertEqual(self.names_of(done.last()["failures"]), ["big"])
         self.assertIn("1 file is not as it was stored", done.errors)
 
     def test_parts_that_an_earlier_run_stored_are_read(self) -> None:
-        self.init("--capacity", "4000")
-        data = os.urandom(12_000_000)
-        write(self.big, data)
-        self.add()
-        (row,) = self.rows()
-        first = next(place["first"] for place in row["places"] if place["volume"] == "T-000002")
         # The file goes from the first volume, and the second, which has the middle of it, is damaged.
-        self.do("close", "T-000002")
-        closed = self.path("archive", "closed", "T-000002.img")
-        os.chmod(closed, 0o644)
-        os.rename(closed, self.image(2))
-        self.change(2, data[first << 20 :])
-        os.rename(self.image(2), closed)
+        data = self.with_a_damaged_part()
         self.change(1, data)
         self.do("close", "--without-damaged", "T-000001")
         last = self.add("--delete-source").last()

@@ -8,9 +8,9 @@ import subprocess
 import sys
 from typing import Dict, List
 
-from .support import LARGE, PATIENCE, Done, WithArchive, await_programs, digests, environment, make_tree, write
+from .support import LARGE, PATIENCE, Done, WithArchive, await_programs, change, digests, environment, make_tree, write
 from .test_crash import STEPS
-from .test_remotes import WithRemotes, change
+from .test_remotes import WithRemotes
 
 SPOILT = """
 import os, sys

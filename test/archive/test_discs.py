@@ -8,7 +8,7 @@ import sqlite3
 from typing import Any, Dict, List
 from unittest import mock
 
-from .support import COMMANDS, Done, WithArchive, digests, environment, make_tree, write
+from .support import COMMANDS, Done, WithArchive, change, digests, environment, make_tree, write
 
 from udfburn.archive import remotes  # noqa: E402
 from udfburn.archive.catalogue import Catalogue  # noqa: E402
@@ -72,7 +72,7 @@ class Discs(WithArchive):
         # Each byte counts, of the volume's own.
         words = ("check", "--disc", "Shelf 1", "--device", "stdio:" + self.disc("Shelf 1"))
         self.assertIn("is intact", self.say(*words))
-        self.damage(self.disc("Shelf 1"), len(self.data) // 2)
+        change(self.disc("Shelf 1"), len(self.data) // 2)
         self.assertIn("is not as it was burned: burn another one", self.say(*words, status=1))
         self.assertEqual([row["trouble"] for row in self.discs()], ["is not as it was burned"])
         self.assertIn("the disc Shelf 1: is not as it was burned", self.say("status"))
@@ -81,23 +81,15 @@ class Discs(WithArchive):
         self.assertEqual([row["trouble"] for row in self.discs()], [None])
         self.assertIn("is intact", self.say("check", "--disc", "Shelf 1", "--device", "stdio:" + self.disc("new")))
 
-    def damage(self, path: str, at: int) -> None:
-        os.chmod(path, 0o600)
-        with open(path, "r+b") as file:
-            file.seek(at)
-            byte = file.read(1)
-            file.seek(at)
-            file.write(bytes([byte[0] ^ 1]))
-
     def test_an_image_comes_back(self) -> None:
         """From a disc, where it is damaged or away; never from one that is damaged itself."""
         self.burn("A")
         self.burn("B")
         for path in (self.image, os.path.join(self.path("second"), LABEL + ".img")):
-            self.damage(path, 400 * BLOCK)
+            change(path, 400 * BLOCK)
         self.run_in(self.archive, "check", status=1)
         self.assertIn(f"repair {LABEL} --disc A", self.say("repair", LABEL, status=1))
-        self.damage(self.disc("A"), 500 * BLOCK)
+        change(self.disc("A"), 500 * BLOCK)
         words = ("repair", LABEL, "--disc")
         before = sorted(os.listdir(os.path.dirname(self.image)))
         self.assertIn("is not as it was burned", self.say(*words, "A", "--device", "stdio:" + self.disc("A"), status=1))
@@ -173,10 +165,10 @@ class Discs(WithArchive):
         before = self.discs()
         for command in (("check",), ("repair", LABEL)):
             os.chmod(self.image, 0o600)
-            self.damage(self.image, 500 * BLOCK)
+            change(self.image, 500 * BLOCK)
             self.assertIn(f"has TAPES-000002, and not {LABEL}: put the right one in", self.say(*command, "--disc", "A", "--device", "stdio:" + self.disc("C"), status=1))
             self.refused("is not as it was closed, and was not burned", "N")
-            self.damage(self.image, 500 * BLOCK)
+            change(self.image, 500 * BLOCK)
         os.rename(self.image, self.path("away"))
         self.refused("is not at hand", "N")
         self.assertEqual(self.discs(), before)
@@ -239,6 +231,6 @@ class Discs(WithArchive):
 
     def test_only_remotes_are_repaired_unasked(self) -> None:
         self.burn("A")
-        self.damage(self.disc("A"), 500 * BLOCK)
+        change(self.disc("A"), 500 * BLOCK)
         self.run_in(self.archive, "check", "--disc", "A", "--device", "stdio:" + self.disc("A"), status=1)
         self.assertEqual(self.run_in(self.archive, "repair").last()["volumes"], 0)

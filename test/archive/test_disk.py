@@ -6,7 +6,6 @@ from __future__ import annotations
 import os
 import random
 import shutil
-import subprocess
 import unittest
 from typing import List
 
@@ -25,11 +24,7 @@ class FullDisk(WithArchive):
     def setUp(self) -> None:
         super().setUp()
         self.disk = self.path("disk")
-        os.mkdir(self.disk)
-        words = ["mount", "-t", "tmpfs", "-o", "size=48m", "none", self.disk]
-        if os.geteuid() != 0 or subprocess.run(words, capture_output=True, check=False).returncode:
-            self.skipTest("a file system cannot be mounted here")
-        self.addCleanup(subprocess.call, ["umount", "-l", self.disk])
+        self.mount_memory(self.disk, "48m")
         self.archive = os.path.join(self.disk, "archive")
         self.filler = os.path.join(self.disk, "filler")
 

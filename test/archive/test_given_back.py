@@ -5,9 +5,8 @@ from __future__ import annotations
 import os
 import shutil
 
-from .support import digests, write
+from .support import change, digests, write
 from .test_open_copies import BLOCK, WithOpen
-from .test_remotes import change
 
 
 class Repairs(WithOpen):

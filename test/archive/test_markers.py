@@ -19,11 +19,7 @@ class Markers(WithArchive):
     def mount(self) -> None:
         """A disk of its own for copies, which stays mounted elsewhere."""
         disk = self.path("disk")
-        os.mkdir(disk)
-        words = ["mount", "-t", "tmpfs", "-o", "size=48m", "none", disk]
-        if os.geteuid() != 0 or subprocess.run(words, capture_output=True, check=False).returncode:
-            self.skipTest("a file system cannot be mounted here")
-        self.addCleanup(subprocess.call, ["umount", "-l", disk])
+        self.mount_memory(disk, "48m")
         self.bind()
         self.addCleanup(subprocess.call, ["umount", "-l", self.copies], stderr=subprocess.DEVNULL)
 

@@ -10,9 +10,8 @@ import sys
 from typing import Callable, Dict, List, Tuple
 
 from .servers import webdav
-from .support import PACKAGE, UDFBURN, Digests, WithArchive, digests, environment, kill, make_tree, start, wait_until, words_of, write
+from .support import PACKAGE, UDFBURN, Digests, WithArchive, change, digests, environment, kill, make_tree, start, wait_until, words_of, write
 from .test_chaos import Chaos
-from .test_remotes import change
 
 sys.path.insert(0, PACKAGE)
 
@@ -304,10 +303,7 @@ class Killed(WithOpen):
 class FullDisk(WithOpen):
     def test_a_full_disk(self) -> None:
         small = self.path("small")
-        os.mkdir(small)
-        if os.geteuid() or subprocess.run(["mount", "-t", "tmpfs", "-o", "size=2m", "none", small], capture_output=True, check=False).returncode:
-            self.skipTest("a file system cannot be mounted here")
-        self.addCleanup(subprocess.call, ["umount", "-l", small])
+        self.mount_memory(small, "2m")
         self.do("remote", "add", small)
         self.do("copy")
         copy = os.path.join(small, "T-000001.img")

@@ -13,7 +13,7 @@ from pathlib import Path
 from typing import Dict, List, Optional, Sequence, Tuple
 
 from .servers import webdav
-from .support import HERE, PATIENCE, WithArchive, digests, environment, make_tree, start, wait_until, write
+from .support import HERE, PATIENCE, WithArchive, change, digests, environment, make_tree, start, wait_until, write
 from .test_batch import TORN
 
 sys.path.insert(0, os.path.join(HERE, "..", "readers"))
@@ -42,18 +42,6 @@ class WithRemotes(WithArchive):
 
     def copies(self) -> List[str]:
         return [self.path("folder"), self.path("local", "sub"), self.path("served", "deep", "er")]
-
-
-def change(path: str, place: int) -> None:
-    """Changes a byte of a file, also of one that is read-only."""
-    mode = os.stat(path).st_mode
-    os.chmod(path, 0o600)
-    with open(path, "r+b") as file:
-        file.seek(place)
-        byte = file.read(1)
-        file.seek(place)
-        file.write(bytes([byte[0] ^ 0x40]))
-    os.chmod(path, mode)
 
 
 class Copies(WithRemotes):

@@ -8,7 +8,7 @@ import sys
 from typing import Dict, List, Set
 from unittest import mock
 
-from .support import PACKAGE, WithArchive, digests, make_tree, unmount, write
+from .support import PACKAGE, WithArchive, digests, make_tree, write
 
 sys.path.insert(0, PACKAGE)
 
@@ -81,13 +81,8 @@ class Excludes(WithArchive):
             exclude.compiled(["*.o"])
 
     def test_another_file_system(self) -> None:
-        if os.geteuid():
-            self.skipTest("needs root")
         mounted = os.path.join(self.source, "mounted")
-        os.mkdir(mounted)
-        if subprocess.run(["mount", "-t", "tmpfs", "none", mounted], check=False, stderr=subprocess.DEVNULL).returncode:
-            self.skipTest("nothing can be mounted here")
-        self.addCleanup(unmount, mounted)
+        self.mount_memory(mounted, "4m")
         write(os.path.join(mounted, "far"), b"1")
         self.assertIn("mounted/far", self.stored())
         self.assertEqual(self.stored("--one-file-system"), self.stored() - {"mounted/far"})

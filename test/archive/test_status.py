@@ -10,8 +10,7 @@ import stat
 import subprocess
 from typing import Dict, List
 
-from .support import WithArchive, make_tree, write
-from .test_remotes import change
+from .support import WithArchive, change, make_tree, write
 
 DAY = 86_400_000_000
 SAMPLE = re.compile(r'^udfburn_archive_([a-z_]+)\{archive="T"(?:,[a-z]+="([^"]*)")?\} ([0-9.e+]+)$')
@@ -194,10 +193,7 @@ class Metrics(WithCopies):
         with open(self.file, "rb") as file:
             before = file.read()
         small = self.path("small")
-        os.mkdir(small)
-        if os.geteuid() or subprocess.run(["mount", "-t", "tmpfs", "-o", "size=4k", "none", small], capture_output=True, check=False).returncode:
-            self.skipTest("a file system cannot be mounted here")
-        self.addCleanup(subprocess.call, ["umount", "-l", small])
+        self.mount_memory(small, "4k")
         target = write(os.path.join(small, "archive.prom"), before[:4000])
         self.do("status", "--prometheus", target, status=1)
         with open(target, "rb") as file:
