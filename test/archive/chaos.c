@@ -47,28 +47,27 @@ static int below(const char *path) {
     return path && length && !strncmp(path, room, length) && (path[length] == '/' || !path[length]);
 }
 
-/* Whether a path, from a folder's descriptor or the current folder on, is below the room. */
-static int is_ours(int folder, const char *path) {
+/* Whether what a descriptor leads to is below the room. */
+static int is_below(int fd) {
     char from[64], whole[PATH_MAX];
-    if (!count || !path) return 0;
-    if (path[0] == '/') return below(path);
-    if (folder == AT_FDCWD) return getcwd(whole, sizeof whole) && below(whole);
-    snprintf(from, sizeof from, "/proc/self/fd/%d", folder);
+    snprintf(from, sizeof from, "/proc/self/fd/%d", fd);
     ssize_t length = readlink(from, whole, sizeof whole - 1);
     if (length < 0) return 0;
     whole[length] = 0;
     return below(whole);
 }
 
+/* Whether a path, from a folder's descriptor or the current folder on, is below the room. */
+static int is_ours(int folder, const char *path) {
+    char whole[PATH_MAX];
+    if (!count || !path) return 0;
+    if (path[0] == '/') return below(path);
+    return folder == AT_FDCWD ? getcwd(whole, sizeof whole) && below(whole) : is_below(folder);
+}
+
 static int is_our_file(int fd) {
     struct stat status;
-    char from[64], whole[PATH_MAX];
-    if (!count || fstat(fd, &status) || !(S_ISREG(status.st_mode) || S_ISDIR(status.st_mode))) return 0;
-    snprintf(from, sizeof from, "/proc/self/fd/%d", fd);
-    ssize_t length = readlink(from, whole, sizeof whole - 1);
-    if (length < 0) return 0;
-    whole[length] = 0;
-    return below(whole);
+    return count && !fstat(fd, &status) && (S_ISREG(status.st_mode) || S_ISDIR(status.st_mode)) && is_below(fd);
 }
 
 /* Counts a call; whether it fails. */

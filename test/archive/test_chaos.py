@@ -140,10 +140,9 @@ class Chaos(WithArchive):
         self.assertEqual(self.get_all(), self.before)
         self.require_agreed()
 
-
-class Adding(Chaos):
-    def test_add_that_deletes(self) -> None:
-        self.keep()
+    def add_that_deletes(self, earlier: Digests) -> None:
+        """At whatever call it is cut: what was acknowledged is there, what went from the source too, and the same command finishes. The
+        archive has the files of earlier runs besides."""
         words = ("add", self.source, "--at", "/s", "--delete-source", "--json")
 
         def check(output: str) -> None:
@@ -152,10 +151,16 @@ class Adding(Chaos):
             self.require_kept(output, {os.fsencode(row["path"][len("/s/"):]): row["sha256"] for row in self.rows()})
             self.do(*words[:-1])
             self.assertEqual(digests(self.source), {}, output)
-            self.assertEqual(self.get_all(), self.before)
+            self.assertEqual(self.get_all(), {**earlier, **self.before})
             self.require_agreed()
 
         self.trials(check, *words)
+
+
+class Adding(Chaos):
+    def test_add_that_deletes(self) -> None:
+        self.keep()
+        self.add_that_deletes({})
 
 
 class AddingWhole(Adding):
