@@ -8,7 +8,7 @@ import sqlite3
 import subprocess
 import tomllib
 
-from .support import UDFBURN, WithArchive, digests, environment, make_tree, words_of, write
+from .support import UDFBURN, WithArchive, change_in, digests, environment, make_tree, words_of, write
 
 
 class Commands(WithArchive):
@@ -355,12 +355,7 @@ class Deleting(WithArchive):
         os.rename(image + ".away", image)
         # A byte of one file's data is changed: that source stays.
         with open(os.path.join(self.source, "d0", "e0", "file 3.bin"), "rb") as file:
-            data = file.read()
-        with open(image, "r+b") as volume:
-            whole = volume.read()
-            place = whole.index(data)
-            volume.seek(place)
-            volume.write(bytes([data[0] ^ 1]))
+            change_in(image, file.read())
         last = self.add("--delete-source").last()
         self.assertEqual((last["deleted"], last["kept"]), (19, 1))
         self.assertEqual(list(digests(self.source)), [b"d0/e0/file 3.bin"])

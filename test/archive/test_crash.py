@@ -241,10 +241,7 @@ class Disk(WithArchive):
 
     def mount(self, size: str) -> str:
         folder = self.path("disk")
-        os.mkdir(folder)
-        if os.geteuid() != 0 or subprocess.run(["mount", "-t", "tmpfs", "-o", f"size={size}", "none", folder], capture_output=True, check=False).returncode:
-            self.skipTest("a file system cannot be mounted here")
-        self.addCleanup(subprocess.call, ["umount", "-l", folder])
+        self.mount_memory(folder, size)
         return folder
 
     def test_the_disk_is_full(self) -> None:

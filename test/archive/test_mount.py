@@ -13,7 +13,7 @@ import time
 from typing import Callable, List
 
 from .mounts import Mount, WithMounts, is_mounted, mounted
-from .support import WithArchive, digests, environment, make_tree, write
+from .support import WithArchive, change, change_in, digests, environment, make_tree, write
 
 
 class ImageMounts(WithMounts, WithArchive):
@@ -58,9 +58,9 @@ class ImageMounts(WithMounts, WithArchive):
             changes: List[Callable[[str], None]] = [
                 lambda path: os.mkdir(path + "x"), os.unlink, lambda path: os.truncate(path, 1), lambda path: open(path, "ab").close(),
             ]
-            for change in changes:
+            for attempt in changes:
                 with self.assertRaises(OSError) as failed:
-                    change(mount.path("latest", "s", "data", "long.bin"))
+                    attempt(mount.path("latest", "s", "data", "long.bin"))
                 self.assertEqual(failed.exception.errno, errno.EROFS)
             self.assertEqual(mount.end(), 0, mount.told())
         self.assertEqual(os.listdir(self.folder), [])
@@ -90,12 +90,8 @@ class ImageMounts(WithMounts, WithArchive):
             bytes_of[name] = chance.randbytes(size)
             write(os.path.join(self.source, name), bytes_of[name])
         self.fill("--seal")
-        with open(self.image, "r+b") as file:
-            data = file.read()
-            for name in ("damaged", "long"):
-                place = data.index(bytes_of[name][150_000:150_100])
-                file.seek(place)
-                file.write(bytes([data[place] ^ 1]))
+        for name in ("damaged", "long"):
+            change_in(self.image, bytes_of[name][150_000:150_100])
         with mounted(self.words(), self.folder) as mount:
             data_path = mount.path("latest", "s", "data")
             self.require_error(errno.EIO, os.path.join(data_path, "damaged"))
@@ -258,10 +254,7 @@ class ArchiveMounts(WithMounts, WithArchive):
             with open(image, "rb") as file:
                 place = file.read().find(data)
             if place >= 0:
-                os.chmod(image, 0o600)
-                with open(image, "r+b") as file:
-                    file.seek(place)
-                    file.write(bytes([data[0] ^ 1]))
+                change(image, place)
                 return image
         raise AssertionError("no image has it")
 
