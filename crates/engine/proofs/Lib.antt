@@ -3,6 +3,7 @@ pub mod Holding
 pub mod Calling
 pub mod Running
 pub mod Withstanding
+pub mod Planned
 pub mod InTurn
 pub mod Served
 pub mod Losses
@@ -14,3 +15,4 @@ pub mod Rows
 pub mod Next
 pub mod Fronts
 pub mod Lending
+pub mod Counting

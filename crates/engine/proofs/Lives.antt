@@ -1,5 +1,5 @@
 -- Runs that ended, those that a power loss cut off, and runs after other runs.
-use Rattle.std.proofs.Common.{◌≡◌, ◌⊎◌, inl, inr, ℕ, List, [], ◌∷◌, ◌++◌, length, refl, sym, ap, ◌∙◌, subst, arith, append_assoc, append-nil, IsTrue}
+use Rattle.std.proofs.Common.{◌≡◌, inl, ℕ, List, [], ◌∷◌, ◌++◌, length, refl, sym, ap, ◌∙◌, subst, arith, append_assoc, append-nil, IsTrue}
 use Rattle.std.proofs.lemmas.List.{take_all}
 use Rattle.drive.specs.Journal.{Event, held, Once}
 use Rattle.request.specs.declared.answer.Answer.{Answer}
@@ -13,7 +13,7 @@ use Rattle.udf.specs.Udf.{udf, spelled_length}
 use Rattle.engine.specs.Said.{model_answers}
 use Rattle.engine.specs.Situation.{Situation}
 use Rattle.engine.specs.Steps.{HoldsState}
-use Rattle.engine.specs.Served.{AllAnswered, ServedHolds, ServedWithstands, brought}
+use Rattle.engine.specs.Served.{AllAnswered, ServedWithstands, brought}
 use Rattle.engine.specs.Losses.{AreCut, IsRunCutShort, IsStreamCut, Life, LosesStream}
 use Rattle.engine.specs.Lives.{CutsJoin, IsLifeUntil, life_of}
 use Rattle.engine.proofs.Losses.{served_reach}

@@ -310,8 +310,8 @@ kept_self None = tt
 kept_self (Some xs) = refl
 
 -- no more is read
-pub serving_stops : (reader : Option (List ℕ)) (s t : Situation) (i l o v : Option (List ℕ)) → Serving reader s t i l o v → IsIdle reader → ServesUntil faults.Read s t i l o v
-serving_stops reader s t i l o v h idle = serving_kept reader s t i l l o v h idle (kept_self l)
+pub serving_stops : (reader : Option (List ℕ)) (s t : Situation) (i l o v : Option (List ℕ)) → Serving reader s t i l o v → IsIdle reader → ServesUntil faults.Memory s t i l o v
+serving_stops reader s t i l o v h idle = serving_short reader s t i l l o v h idle (kept_self l)
 
 -- the stream is at its end
 pub serving_ends : (reader : Option (List ℕ)) (s t : Situation) (i l n o v : Option (List ℕ)) (piece : List ℕ)

@@ -12,15 +12,18 @@ use Rattle.engine.specs.Situation.{Situation, HoldsNothing, with_store}
 use Rattle.engine.specs.Answered.{Answered, IsNothingThere, faults}
 use Rattle.engine.specs.Called.{Calls}
 use Rattle.engine.specs.Steps.{HoldsState}
+use Rattle.engine.specs.Planned.{IsUnwrittenOrPlanned}
 use Rattle.engine.specs.Withstanding.{AsksFor, MessageSurvivesPowerLoss}
 
 -- A message got its answer. On an honest drive where a state is recovered that an open store knows, it got it by that store's calls,
--- and whatever a power loss leaves of what was written for it, that state is recovered or the one after the request. On an honest
--- drive where nothing is recovered, the answer says so.
+-- and whatever a power loss leaves of what was written for it, that state is recovered or the one after the request. Where the answer
+-- tells of no failure, nothing was written, or what is planned for the request. On an honest drive where nothing is recovered, the
+-- answer says so.
 pub record IsAnswered (asked : Message) (before : Situation) (a : Answer) (afterwards : Situation) : Type 0 where
   pub answered : Answered asked before a afterwards
   pub calls : (volume : ℕ) (S : State) → IsTrue afterwards.honest → HoldsState volume S before → Calls volume asked S before a afterwards
   pub withstands : (volume : ℕ) (S : State) → IsTrue afterwards.honest → HoldsState volume S before → MessageSurvivesPowerLoss volume S (AsksFor asked) (faults a) before afterwards
+  pub planned : (volume : ℕ) (S : State) → IsTrue afterwards.honest → HoldsState volume S before → faults a ≡ 0 → IsUnwrittenOrPlanned volume S (AsksFor asked) before afterwards
   pub nothing : IsTrue afterwards.honest → HoldsNothing before → IsNothingThere asked before a afterwards
 
 -- a frame gets the answer to the message of its payload; at a restart all is forgotten that is not on the medium

@@ -5,6 +5,7 @@ pub mod Said
 pub mod Steps
 pub mod Called
 pub mod Withstanding
+pub mod Planned
 pub mod Delivered
 pub mod Headline
 pub mod Served

@@ -1,6 +1,8 @@
 -- What was read from a stream and written to one, where its bytes are known.
-use Rattle.std.specs.Prelude.{◌≡◌, ◌⊎◌, ℕ, List, [], take, Option}
+use Rattle.std.specs.Prelude.{◌≡◌, ◌⊎◌, ℕ, Bool, true, false, List, [], take, Option, Result, Ok, Err}
 use Rattle.std.specs.Io.KnownBytes.{Appends, Consumes, IsAtEnd, Keeps}
+use Rattle.request.specs.declared.frames.FeedFault.{FeedFault}
+use Rattle.request.specs.declared.frames.FeedFault.TheVariants as feeding
 use Rattle.engine.specs.declared.serving.ServeFault.{ServeFault}
 use Rattle.engine.specs.declared.serving.ServeFault.TheVariants as faults
 
@@ -25,3 +27,19 @@ abbrev pub LeavesBy : ServeFault → Option (List ℕ) → Option (List ℕ) →
 LeavesBy faults.Read before after = Keeps before after
 LeavesBy faults.Write before after = ⊥
 LeavesBy faults.Memory before after = ((piece : List ℕ) × (piece ≡ [] → ⊥) × TakesPiece before after piece) ⊎ Keeps before after
+
+-- it is the failure of a read
+abbrev pub is_read : ServeFault → Bool
+is_read faults.Read = true
+is_read faults.Write = false
+is_read faults.Memory = false
+
+abbrev pub is_read_fault : {T : Type 0} → Result T ServeFault → Bool
+is_read_fault (Ok x) = false
+is_read_fault (Err fault) = is_read fault
+
+-- the same of a reader of frames
+abbrev pub is_feed_fault : {T : Type 0} → Result T FeedFault → Bool
+is_feed_fault (Ok x) = false
+is_feed_fault (Err feeding.Read) = true
+is_feed_fault (Err feeding.Memory) = false

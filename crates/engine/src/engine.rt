@@ -16,6 +16,7 @@ ghost use Rattle.engine.specs.Situation.{IsReady, IsOpen, AddsBlocks, HoldsNothi
 ghost use Rattle.engine.specs.Answered.{Answered, due_of, IsAnsweredAsDue, IsNothingThere, CanBeAnswered, FailsOrIsDamaged, faults};
 ghost use Rattle.engine.specs.Called.{Calls, IsDealt, IsQueried, failed, refused, get_refused, list_refused, read_refused, stat_refused};
 ghost use Rattle.engine.specs.Steps.{HoldsState};
+ghost use Rattle.engine.specs.Planned.{IsUnwrittenOrPlanned};
 ghost use Rattle.engine.specs.Withstanding.{MessageSurvivesPowerLoss, AsksFor};
 
 use drive::Drive;
@@ -46,6 +47,8 @@ impl Engine {
         // What its writes leave on the journal, and what a power loss leaves of them: the disk may keep any of the
         // blocks of the last write that it was given.
         ensures withstands { (volume : ℕ) (S : State) → IsTrue (D.honest drive.new) → HoldsState volume S (seen_on D.Drive self.old drive.old) → MessageSurvivesPowerLoss volume S (AsksFor message.entry) (faults result) (seen_on D.Drive self.old drive.old) (seen_on D.Drive self.new drive.new) }
+        // If the answer tells of no failure, nothing was written, or what is planned for the request, and nothing else.
+        ensures planned { (volume : ℕ) (S : State) → IsTrue (D.honest drive.new) → HoldsState volume S (seen_on D.Drive self.old drive.old) → faults result ≡ 0 → IsUnwrittenOrPlanned volume S (AsksFor message.entry) (seen_on D.Drive self.old drive.old) (seen_on D.Drive self.new drive.new) }
         // What becomes of it on an honest drive, if nothing is recovered.
         ensures nothing { IsTrue (D.honest drive.new) → HoldsNothing (seen_on D.Drive self.old drive.old) → IsNothingThere message.entry (seen_on D.Drive self.old drive.old) result (seen_on D.Drive self.new drive.new) }
         ensures lent { drives.ReadsAndWrites D.Drive (faults result) drive.old drive.new }
@@ -135,6 +138,7 @@ fn answer_request<D: Drive>(
     ensures follows { AddsBlocks (situation_on D.Drive (Some store.old) drive.old) (situation_on D.Drive (Some store.new) drive.new) }
     ensures dealt { (volume : ℕ) (S : State) → IsTrue (D.honest drive.new) → IsOpenOn (D.capacity drive.old) volume (D.journal drive.old) S store.old → store.old.is_stopped ≡ false → IsDealt (due_of store.old request.now.client request.now.number) volume S request.now (situation_on D.Drive (Some store.old) drive.old) store.old result (situation_on D.Drive (Some store.new) drive.new) }
     ensures withstands { (volume : ℕ) (S : State) → IsTrue (D.honest drive.new) → IsOpenOn (D.capacity drive.old) volume (D.journal drive.old) S store.old → MessageSurvivesPowerLoss volume S (AsksFor (messages.Request request.now)) (faults result) (situation_on D.Drive (Some store.old) drive.old) (situation_on D.Drive (Some store.new) drive.new) }
+    ensures planned { (volume : ℕ) (S : State) → IsTrue (D.honest drive.new) → IsOpenOn (D.capacity drive.old) volume (D.journal drive.old) S store.old → faults result ≡ 0 → IsUnwrittenOrPlanned volume S (AsksFor (messages.Request request.now)) (situation_on D.Drive (Some store.old) drive.old) (situation_on D.Drive (Some store.new) drive.new) }
     ensures lent { drives.ReadsAndWrites D.Drive (faults result) drive.old drive.new }
 {
     match store.due(request.client, request.number) {

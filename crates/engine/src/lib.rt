@@ -7,6 +7,7 @@
 mod engine;
 mod held;
 mod laws;
+mod reading;
 mod runs;
 mod serving;
 mod streams;
@@ -14,6 +15,7 @@ mod streams;
 pub use engine::Engine;
 pub use held::answer_held;
 pub use laws::{calls_are_steps, losses_are_survived, runs_hold, steps_hold, writes_are_in_turn};
+pub use reading::CountedReader;
 pub use runs::{Delivery, run};
 pub use serving::{ServeFault, serve};
 pub use streams::{put_all, read_piece};

@@ -2,16 +2,18 @@
 
 ghost use Rattle.std.specs.Prelude.{◌≡◌, ◌≤◌, [], OnOk, IfOk, IfErr};
 ghost use Rattle.std.specs.Io.KnownBytes.{Appends};
+ghost use Rattle.drive.specs.Journal.{counted};
 ghost use Rattle.drive.specs.Reads.{ReadsAndWrites};
 ghost use Rattle.request.specs.Answers.{answer_frame};
 ghost use Rattle.request.specs.Frames.{IsIdle};
 ghost use Rattle.request.specs.Streams.{ReadsPiece};
-ghost use Rattle.engine.specs.Streams.{LeavesBy, PutsUntil, TakesPiece};
+ghost use Rattle.engine.specs.Streams.{LeavesBy, PutsUntil, TakesPiece, is_read_fault};
 ghost use Rattle.engine.specs.Situation.{IsReady, seen_on};
 ghost use Rattle.engine.specs.Served.{Answering, AnswersSome, ServesUntil, ServesAll};
 
 use crate::engine::Engine;
-use crate::streams::{put_all, read_piece};
+use crate::reading::CountedReader;
+use crate::streams::put_all;
 use drive::Drive;
 use request::{Answer, FeedFault, Frames, encode_answer};
 use std::alloc::Global;
@@ -30,7 +32,7 @@ pub enum ServeFault {
     /// An answer could not be written.
     #[error("92 Write")]
     Write,
-    /// There was no memory to read on, or for the frame of an answer.
+    /// There was no memory to read on, or for the frame of an answer; or the stream came in more than 2^64 - 1 pieces.
     #[error("93 Memory")]
     Memory,
 }
@@ -39,17 +41,19 @@ pub enum ServeFault {
 /// before more is read.
 pub fn serve<R: Read, W: Write, D: Drive>(
     alloc: Global,
-    reader: &mut R,
+    reader: &mut CountedReader<R>,
     writer: &mut W,
     engine: &mut Engine,
     drive: &mut D,
 ) -> Result<(), ServeFault>
     requires { IsReady (seen_on D.Drive engine.old drive.old) }
     ensures ok { OnOk result (ServesAll (seen_on D.Drive engine.old drive.old) (seen_on D.Drive engine.new drive.new)
-        (R.remaining reader.old) (R.remaining reader.new) (W.contents writer.old) (W.contents writer.new)) }
+        (R.remaining reader.old.stream) (R.remaining reader.new.stream) (W.contents writer.old) (W.contents writer.new)) }
     // Otherwise the first of them were answered, and the fault shows how far that went.
     ensures left { IfErr result (λ fault. ServesUntil fault (seen_on D.Drive engine.old drive.old) (seen_on D.Drive engine.new drive.new)
-        (R.remaining reader.old) (R.remaining reader.new) (W.contents writer.old) (W.contents writer.new)) }
+        (R.remaining reader.old.stream) (R.remaining reader.new.stream) (W.contents writer.old) (W.contents writer.new)) }
+    // A read failed exactly if the fault is `Read`, and nothing was read after it.
+    ensures failures { reader.new.failures ≡ counted (is_read_fault result) reader.old.failures }
     ensures ready { IsReady (seen_on D.Drive engine.new drive.new) }
     ensures lent { ReadsAndWrites D.Drive 0 drive.old drive.new }
 {
@@ -65,16 +69,17 @@ pub fn serve<R: Read, W: Write, D: Drive>(
             return Ok(());
         }
     }
-    Err(ServeFault::Read)
+    Err(ServeFault::Memory)
 }
 
 /// Reads the next bytes of a stream into the reader of frames. Returns how many: 0 only at the end of the stream.
-fn read_on<R: Read>(reader: &mut R, frames: &mut Frames) -> Result<usize, ServeFault>
+fn read_on<R: Read>(reader: &mut CountedReader<R>, frames: &mut Frames) -> Result<usize, ServeFault>
     ensures bound { IfOk result (λ count. count ≤ PIECE_BYTES) }
-    ensures ok { IfOk result (λ count. ReadsPiece count (R.remaining reader.old) (R.remaining reader.new) frames.old frames.new) }
-    ensures err { IfErr result (λ fault. LeavesBy fault (R.remaining reader.old) (R.remaining reader.new)) }
+    ensures ok { IfOk result (λ count. ReadsPiece count (R.remaining reader.old.stream) (R.remaining reader.new.stream) frames.old frames.new) }
+    ensures err { IfErr result (λ fault. LeavesBy fault (R.remaining reader.old.stream) (R.remaining reader.new.stream)) }
+    ensures failures { reader.new.failures ≡ counted (is_read_fault result) reader.old.failures }
 {
-    match frames.read_from(reader, PIECE_BYTES) {
+    match reader.read_into(frames, PIECE_BYTES) {
         Ok(count) => Ok(count),
         Err(FeedFault::Read) => Err(ServeFault::Read),
         Err(FeedFault::Memory) => end_of(reader),
@@ -82,16 +87,17 @@ fn read_on<R: Read>(reader: &mut R, frames: &mut Frames) -> Result<usize, ServeF
 }
 
 /// Looks for the end of a stream when there is no memory to read on, since the end needs none. Anywhere else the fault
-/// is `Memory`, even if the read fails.
-fn end_of<R: Read>(reader: &mut R) -> Result<usize, ServeFault>
-    ensures ok { IfOk result (λ count. (count ≡ 0) × TakesPiece (R.remaining reader.old) (R.remaining reader.new) []) }
-    ensures memory { IfErr result (λ fault. fault ≡ ServeFault.Memory) }
-    ensures err { IfErr result (λ fault. LeavesBy fault (R.remaining reader.old) (R.remaining reader.new)) }
+/// is `Memory`, or `Read` if the read fails.
+fn end_of<R: Read>(reader: &mut CountedReader<R>) -> Result<usize, ServeFault>
+    ensures ok { IfOk result (λ count. (count ≡ 0) × TakesPiece (R.remaining reader.old.stream) (R.remaining reader.new.stream) []) }
+    ensures err { IfErr result (λ fault. LeavesBy fault (R.remaining reader.old.stream) (R.remaining reader.new.stream)) }
+    ensures failures { reader.new.failures ≡ counted (is_read_fault result) reader.old.failures }
 {
     let mut byte = [0u8; 1];
-    match read_piece(reader, &mut byte) {
+    match reader.read(&mut byte) {
         Ok(0) => Ok(0),
-        _ => Err(ServeFault::Memory),
+        Ok(_) => Err(ServeFault::Memory),
+        Err(_) => Err(ServeFault::Read),
     }
 }
 

@@ -1,6 +1,7 @@
-use Rattle.std.proofs.Common.{Ok, Err, refl, sym, inl, inr}
+use Rattle.std.proofs.Common.{Ok, Err, refl, sym, inl, inr, ◌∙◌}
 use Rattle.engine.proofs.Fronts.{after_refused, open_unwritten}
 use Rattle.engine.proofs.Next.{is_next}
+use Rattle.engine.proofs.Planned.{refused_unwritten}
 use Rattle.engine.proofs.Rows.{committed_due, dealt_new}
 use Rattle.engine.proofs.Withstanding.{applied_withstands, new_there, unwritten}
 use Rattle.engine.proofs.engine.answer_request.Goals as goal
@@ -40,6 +41,7 @@ returns-in-Err g c = record {
     capacity = c.in-Err.ensures.follows.capacity;
   });
   withstands = λ volume S honest knows. rw c.refusal.ensures.device (applied_withstands volume S _ _ _ _ _ refl (new_there _ volume _ S c.args.store.now c.args.request.now.client c.args.request.now.number knows c.in-New.ensures) (c.in-Err.ensures.withstands volume S honest knows));
+  planned = λ volume S honest knows few. inl (refused_unwritten _ _ _ _ _ _ _ c.in-Err.ensures.refused (sym c.refusal.ensures.device ∙ few));
   lent = rw c.refusal.ensures.device c.in-Err.ensures.follows;
 }
 
@@ -57,3 +59,19 @@ returns-in-Gap-clause-withstands g c volume S honest knows = unwritten volume S 
 
 pub returns-in-ClientsFull-clause-withstands : goal.returns-in-ClientsFull-clause-withstands
 returns-in-ClientsFull-clause-withstands g c volume S honest knows = unwritten volume S _ _ _ _ knows.once knows.stands refl refl
+
+pub returns-in-Ok-clause-planned : goal.returns-in-Ok-clause-planned
+returns-in-Ok-clause-planned g c volume S honest knows few =
+    inr (_, refl, new_there _ volume _ S c.args.store.now c.args.request.now.client c.args.request.now.number knows c.in-New.ensures, c.in-Ok.ensures.planned volume S honest knows)
+
+pub returns-in-Repeat-clause-planned : goal.returns-in-Repeat-clause-planned
+returns-in-Repeat-clause-planned g c volume S honest knows few = inl refl
+
+pub returns-in-Stale-clause-planned : goal.returns-in-Stale-clause-planned
+returns-in-Stale-clause-planned g c volume S honest knows few = inl refl
+
+pub returns-in-Gap-clause-planned : goal.returns-in-Gap-clause-planned
+returns-in-Gap-clause-planned g c volume S honest knows few = inl refl
+
+pub returns-in-ClientsFull-clause-planned : goal.returns-in-ClientsFull-clause-planned
+returns-in-ClientsFull-clause-planned g c volume S honest knows few = inl refl

@@ -13,7 +13,7 @@ loop-message-smaller g c = taken_less _ _ c.in-Some.message (taken_first c.loop-
 pub loop-message-preserved : goal.loop-message-preserved
 loop-message-preserved g c = record {
   answering = answering_more _ c.loop-message.frames _ _ _ _ _ (Some c.loop-message.answers.items) _ c.in-Some.message c.answer-answer.result
-      c.loop-message.invariant.answering (taken_first c.loop-message.frames c.skip.new.self c.in-Some.message c.in-Some.ensures.some c.skip.ensures.taken) (record { answered = c.answer-answer.ensures.answered; calls = c.answer-answer.ensures.calls; withstands = c.answer-answer.ensures.withstands; nothing = c.answer-answer.ensures.nothing }) (search rules);
+      c.loop-message.invariant.answering (taken_first c.loop-message.frames c.skip.new.self c.in-Some.message c.in-Some.ensures.some c.skip.ensures.taken) (record { answered = c.answer-answer.ensures.answered; calls = c.answer-answer.ensures.calls; withstands = c.answer-answer.ensures.withstands; planned = c.answer-answer.ensures.planned; nothing = c.answer-answer.ensures.nothing }) (search rules);
   ready = c.answer-answer.ensures.answered.follows.ready;
   lent = follows_then c.loop-message.invariant.lent (follows_any c.answer-answer.ensures.lent);
 }
@@ -22,7 +22,7 @@ pub returns-in_err-put_answer-clause-err : goal.returns-in_err-put_answer-clause
 returns-in_err-put_answer-clause-err g c =
     on_err c.from_residual.result _
     (answering_some _ _ c.loop-message.frames _ _ _ _ _ (Some c.loop-message.answers.items) _ c.in-Some.message c.answer-answer.result
-    c.loop-message.invariant.answering (taken_first c.loop-message.frames c.skip.new.self c.in-Some.message c.in-Some.ensures.some c.skip.ensures.taken) (record { answered = c.answer-answer.ensures.answered; calls = c.answer-answer.ensures.calls; withstands = c.answer-answer.ensures.withstands; nothing = c.answer-answer.ensures.nothing }) (search rules))
+    c.loop-message.invariant.answering (taken_first c.loop-message.frames c.skip.new.self c.in-Some.message c.in-Some.ensures.some c.skip.ensures.taken) (record { answered = c.answer-answer.ensures.answered; calls = c.answer-answer.ensures.calls; withstands = c.answer-answer.ensures.withstands; planned = c.answer-answer.ensures.planned; nothing = c.answer-answer.ensures.nothing }) (search rules))
 
 pub returns-in_err-put_answer-clause-lent : goal.returns-in_err-put_answer-clause-lent
 returns-in_err-put_answer-clause-lent g c = follows_then c.loop-message.invariant.lent (follows_any c.answer-answer.ensures.lent)

@@ -2,6 +2,7 @@ use Rattle.std.proofs.Common.{rules, List, [], Option, ℕ, refl, sym, subst, in
 use Rattle.drive.proofs.Reading.{follows_none, follows_then}
 use Rattle.std.proofs.lemmas.List.{nil_from_length}
 use Rattle.request.specs.Frames.{IsIdle}
+use Rattle.engine.proofs.Counting.{counted_on, left_unread, uncounted_on}
 use Rattle.engine.proofs.Messages.{serving_none, serving_more, serving_some, serving_left, serving_stops, serving_ends, serving_over, goes_on, if_err, over, takes_piece, piece_some}
 use Rattle.engine.proofs.serving.serve.Goals as goal
 
@@ -10,6 +11,7 @@ loop-init g c = record {
   serving = serving_none _ _ _ _ c.new-frames.ensures;
   idle = subst (λ (r : Option (List ℕ)). IsIdle r) (sym c.new-frames.ensures) (inl (omega arith));
   goes = ([], c.new-frames.ensures);
+  unfailed = refl;
   ready = search rules;
   lent = follows_none _ _;
 }
@@ -17,25 +19,25 @@ loop-init g c = record {
 pub returns-in_err-count-clause-left : goal.returns-in_err-count-clause-left
 returns-in_err-count-clause-left g c =
     if_err c.from_residual.result _ _ _ c.from_residual.ensures.1 refl
-    (serving_left _ c.loop.frames _ _ _ (g.R.Read.remaining c.loop.reader) _ _ _ c.loop.invariant.serving c.loop.invariant.idle c.in_err-count.ensures.err)
+    (serving_left _ c.loop.frames _ _ _ (g.R.Read.remaining c.loop.reader.stream) _ _ _ c.loop.invariant.serving c.loop.invariant.idle c.in_err-count.ensures.err)
 
 pub returns-then-count-eq0-clause-ok : goal.returns-then-count-eq0-clause-ok
 returns-then-count-eq0-clause-ok g c =
     let read = c.in_ok-count.ensures.ok in
-    serving_ends c.loop.frames _ _ _ (g.R.Read.remaining c.loop.reader) _ _ _ read.piece c.loop.invariant.serving c.loop.invariant.idle
+    serving_ends c.loop.frames _ _ _ (g.R.Read.remaining c.loop.reader.stream) _ _ _ read.piece c.loop.invariant.serving c.loop.invariant.idle
     (takes_piece _ _ _ _ _ read) (nil_from_length read.piece (read.long ∙ c.if-count-eq0.true))
 
 pub returns-in_err-answer_all-clause-left : goal.returns-in_err-answer_all-clause-left
 returns-in_err-answer_all-clause-left g c =
     let read = c.in_ok-count.ensures.ok in
     if_err c.from_residual-in_err-answer_all.result _ _ _ c.from_residual-in_err-answer_all.ensures.1 refl
-    (serving_some _ c.loop.frames c.read_on.new.frames c.answer_all.new.frames _ _ _ _ (g.R.Read.remaining c.loop.reader) _ _ (g.W.Write.contents c.loop.writer) _ read.piece
+    (serving_some _ c.loop.frames c.read_on.new.frames c.answer_all.new.frames _ _ _ _ (g.R.Read.remaining c.loop.reader.stream) _ _ (g.W.Write.contents c.loop.writer) _ read.piece
     c.loop.invariant.serving (takes_piece _ _ _ _ _ read) (piece_some _ _ _ _ _ read c.if-count-eq0.false) read.taken c.in_err-answer_all.ensures.err)
 
 pub returns-then-is_over-clause-ok : goal.returns-then-is_over-clause-ok
 returns-then-is_over-clause-ok g c =
     let read = c.in_ok-count.ensures.ok in
-    serving_over c.loop.frames c.read_on.new.frames c.answer_all.new.frames _ _ _ _ (g.R.Read.remaining c.loop.reader) _ _ (g.W.Write.contents c.loop.writer) _ read.piece
+    serving_over c.loop.frames c.read_on.new.frames c.answer_all.new.frames _ _ _ _ (g.R.Read.remaining c.loop.reader.stream) _ _ (g.W.Write.contents c.loop.writer) _ read.piece
     c.loop.invariant.serving c.loop.invariant.idle c.loop.invariant.goes (takes_piece _ _ _ _ _ read) (omega (arith, read.long, c.in_ok-count.ensures.bound))
     read.taken (search rules) (search rules) (over _ (search rules))
 
@@ -43,10 +45,11 @@ pub loop-preserved : goal.loop-preserved
 loop-preserved g c =
     let read = c.in_ok-count.ensures.ok in
     record {
-      serving = serving_more c.loop.frames c.read_on.new.frames c.answer_all.new.frames _ _ _ _ (g.R.Read.remaining c.loop.reader) _ _ (g.W.Write.contents c.loop.writer) _ read.piece
+      serving = serving_more c.loop.frames c.read_on.new.frames c.answer_all.new.frames _ _ _ _ (g.R.Read.remaining c.loop.reader.stream) _ _ (g.W.Write.contents c.loop.writer) _ read.piece
           c.loop.invariant.serving (takes_piece _ _ _ _ _ read) read.taken (search rules);
       idle = search rules;
       goes = goes_on _ (search rules);
+      unfailed = c.in_ok-count.ensures.failures ∙ c.loop.invariant.unfailed;
       ready = c.answer_all.ensures.ready;
       lent = follows_then c.loop.invariant.lent c.answer_all.ensures.lent;
     }
@@ -59,3 +62,13 @@ returns-in_err-answer_all-clause-lent g c = follows_then c.loop.invariant.lent c
 
 pub returns-then-is_over-clause-lent : goal.returns-then-is_over-clause-lent
 returns-then-is_over-clause-lent g c = follows_then c.loop.invariant.lent c.answer_all.ensures.lent
+
+pub returns-in_err-count-clause-failures : goal.returns-in_err-count-clause-failures
+returns-in_err-count-clause-failures g c =
+    counted_on c.from_residual.result _ _ _ _ c.from_residual.ensures.1 c.loop.invariant.unfailed c.in_err-count.ensures.failures
+
+pub returns-in_err-answer_all-clause-failures : goal.returns-in_err-answer_all-clause-failures
+returns-in_err-answer_all-clause-failures g c =
+    let some = c.in_err-answer_all.ensures.err in
+    uncounted_on c.from_residual-in_err-answer_all.result _ _ _ c.from_residual-in_err-answer_all.ensures.1
+    (left_unread _ some.answers _ _ _ some.left) (c.in_ok-count.ensures.failures ∙ c.loop.invariant.unfailed)

@@ -10,9 +10,10 @@ invariant-loop g l = record {
   serving : Serving l.frames
       (seen_on g.D.Drive l.fn.engine l.fn.drive)
       (seen_on g.D.Drive l.engine l.drive)
-      (g.R.Read.remaining l.fn.reader) (g.R.Read.remaining l.reader) (g.W.Write.contents l.fn.writer) (g.W.Write.contents l.writer);
+      (g.R.Read.remaining l.fn.reader.stream) (g.R.Read.remaining l.reader.stream) (g.W.Write.contents l.fn.writer) (g.W.Write.contents l.writer);
   idle : IsIdle l.frames;
   goes : (waiting : List ℕ) × (l.frames ≡ Some waiting);
+  unfailed : l.reader.failures ≡ l.fn.reader.failures;
   ready : IsReady (seen_on g.D.Drive l.engine l.drive);
   lent : ReadsAndWrites g.D.Drive 0 l.fn.drive l.drive;
 }

@@ -1,7 +1,8 @@
-use Rattle.std.proofs.Common.{rules, Some, refl, ◌∙◌}
+use Rattle.std.proofs.Common.{rules, None, Some, refl, ◌∙◌, inl}
 use Rattle.drive.proofs.Reading.{reads_are, reads_follows, reads_then}
 use Rattle.engine.specs.Situation.{Situation, situation_on}
 use Rattle.engine.proofs.Opening.{not_opened}
+use Rattle.engine.proofs.Planned.{planned_from}
 use Rattle.engine.proofs.Rows.{request_answered, same_situation, knows_there, request_calls, request_short, query_calls, query_short}
 use Rattle.engine.proofs.Withstanding.{unwritten, withstands_from}
 use Rattle.engine.proofs.engine.Engine.answer.Goals as goal
@@ -138,3 +139,32 @@ returns-in-Malformed-clause-withstands g c volume S honest at = unwritten volume
 
 pub returns-in-NoMemory-clause-withstands : goal.returns-in-NoMemory-clause-withstands
 returns-in-NoMemory-clause-withstands g c volume S honest at = unwritten volume S _ _ _ _ at.once at.stands refl refl
+
+pub returns-in-Ok-clause-planned : goal.returns-in-Ok-clause-planned
+returns-in-Ok-clause-planned g c volume S honest at few =
+    let d = g.D.Drive in
+    let first = c.args.drive.now in
+    let drive = c.take_open.new.drive in
+    let store = c.in-Ok.store in
+    let opened = c.in-Ok.ensures in
+    let known = opened.knows volume S (c.answer_request-answer.ensures.follows.honest honest) at in
+    let knows = knows_there (d.capacity first) (d.capacity drive) volume (d.journal first) (d.journal drive) S store opened.reads.capacity opened.reads.journal known in
+    let during : Situation = situation_on d (Some store) drive in
+    let before : Situation = situation_on d None first in
+    let afterwards : Situation = situation_on d None c.answer_request-answer.new.drive in
+    rw c.in-Request.is (planned_from volume S _ before during afterwards opened.reads.journal opened.reads.capacity (c.answer_request-answer.ensures.planned volume S honest knows few))
+
+pub returns-in-Ok-take_open-clause-planned : goal.returns-in-Ok-take_open-clause-planned
+returns-in-Ok-take_open-clause-planned g c volume S honest at few = inl (c.answer_query-answer.ensures.reads.journal ∙ c.in-Ok-take_open.ensures.reads.journal)
+
+pub returns-in-Request-clause-planned : goal.returns-in-Request-clause-planned
+returns-in-Request-clause-planned g c volume S honest at few = inl c.in-Err.ensures.reads.journal
+
+pub returns-clause-planned : goal.returns-clause-planned
+returns-clause-planned g c volume S honest at few = inl c.in-Err-take_open.ensures.reads.journal
+
+pub returns-in-Malformed-clause-planned : goal.returns-in-Malformed-clause-planned
+returns-in-Malformed-clause-planned g c volume S honest at few = inl refl
+
+pub returns-in-NoMemory-clause-planned : goal.returns-in-NoMemory-clause-planned
+returns-in-NoMemory-clause-planned g c volume S honest at few = inl refl
