@@ -18,7 +18,7 @@ from documents import make_documents  # noqa: E402
 from udfburn.image.blocks import INSIDE, PARTITION, data_blocks  # noqa: E402
 from udfburn.image.past import commits  # noqa: E402
 from udfburn.protocol.units import Address  # noqa: E402
-from udfburn.reader import Kind, Medium  # noqa: E402
+from udfburn.reader import FileType, Medium  # noqa: E402
 from udfburn.reader.basics import number_of  # noqa: E402
 from udfburn.reader.entry import read_entry  # noqa: E402
 from ways import bytes_of, installed  # noqa: E402
@@ -53,8 +53,8 @@ def of_commit(medium: Medium, begin: int, end: int) -> list[tuple[str, int]]:
         if entry is None:
             at -= 1
             continue
-        kind = {Kind.FILE: "entries", Kind.DIRECTORY: "directories", Kind.TABLE: "VAT ICBs"}[entry.kind]
-        data = {Kind.FILE: "data", Kind.DIRECTORY: "directories", Kind.TABLE: "tables"}[entry.kind]
+        kind = {FileType.FILE: "entries", FileType.DIRECTORY: "directories", FileType.TABLE: "VAT ICBs"}[entry.kind]
+        data = {FileType.FILE: "data", FileType.DIRECTORY: "directories", FileType.TABLE: "tables"}[entry.kind]
         own = [extent for extent in entry.extents if extent.first + PARTITION >= begin]
         found += [(kind, 1)] + [(data, extent.end - extent.first) for extent in own]
         at = min([extent.first + PARTITION for extent in own] + [at]) - 1

@@ -17,7 +17,7 @@ sys.path.insert(0, PACKAGE)
 from udfburn.archive.config import read  # noqa: E402
 from udfburn.archive.tell import Tell  # noqa: E402
 from udfburn.archive.view import ArchiveView  # noqa: E402
-from udfburn.mounting.shown_tree import Folder  # noqa: E402
+from udfburn.mounting.shown_tree import ShownFolder  # noqa: E402
 
 ODD = [b"new\nline", b"per%cent", b"back\\slash", b"\xff\xfe", b"- dash", b"=x", " blank ".encode(), "é".encode(), b"cr\rhere", b"%0A"]
 
@@ -51,16 +51,16 @@ class WithTree(WithArchive):
         view = ArchiveView(read(self.archive), Tell(True, False))
         self.addCleanup(view.close)
         item = view.names()[top]
-        assert isinstance(item, Folder)
+        assert isinstance(item, ShownFolder)
         if run:
             found = item.find(run)
-            assert isinstance(found, Folder)
+            assert isinstance(found, ShownFolder)
             item = found
         paths: Set[str] = set()
 
-        def walk(folder: Folder, at: str) -> None:
+        def walk(folder: ShownFolder, at: str) -> None:
             for name, below in folder.names().items():
-                if isinstance(below, Folder):
+                if isinstance(below, ShownFolder):
                     walk(below, f"{at}/{os.fsdecode(name)}")
                     # What is listed is found, too, and no folder is empty.
                     assert folder.find(name) is not None and below.names()

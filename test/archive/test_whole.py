@@ -26,7 +26,7 @@ from udfburn.archive.view import ArchiveFile, ArchiveView, State  # noqa: E402
 from udfburn.wire.operations import Operation  # noqa: E402
 from udfburn.protocol import Append, Code, Create, MakeDir, Path, Rename, limits  # noqa: E402
 from udfburn.protocol.units import Moment
-from udfburn.reader import Kind, Medium, Volume  # noqa: E402
+from udfburn.reader import FileType, Medium, Volume  # noqa: E402
 
 MEBIBYTE = 1 << 20
 SIZES = (MEBIBYTE - 1, MEBIBYTE, MEBIBYTE + 1, 3 * MEBIBYTE, 3_500_000)
@@ -44,7 +44,7 @@ def files_of(image: str) -> Dict[str, int]:
     """The files of an image, with their sizes."""
     with Medium(image) as medium:
         nodes = Volume(medium).state().walk()
-        return {"/".join(node.path): node.size for node in nodes if node.kind is Kind.FILE}
+        return {"/".join(node.path): node.size for node in nodes if node.kind is FileType.FILE}
 
 
 class Whole(WithArchive):

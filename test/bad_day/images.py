@@ -9,7 +9,7 @@ from typing import Dict, Iterator, List, NamedTuple, Set, Tuple
 
 from tests.model import Volume
 from udfburn.protocol import Create, MakeDir, Message, Path, Remove, Rename, Replace, encode_message, frame
-from udfburn.reader import Kind, Medium, Volume as Reader
+from udfburn.reader import FileType, Medium, Volume as Reader
 
 BLOCK = 2048
 INSIDE = 1872
@@ -97,7 +97,7 @@ def structures_of(image: str) -> Dict[str, List[int]]:
         state = volume.state()
         nodes = list(state.walk())
         chain = volume.chain()
-    listings = [node.data + index for node in nodes if node.kind is Kind.DIRECTORY and node.data for index in range(node.blocks)]
+    listings = [node.data + index for node in nodes if node.kind is FileType.DIRECTORY and node.data for index in range(node.blocks)]
     return {
         "an entry": [node.address for node in nodes], "a listing": listings, "the last table": [state.table.first + 257],
         "the last table's entry": [state.table.address], "an older table": [table.first + 257 for table in chain[1:]],

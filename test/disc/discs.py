@@ -148,12 +148,12 @@ def make_work(udfburn: str, room: Path) -> None:
 
 def make_past(image: Path, out: Path) -> None:
     """An image of 512 blocks with copies of its VAT ICB in the blocks after those, as `finish` would make them."""
-    from udfburn.discs.finish import Track, pieces
+    from udfburn.discs.finish import Track, track_pieces
 
     data = image.read_bytes()
     total = 530
     track = Track(str(image), len(data) // 2048, data[-2048:], total)
-    whole = b"".join(pieces(track))
+    whole = b"".join(track_pieces(track))
     # Zeros in the place of the copies that lie in the partition.
     out.write_bytes(data + bytes(512 * 2048 - len(data)) + whole[512 * 2048 :])
 

@@ -21,7 +21,7 @@ from library.building import PATIENCE, REPOSITORY, Case, built
 
 sys.path.insert(0, str(REPOSITORY / "clients" / "python"))
 
-from udfburn.reader import Kind, Medium, Volume  # noqa: E402
+from udfburn.reader import FileType, Medium, Volume  # noqa: E402
 
 PIECE = 1 << 20
 """Bytes by which a recording grows (examples/record.c)."""
@@ -95,7 +95,7 @@ def tree_of(image: str) -> Dict[str, Optional[bytes]]:
     with Medium(image) as medium:
         volume = Volume(medium)
         nodes = [node for node in volume.state().walk() if node.path]
-        return {"/".join(node.path): None if node.kind is Kind.DIRECTORY else volume.read(node).data for node in nodes}
+        return {"/".join(node.path): None if node.kind is FileType.DIRECTORY else volume.read(node).data for node in nodes}
 
 
 class Record(WithImage):

@@ -13,7 +13,7 @@ sys.path.insert(0, str(Path(__file__).resolve().parent.parent.parent / "clients/
 
 from protocol import BLOCK, DONE, FRONT, Directory, File, Script, Tree  # noqa: E402
 from tests.appended import MOMENT, Appender  # noqa: E402
-from udfburn.reader.basics import EXTENTS, FILE_BYTES  # noqa: E402
+from udfburn.reader.basics import EXTENTS, EXTENT_BYTES  # noqa: E402
 
 # Names of all kinds. Those of characters up to U+00FF are spelled with one byte each, others with two.
 NAMES = (
@@ -290,7 +290,7 @@ class Maker:
         self.format(image, script)
         cast, tree, earlier = random.Random(11), Tree(MOMENT), []
         appender = Appender(str(image))
-        for name, size in (("two", FILE_BYTES + 1), ("three", 3 * FILE_BYTES), ("117", EXTENTS * FILE_BYTES - 777)):
+        for name, size in (("two", EXTENT_BYTES + 1), ("three", 3 * EXTENT_BYTES), ("117", EXTENTS * EXTENT_BYTES - 777)):
             data = some_bytes(cast, size)
             appender.file(name, data)
             tree.root.names[name] = File(data, MOMENT)

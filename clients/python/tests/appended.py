@@ -9,11 +9,11 @@ import struct
 from typing import Dict, List, Tuple
 
 from udfburn.protocol.units import BlockNumber, Commit, Moment, Size, VirtualAddress
-from udfburn.reader import Kind, Medium, Volume
-from udfburn.reader.basics import BLOCK, FILE_BYTES, PARTITION, entity, write_dstring
+from udfburn.reader import FileType, Medium, Volume
+from udfburn.reader.basics import BLOCK, EXTENT_BYTES, PARTITION, entity, write_dstring
 from udfburn.reader.directory import write_identifier
 from udfburn.reader.entry import Entry, write_entry
-from udfburn.reader.table import Client, Reply, write_client
+from udfburn.reader.table import ClientRecord, KeptReply, write_client
 
 MOMENT = Moment(1_700_000_000_123_456)
 
@@ -62,7 +62,7 @@ class Appender:
         assert len(spelled) <= BLOCK - 32, "the root's listing is one block"
         self.put(spelled)
         links = 1 + sum(old.is_directory for old in self.names)
-        self.words[1] = self.put(write_entry(Entry(Kind.DIRECTORY, MOMENT, links, 0, Size(len(spelled)), BlockNumber(first), None, 1, 0, True)))
+        self.words[1] = self.put(write_entry(Entry(FileType.DIRECTORY, MOMENT, links, 0, Size(len(spelled)), BlockNumber(first), None, 1, 0, True)))
         self._table()
 
     def append(self, name: str, data: bytes) -> None:
@@ -72,24 +72,24 @@ class Appender:
 
     def file(self, name: str, data: bytes) -> None:
         """A file, piece by piece."""
-        self.create(name, data[:FILE_BYTES])
-        for at in range(FILE_BYTES, len(data), FILE_BYTES):
-            self.append(name, data[at : at + FILE_BYTES])
+        self.create(name, data[:EXTENT_BYTES])
+        for at in range(EXTENT_BYTES, len(data), EXTENT_BYTES):
+            self.append(name, data[at : at + EXTENT_BYTES])
 
     def _piece(self, name: str, data: bytes) -> None:
         old, firsts = self.contents[name]
-        assert old % FILE_BYTES == 0 and 0 < len(data) <= FILE_BYTES
+        assert old % EXTENT_BYTES == 0 and 0 < len(data) <= EXTENT_BYTES
         firsts = [*firsts, self.put(data)]
         size = old + len(data)
         _, virtual, unique = next(known for known in self.added if known[0] == name)
-        self.words[virtual] = self.put(write_entry(Entry(Kind.FILE, MOMENT, 1, unique, Size(size), BlockNumber(firsts[0]), None, virtual, 0, True, tuple(map(BlockNumber, firsts[1:])))))
+        self.words[virtual] = self.put(write_entry(Entry(FileType.FILE, MOMENT, 1, unique, Size(size), BlockNumber(firsts[0]), None, virtual, 0, True, tuple(map(BlockNumber, firsts[1:])))))
         self.contents[name] = (size, firsts)
 
     def _table(self) -> None:
         self.commit = Commit(self.commit + 1)
         client = next((known for known in self.clients if known.client == 7), None)
         replies = client.replies[:3] if client is not None else ()
-        kept = Client(7, client.latest + 1 if client is not None else 1, (Reply(0, self.commit), *replies))
+        kept = ClientRecord(7, client.latest + 1 if client is not None else 1, (KeptReply(0, self.commit), *replies))
         self.clients = [known for known in self.clients if known.client != 7] + [kept]
         use = entity(b"*udfburn sessions") + struct.pack("<HHII", 2, len(self.clients), self.unique, self.commit)
         use += b"".join(write_client(known, 48) for known in self.clients)
@@ -98,7 +98,7 @@ class Appender:
         head += struct.pack("<III4H", self.previous, files, self.table.directories, 0x201, 0x201, 0x201, 0)
         data = head + use + struct.pack(f"<{len(self.words)}I", *self.words)
         first = self.put(data)
-        self.previous = self.put(write_entry(Entry(Kind.TABLE, MOMENT, 0, 0, Size(len(data)), BlockNumber(first), None, self.number, 0, True)))
+        self.previous = self.put(write_entry(Entry(FileType.TABLE, MOMENT, 0, 0, Size(len(data)), BlockNumber(first), None, self.number, 0, True)))
 
     def write(self) -> None:
         """Writes the commits after those of the image."""

@@ -11,7 +11,7 @@ import subprocess
 import sys
 from typing import Dict, List, Optional, Set
 
-from udfburn.reader import Kind, Medium, Volume
+from udfburn.reader import FileType, Medium, Volume
 
 
 MISSING: Set[str] = set()
@@ -23,7 +23,7 @@ def copy_by_reader(image: str, folder: str) -> None:
         volume = Volume(medium)
         for node in volume.state().walk():
             path = os.path.join(folder, *node.path)
-            if node.kind is Kind.DIRECTORY:
+            if node.kind is FileType.DIRECTORY:
                 os.mkdir(path)
             else:
                 with open(path, "wb") as file:

@@ -8,7 +8,7 @@ from typing import Callable, Dict, List, NamedTuple, Optional
 from udfburn.protocol.units import BlockNumber, Moment, Size, VirtualAddress
 from udfburn.reader.basics import BLOCK, PARTITION, UNUSED, entity, write_dstring
 from udfburn.reader.directory import fits, write_identifier
-from udfburn.reader.entry import Entry, Kind, write_entry, write_file_set
+from udfburn.reader.entry import Entry, FileType, write_entry, write_file_set
 from udfburn.reader.front import blocks_of_front
 
 LABEL, MOMENT, CAPACITY = "FORGED", Moment(1_600_000_000_000_000), 1_600
@@ -41,7 +41,7 @@ class Forge:
         self.blocks += [data[at : at + BLOCK].ljust(BLOCK, b"\0") for at in range(0, len(data), BLOCK)]
         return first
 
-    def node(self, kind: Kind, unique: int, size: int, first: Optional[int], virtual: int, inside: Optional[bytes] = None) -> int:
+    def node(self, kind: FileType, unique: int, size: int, first: Optional[int], virtual: int, inside: Optional[bytes] = None) -> int:
         """Puts a node's entry."""
         number = None if first is None else BlockNumber(first)
         return self.put(write_entry(Entry(kind, MOMENT, 1, unique, Size(size), number, inside, virtual, 0, True)))
@@ -68,7 +68,7 @@ class Forge:
             spelled = self.table_data(clients, files, directories, words)
             data, size = self.put(spelled), len(spelled)
         at = self.number
-        self.put(write_entry(Entry(Kind.TABLE, MOMENT, 0, 0, Size(size), BlockNumber(data), None, at, 0, True)))
+        self.put(write_entry(Entry(FileType.TABLE, MOMENT, 0, 0, Size(size), BlockNumber(data), None, at, 0, True)))
         self.previous, self.commit = BlockNumber(at), self.commit + 1
 
     def table_data(self, clients: int, files: int, directories: int, words: Optional[List[int]] = None) -> bytes:
@@ -82,7 +82,7 @@ class Forge:
     def begin(self) -> None:
         """The format: an empty root."""
         parent = self.put(write_identifier("", 10, VirtualAddress(1), 0, 0, BlockNumber(self.number)))
-        self.words[1] = self.node(Kind.DIRECTORY, 0, 40, parent, 1)
+        self.words[1] = self.node(FileType.DIRECTORY, 0, 40, parent, 1)
         self.table(0, 0, 1)
 
     def image(self) -> bytes:
@@ -112,9 +112,9 @@ def one_data() -> bytes:
     forge = Forge()
     forge.begin()
     first = forge.listing(lambda index: name_of(index, 2 + index % 4000))
-    entry = forge.node(Kind.DIRECTORY, 16, MEBIBYTE, first, 2)
+    entry = forge.node(FileType.DIRECTORY, 16, MEBIBYTE, first, 2)
     forge.words += [entry] * 4000
-    forge.words[1] = forge.node(Kind.DIRECTORY, 0, MEBIBYTE, first, 1)
+    forge.words[1] = forge.node(FileType.DIRECTORY, 0, MEBIBYTE, first, 1)
     forge.table(1, 0, 4001)
     return forge.image()
 
@@ -126,8 +126,8 @@ def own_entries() -> bytes:
     first = forge.listing(lambda index: name_of(index, 2 + index % 4000))
     while forge.left > 40:
         virtual = len(forge.words)
-        forge.words.append(forge.node(Kind.DIRECTORY, 16, MEBIBYTE, first, virtual))
-    forge.words[1] = forge.node(Kind.DIRECTORY, 0, MEBIBYTE, first, 1)
+        forge.words.append(forge.node(FileType.DIRECTORY, 16, MEBIBYTE, first, virtual))
+    forge.words[1] = forge.node(FileType.DIRECTORY, 0, MEBIBYTE, first, 1)
     forge.table(1, 0, len(forge.words) - 1)
     return forge.image()
 
@@ -139,8 +139,8 @@ def long_paths() -> bytes:
     first = forge.listing(lambda index: name_of(index, 2 + index % 4000, True, f"{index:04}".ljust(250, "x")))
     while forge.left > 40:
         virtual = len(forge.words)
-        forge.words.append(forge.node(Kind.DIRECTORY, 16, MEBIBYTE, first, virtual))
-    forge.words[1] = forge.node(Kind.DIRECTORY, 0, MEBIBYTE, first, 1)
+        forge.words.append(forge.node(FileType.DIRECTORY, 16, MEBIBYTE, first, virtual))
+    forge.words[1] = forge.node(FileType.DIRECTORY, 0, MEBIBYTE, first, 1)
     forge.table(1, 0, len(forge.words) - 1)
     return forge.image()
 
@@ -151,9 +151,9 @@ def one_file() -> bytes:
     forge.begin()
     data = forge.put(bytes(range(256)) * 4096)
     first = forge.listing(lambda index: name_of(index, 2 + index, False), 200 * BLOCK)
-    entry = forge.node(Kind.FILE, 16, MEBIBYTE, data, 2)
+    entry = forge.node(FileType.FILE, 16, MEBIBYTE, data, 2)
     forge.words += [entry] * 4000
-    forge.words[1] = forge.node(Kind.DIRECTORY, 0, 200 * BLOCK, first, 1)
+    forge.words[1] = forge.node(FileType.DIRECTORY, 0, 200 * BLOCK, first, 1)
     forge.table(1, 4000, 1)
     return forge.image()
 
@@ -175,7 +175,7 @@ def many_tables() -> bytes:
     forge = Forge()
     forge.begin()
     while forge.left > 12:
-        entry = forge.node(Kind.FILE, 16, 0, None, 2)
+        entry = forge.node(FileType.FILE, 16, 0, None, 2)
         forge.words = [0, forge.words[1]] + [entry] * 4000
         forge.table(1, 4000, 1)
     return forge.image()
@@ -197,7 +197,7 @@ def wrong_entries() -> bytes:
     forge.begin()
     forge.words += [forge.number + index % 1200 for index in range(4000)]
     while forge.left > 20:
-        block = bytearray(write_entry(Entry(Kind.DIRECTORY, MOMENT, 9, forge.number, Size(5000), BlockNumber(3), None, forge.number, 0, True)))
+        block = bytearray(write_entry(Entry(FileType.DIRECTORY, MOMENT, 9, forge.number, Size(5000), BlockNumber(3), None, forge.number, 0, True)))
         for at, byte in ((9, 1), (72, 0), (82, 7), (95, 9), (35, 8), (56, 9), (57, 1), (64, 40), (172, 48), (173, 1), (48, 9)):
             block[at] ^= byte
         forge.put(bytes(block))
@@ -218,8 +218,8 @@ def wrong_names() -> bytes:
     forge.put(bytes(data))
     while forge.left > 40:
         virtual = len(forge.words)
-        forge.words.append(forge.node(Kind.DIRECTORY, 16, MEBIBYTE, first, virtual))
-    forge.words[1] = forge.node(Kind.DIRECTORY, 0, MEBIBYTE, first, 1)
+        forge.words.append(forge.node(FileType.DIRECTORY, 16, MEBIBYTE, first, virtual))
+    forge.words[1] = forge.node(FileType.DIRECTORY, 0, MEBIBYTE, first, 1)
     forge.table(1, 0, len(forge.words) - 1)
     return forge.image()
 
@@ -233,8 +233,8 @@ def manifests() -> bytes:
     first = forge.listing(lambda index: name_of(index, 2 + index, False, "manifest-sha256.txt" if not index else ""), 20 * BLOCK)
     while forge.left > 40:
         virtual = len(forge.words)
-        forge.words.append(forge.node(Kind.FILE, 16, len(lines), data, virtual))
-    forge.words[1] = forge.node(Kind.DIRECTORY, 0, 20 * BLOCK, first, 1)
+        forge.words.append(forge.node(FileType.FILE, 16, len(lines), data, virtual))
+    forge.words[1] = forge.node(FileType.DIRECTORY, 0, 20 * BLOCK, first, 1)
     forge.table(1, len(forge.words) - 2, 1)
     return forge.image()
 
@@ -245,9 +245,9 @@ def lost_files() -> bytes:
     forge.begin()
     lines = b"".join(b"%064x  %05d\n" % (index, index) for index in range(200))
     manifest = forge.put(lines)
-    forge.words.append(forge.node(Kind.FILE, 16, len(lines), manifest, 2))
+    forge.words.append(forge.node(FileType.FILE, 16, len(lines), manifest, 2))
     first = forge.listing(lambda index: name_of(index, 2 + index, False, "" if index else "manifest-sha256.txt"), 6 * BLOCK)
-    forge.words[1] = forge.node(Kind.DIRECTORY, 0, 6 * BLOCK, first, 1)
+    forge.words[1] = forge.node(FileType.DIRECTORY, 0, 6 * BLOCK, first, 1)
     begin = forge.number
     while forge.left > 20:
         forge.put(bytes(BLOCK))
@@ -262,12 +262,12 @@ def wrong_insides() -> bytes:
     forge.begin()
     lines = b"".join(b"%064x  %05d\n" % (index, index) for index in range(1000))
     manifest = forge.put(lines)
-    forge.words.append(forge.node(Kind.FILE, 16, len(lines), manifest, 2))
+    forge.words.append(forge.node(FileType.FILE, 16, len(lines), manifest, 2))
     first = forge.listing(lambda index: name_of(index, 2 + index, False, "" if index else "manifest-sha256.txt"), 30 * BLOCK)
-    forge.words[1] = forge.node(Kind.DIRECTORY, 0, 30 * BLOCK, first, 1)
+    forge.words[1] = forge.node(FileType.DIRECTORY, 0, 30 * BLOCK, first, 1)
     while forge.left > 20:
         virtual = len(forge.words)
-        at = forge.node(Kind.FILE, 16, 1872, None, virtual, bytes(1872))
+        at = forge.node(FileType.FILE, 16, 1872, None, virtual, bytes(1872))
         block = bytearray(forge.blocks[at + PARTITION])
         block[9] ^= 0x55
         forge.blocks[at + PARTITION] = bytes(block)

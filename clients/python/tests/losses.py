@@ -8,7 +8,7 @@ from typing import Dict, List, NamedTuple, Set, Tuple
 from udfburn import Client
 from udfburn.protocol import Path
 from udfburn.protocol.units import Commit, Moment
-from udfburn.reader import Kind, Medium, Volume
+from udfburn.reader import FileType, Medium, Volume
 
 from .programs import UDFBURN
 from .volumes import format_image
@@ -88,7 +88,7 @@ def files_of(volume: Volume, commit: int) -> Dict[Path, File]:
     """The files after a commit."""
     found = {}
     for node in volume.state(Commit(commit)).walk():
-        if node.kind is Kind.FILE:
+        if node.kind is FileType.FILE:
             blocks = set(range(node.data, node.data + node.blocks)) if node.data is not None else set()
             found[node.path] = File(volume.read(node).data, node.address, blocks | {node.address})
     return found

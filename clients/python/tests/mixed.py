@@ -22,9 +22,9 @@ from udfburn.reader.basics import address_of, blocks_of, number_of, write_timest
 from udfburn.reader.chain import Chain, Span
 from udfburn.reader.directory import read_directory
 from udfburn.reader.mend import Hint
-from udfburn.reader.notes import Cause
+from udfburn.reader.notes import DamageCause
 from udfburn.salvage.digests import Digests
-from udfburn.salvage.ledger import Stored
+from udfburn.salvage.ledger import LedgerFile
 from udfburn.salvage.salvage import Salvage
 from udfburn.salvage.tree import Version
 from udfburn.trees.growing import naming
@@ -38,7 +38,7 @@ def addresses(medium: Medium, notes: Notes, chain: Chain, number: BlockNumber, v
     medium.block(300)  # type: ignore[arg-type]
     medium.run(number, 1)  # type: ignore[arg-type]
     medium.run(size, 1)  # type: ignore[arg-type]
-    notes.add(number, Cause.RANGE, "")  # type: ignore[arg-type]
+    notes.add(number, DamageCause.RANGE, "")  # type: ignore[arg-type]
     number_of(number)  # type: ignore[arg-type]
     chain.commit_of(number)  # type: ignore[arg-type]
     chain.place_of(commit)  # type: ignore[arg-type]
@@ -90,7 +90,7 @@ def sizes(volume: Volume, moment: Moment, path: Path) -> None:
     """What is no count of bytes."""
     blocks_of(volume.medium.blocks)  # type: ignore[arg-type]
     blocks_of(moment)  # type: ignore[arg-type]
-    Stored(path, moment, moment, "")  # type: ignore[arg-type]
+    LedgerFile(path, moment, moment, "")  # type: ignore[arg-type]
 
 
 def in_another_order(entry: Entry, digests: Digests, path: Path, commit: Commit, address: Address, number: BlockNumber) -> None:

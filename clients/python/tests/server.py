@@ -8,7 +8,7 @@ import socket
 import threading
 from typing import Callable, List, Optional, Tuple
 
-from udfburn.wire.connection import PIECE, Connection
+from udfburn.wire.connection import SOCKET_PIECE, Connection
 from udfburn.protocol import Answer, Frames, Request, decode_message, encode_answer, frame
 
 from .model import Volume
@@ -105,7 +105,7 @@ class Server:
 class Direct(Connection):
     """A conversation with the plain volume itself: what goes out is answered at once, and comes in pieces of at most so many bytes."""
 
-    def __init__(self, volume: Volume, most: int = PIECE):
+    def __init__(self, volume: Volume, most: int = SOCKET_PIECE):
         super().__init__()
         self.volume, self.most = volume, most
         self.asked, self.coming = Frames(), bytearray()

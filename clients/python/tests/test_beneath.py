@@ -12,7 +12,7 @@ from contextlib import suppress
 from typing import Callable, List
 
 from udfburn.base import errors as e, own_files
-from udfburn.base.beneath import Names, NotFollowed, Place, Root, folder_mode, mode_for, open_from_top, open_given, open_own, place_of
+from udfburn.base.beneath import NotFollowed, Place, RelativePath, Root, folder_mode, mode_for, open_from_top, open_given, open_own, place_of
 
 from .swaps import Swap, Turned, picture
 
@@ -35,7 +35,7 @@ class WithTree(unittest.TestCase):
             with open(os.path.join(self.room, path), "wb") as file:
                 file.write(data)
 
-    def read(self, root: Root, names: Names) -> bytes:
+    def read(self, root: Root, names: RelativePath) -> bytes:
         with open(root.open_file(names), "rb") as file:
             return file.read()
 
@@ -149,7 +149,7 @@ class Below(WithTree):
         self.assertEqual((os.path.getsize(new), stat.S_IMODE(os.stat(new).st_mode)), (0, 0o640))
         told: List[int] = []
         with own_files.from_top(new) as place:
-            own_files.copy(old, place, told=told.append)
+            own_files.copy_file(old, place, told=told.append)
         for path in (old, new):
             with open(path, "rb") as file:
                 self.assertEqual(len(file.read()), sum(told))
@@ -218,8 +218,8 @@ class Races(WithTree):
         tried(lambda: own_files.set_mode(path + ".new", 0o666))
         tried(lambda: own_files.move(path + ".new", os.path.join(self.tree, "g")))
         with own_files.from_top(path + ".new") as place:
-            tried(lambda: own_files.copy(os.path.join(self.tree, "g"), place))
-        tried(lambda: os.close(own_files.opened(path)))
+            tried(lambda: own_files.copy_file(os.path.join(self.tree, "g"), place))
+        tried(lambda: os.close(own_files.open_to_write(path)))
         with own_files.from_top(path + ".new") as place:
             tried(lambda: os.close(place.root.lock_file(place.names)))
         tried(lambda: own_files.remove(path))

@@ -18,7 +18,7 @@ from udfburn import protocol as p
 from udfburn.archive.tell import Tell
 from udfburn.base.progress import Progress
 from udfburn.protocol import escaped
-from udfburn.trees.tree import Importer, Options
+from udfburn.trees.tree import ImportOptions, Importer
 
 from .programs import PATIENCE
 from .server import request_of
@@ -176,7 +176,7 @@ class Commands(Local):
             terminal = Terminal()
             bar = Progress(False, False, StringIO(), terminal)
             with self.client() as client:
-                importer = Importer(client, Options(recursive=True, split=True), bar.told, bar.stored)
+                importer = Importer(client, ImportOptions(recursive=True, split=True), bar.told, bar.stored)
                 planned = importer.plan([(self.folder, ("x",))])
                 bar.begin(2, (3 << 20) + 1)
                 importer.run(planned)
@@ -195,7 +195,7 @@ class Commands(Local):
                 raise PermissionError(13, "Permission denied")
             return real(path, *rest, **how)
 
-        with mock.patch("udfburn.base.beneath.os.open", opened), mock.patch("udfburn.trees.tree.CHUNK", 1):
+        with mock.patch("udfburn.base.beneath.os.open", opened), mock.patch("udfburn.trees.tree.FILES_AT_ONCE", 1):
             told = self.words("put", "-r", "--delete-source", self.folder, "/x", status=1)
         self.assertEqual(told[:2], ["made /x", f"udfburn-client: {self.folder}/a\\nb: Permission denied"])
         self.assertRegex(told[2], "no room for /x/c")

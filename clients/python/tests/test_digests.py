@@ -16,7 +16,7 @@ from udfburn import Client
 from udfburn.base import errors as e
 from udfburn.commands import cli
 from udfburn import protocol as p
-from udfburn.ledger.digests import Files, Known
+from udfburn.ledger.digests import Files, SentFile
 from udfburn.wire.operations import Operation, Whole
 from udfburn.base.split import stored_paths
 from udfburn.protocol.units import Commit, Moment, Size
@@ -48,7 +48,7 @@ class Digests(WithServer):
         with self.client() as client:
             client.mkdir("/d", Moment(1))
             client.create("/d/a", b"one", Moment(2))
-            self.assertEqual(client.known_files().now, {("d", "a"): Known(("d", "a"), Size(3), Moment(2), sha256(b"one"), Commit(2), 2)})
+            self.assertEqual(client.known_files().now, {("d", "a"): SentFile(("d", "a"), Size(3), Moment(2), sha256(b"one"), Commit(2), 2)})
             self.assertEqual(client.digest_of("/d/a"), sha256(b"one"))
             self.assertIsNone(client.digest_of("/d"))
             self.assertIsNone(client.digest_of("/no"))
@@ -65,7 +65,7 @@ class Digests(WithServer):
             for operation, digest in steps:
                 self.assertEqual([outcome.code for outcome in client.run([operation])], [p.Code.DONE])
                 self.assertEqual(client.digest_of("/a"), digest)
-            self.assertEqual(client.known_files().by_commit[Commit(3)], Known(("a",), whole.size, Moment(6), whole.sha256, Commit(3), 3))
+            self.assertEqual(client.known_files().by_commit[Commit(3)], SentFile(("a",), whole.size, Moment(6), whole.sha256, Commit(3), 3))
 
     def test_replaced_moved_and_removed(self) -> None:
         with self.client() as client:

@@ -185,7 +185,7 @@ class Burn(Discs):
             self.assertEqual(cli.main(["burn", self.image, "--program", UDFBURN, "--device", self.device]), 1)
 
     def assertLogs_nothing_is_burned(self) -> "mock._patch[mock.MagicMock]":  # noqa: N802
-        return mock.patch("udfburn.discs.burning.burn", side_effect=AssertionError("a disc that is too small was burned"))
+        return mock.patch("udfburn.discs.burning.burn_track", side_effect=AssertionError("a disc that is too small was burned"))
 
     def test_what_is_read_back_differs(self) -> None:
         """Each byte counts: of the image, and of the copies after it."""

@@ -13,23 +13,23 @@ from typing import Dict, List, Tuple
 from udfburn.image.check_data import check_data
 from udfburn.image.coverage import Coverage
 from udfburn.protocol.units import BlockNumber, Commit, Moment, Size
-from udfburn.reader import Cause, Kind, Medium, Volume
-from udfburn.reader.basics import BLOCK, FILE_BYTES, GREATEST_FILE, PARTITION
+from udfburn.reader import DamageCause, FileType, Medium, Volume
+from udfburn.reader.basics import BLOCK, EXTENT_BYTES, GREATEST_FILE, PARTITION
 from udfburn.reader.budget import Budget
 from udfburn.reader.entry import END, EXTENT, Entry, read_entry, write_entry
 from udfburn.reader.mend import Hint, mend_entry
-from udfburn.salvage.salvage import DAMAGED, EARLIER, UNPROVED, WHOLE, Salvage
+from udfburn.salvage.salvage import FILE_DAMAGED, FILE_EARLIER, FILE_UNPROVED, FILE_WHOLE, Salvage
 
 from .appended import Appender
 from .forged import Forge
 
-SIZES = {"two": FILE_BYTES + 1, "whole": 2 * FILE_BYTES, "three": 2 * FILE_BYTES + 777}
+SIZES = {"two": EXTENT_BYTES + 1, "whole": 2 * EXTENT_BYTES, "three": 2 * EXTENT_BYTES + 777}
 
 
 def entry_of(size: int, step: int = 520) -> Entry:
     """A file's entry whose extents lie apart."""
-    count = -(-size // FILE_BYTES)
-    return Entry(Kind.FILE, Moment(1_000_000), 1, 20, Size(size), BlockNumber(7), None, 30, 0, True, tuple(BlockNumber(7 + step * index) for index in range(1, count)))
+    count = -(-size // EXTENT_BYTES)
+    return Entry(FileType.FILE, Moment(1_000_000), 1, 20, Size(size), BlockNumber(7), None, 30, 0, True, tuple(BlockNumber(7 + step * index) for index in range(1, count)))
 
 
 class Entries(unittest.TestCase):
@@ -37,14 +37,14 @@ class Entries(unittest.TestCase):
 
     def test_both_ways(self) -> None:
         for count in (2, 3, 116, 117):
-            for last in (1, 2048, FILE_BYTES):
-                wanted = entry_of((count - 1) * FILE_BYTES + last)
+            for last in (1, 2048, EXTENT_BYTES):
+                wanted = entry_of((count - 1) * EXTENT_BYTES + last)
                 read, faults = read_entry(write_entry(wanted), 30)
                 assert read is not None
                 self.assertEqual((read._replace(check=0), faults), (wanted, []))
-                self.assertEqual([extent.size for extent in read.extents], [FILE_BYTES] * (count - 1) + [last])
+                self.assertEqual([extent.size for extent in read.extents], [EXTENT_BYTES] * (count - 1) + [last])
 
-    def changed(self, entry: Entry, *changes: Tuple[int, bytes]) -> List[Cause]:
+    def changed(self, entry: Entry, *changes: Tuple[int, bytes]) -> List[DamageCause]:
         """The causes of an entry with other bytes and a tag that is made good."""
         from udfburn.reader.basics import write_tag
 
@@ -57,29 +57,29 @@ class Entries(unittest.TestCase):
         return [fault.cause for fault in read_entry(bytes(block), 30)[1]]
 
     def test_faults(self) -> None:
-        two = entry_of(FILE_BYTES + 5000)
+        two = entry_of(EXTENT_BYTES + 5000)
         last = END + EXTENT.size
-        cases: Dict[Cause, List[List[Tuple[int, bytes]]]] = {
-            Cause.LENGTHS: [
-                [(64, struct.pack("<Q", 512))], [(172, struct.pack("<I", 16)), (last, bytes(16))], [(END, struct.pack("<I", FILE_BYTES - 2048))],
-                [(56, struct.pack("<Q", FILE_BYTES)), (64, struct.pack("<Q", 512))],
+        cases: Dict[DamageCause, List[List[Tuple[int, bytes]]]] = {
+            DamageCause.LENGTHS: [
+                [(64, struct.pack("<Q", 512))], [(172, struct.pack("<I", 16)), (last, bytes(16))], [(END, struct.pack("<I", EXTENT_BYTES - 2048))],
+                [(56, struct.pack("<Q", EXTENT_BYTES)), (64, struct.pack("<Q", 512))],
             ],
-            Cause.EXTENT: [
+            DamageCause.EXTENT: [
                 [(last, struct.pack("<I", 4999))], [(last + 3, b"\x40")], [(last + 8, b"\1")], [(last + 10, b"\1")], [(last + 15, b"\1")],
                 [(END + 3, b"\x80")], [(END + 8, b"\1")], [(last + 4, struct.pack("<I", 449_743 - 2))],
             ],
-            Cause.TAIL: [[(last + EXTENT.size, b"\1")]],
+            DamageCause.TAIL: [[(last + EXTENT.size, b"\1")]],
         }
         for cause, changes in cases.items():
             for change in changes:
                 with self.subTest(cause=cause, change=change):
                     self.assertEqual(self.changed(two, *change)[:1], [cause])
         self.assertEqual(self.changed(two, (last + 4, struct.pack("<I", 449_743 - 3))), [])
-        self.assertEqual(self.changed(entry_of(GREATEST_FILE), (56, struct.pack("<Q", GREATEST_FILE + 1)))[:1], [Cause.LENGTHS])
-        self.assertEqual(self.changed(two, (27, b"\4"), (44, b"\xa5\x14"))[:1], [Cause.LENGTHS])
+        self.assertEqual(self.changed(entry_of(GREATEST_FILE), (56, struct.pack("<Q", GREATEST_FILE + 1)))[:1], [DamageCause.LENGTHS])
+        self.assertEqual(self.changed(two, (27, b"\4"), (44, b"\xa5\x14"))[:1], [DamageCause.LENGTHS])
 
     def test_wrong_bytes_are_mended(self) -> None:
-        for size in (FILE_BYTES + 1, 3 * FILE_BYTES, GREATEST_FILE - 5):
+        for size in (EXTENT_BYTES + 1, 3 * EXTENT_BYTES, GREATEST_FILE - 5):
             wanted = entry_of(size)
             for at in (8, 27, 40, 56, 58, 64, 72, 172, 173, END):
                 block = bytearray(write_entry(wanted))
@@ -113,7 +113,7 @@ class OnAVolume(unittest.TestCase):
     def salvaged(self, commit: "Commit | None" = None) -> Dict[str, Tuple[str, bytes, "Tuple[Tuple[int, int], ...]"]]:
         with Medium(self.image) as medium:
             found = Salvage(medium, commit)
-            judged = [found.judged(item) for item in found.tree.items if item.kind is Kind.FILE]
+            judged = [found.judged(item) for item in found.tree.items if item.kind is FileType.FILE]
         return {outcome.path[-1]: (outcome.state, data, outcome.ranges) for outcome, data in judged}
 
     def zero(self, number: int) -> None:
@@ -125,7 +125,7 @@ class OnAVolume(unittest.TestCase):
         with Medium(self.image) as medium:
             volume = Volume(medium)
             state = volume.state()
-            self.assertEqual([note for note in volume.check().all() if note.cause is not Cause.FRONT], [])
+            self.assertEqual([note for note in volume.check().all() if note.cause is not DamageCause.FRONT], [])
             for name, data in self.data.items():
                 node = state.find((name,))
                 assert node is not None
@@ -136,19 +136,19 @@ class OnAVolume(unittest.TestCase):
         """Each commit has the pieces that were appended until then."""
         given = self.salvaged(Commit(4))
         self.assertEqual({name: found[1] for name, found in given.items()}, {"two": self.data["two"], "whole": self.data["whole"]})
-        self.assertEqual(self.salvaged(Commit(3))["whole"][1], self.data["whole"][:FILE_BYTES])
+        self.assertEqual(self.salvaged(Commit(3))["whole"][1], self.data["whole"][:EXTENT_BYTES])
 
     def test_digests(self) -> None:
         """Each byte is compared, in the last extent too."""
         for name, (state, data, _) in self.salvaged().items():
             if name in self.data:
-                self.assertEqual((state, data), (WHOLE, self.data[name]))
+                self.assertEqual((state, data), (FILE_WHOLE, self.data[name]))
         self.assertEqual(self.told(), [])
         with open(self.image, "r+b") as file:
             file.seek((self.appender.contents["three"][1][2] + PARTITION) * BLOCK + 700)
             file.write(b"other")
         self.assertEqual(self.told(), ["/three"])
-        self.assertEqual(self.salvaged()["three"][0], DAMAGED)
+        self.assertEqual(self.salvaged()["three"][0], FILE_DAMAGED)
 
     def told(self) -> List[str]:
         told: List[str] = []
@@ -160,13 +160,13 @@ class OnAVolume(unittest.TestCase):
     def test_a_lost_entry(self) -> None:
         """The newest entry is lost: by a digest the file is whole, and without it all is there but the last piece."""
         self.zero(self.appender.words[4])
-        self.assertEqual(self.salvaged()["three"][:2], (WHOLE, self.data["three"]))
+        self.assertEqual(self.salvaged()["three"][:2], (FILE_WHOLE, self.data["three"]))
         with Medium(self.image) as medium:
             node = Volume(medium).state().find(("manifest-sha256.txt",))
             assert node is not None and node.data is not None
         self.zero(node.address - PARTITION)
         self.zero(node.data - PARTITION)
-        self.assertEqual(self.salvaged()["three"][:2], (EARLIER, self.data["three"][: 2 * FILE_BYTES]))
+        self.assertEqual(self.salvaged()["three"][:2], (FILE_EARLIER, self.data["three"][: 2 * EXTENT_BYTES]))
 
     def test_missing_blocks(self) -> None:
         """A block of the second extent that cannot be read is named by its place in the file."""
@@ -179,22 +179,22 @@ class OnAVolume(unittest.TestCase):
             found = Salvage(medium)
             item = next(item for item in found.tree.items if item.path == ("three",))
             outcome = found.judged(item)[0]
-        self.assertEqual((outcome.state, outcome.ranges), (DAMAGED, ((FILE_BYTES + 3 * BLOCK, BLOCK),)))
+        self.assertEqual((outcome.state, outcome.ranges), (FILE_DAMAGED, ((EXTENT_BYTES + 3 * BLOCK, BLOCK),)))
 
     def test_past_the_table(self) -> None:
         """An extent that does not end below the VAT ICB is named with cause 72, and the file is not there."""
         self.appender = Appender(self.image)
-        self.appender.words[4] = self.appender.put(write_entry(entry_of(2 * FILE_BYTES + 777, 300_000 // 2)._replace(unique=18, location=4)))
+        self.appender.words[4] = self.appender.put(write_entry(entry_of(2 * EXTENT_BYTES + 777, 300_000 // 2)._replace(unique=18, location=4)))
         self.appender._table()
         self.appender.write()
         with Medium(self.image) as medium:
             volume = Volume(medium)
             state = volume.state()
             self.assertIsNone(state.find(("three",)))
-            self.assertIn(Cause.RANGE, [note.cause for note in volume.notes.all()])
+            self.assertIn(DamageCause.RANGE, [note.cause for note in volume.notes.all()])
 
     def test_unproved(self) -> None:
-        self.assertEqual(self.salvaged(Commit(5))["three"][0], UNPROVED)
+        self.assertEqual(self.salvaged(Commit(5))["three"][0], FILE_UNPROVED)
 
 
 if __name__ == "__main__":

@@ -244,7 +244,7 @@ class Goes(Local):
         order: List[str] = []
         real = beneath.Root.link_open
 
-        def link(root: beneath.Root, descriptor: int, names: beneath.Names) -> None:
+        def link(root: beneath.Root, descriptor: int, names: beneath.RelativePath) -> None:
             order.append("named")
             real(root, descriptor, names)
 

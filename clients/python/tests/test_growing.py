@@ -14,8 +14,8 @@ from udfburn import Client
 from udfburn.base import errors as e
 from udfburn import protocol as p
 from udfburn.wire.operations import Operation
-from udfburn.trees.tree import Options, Summary, put_all
-from udfburn.base.unfinished import PREFIX, unfinished_path
+from udfburn.trees.tree import ImportOptions, ImportSummary, put_all
+from udfburn.base.unfinished import UNFINISHED_PREFIX, unfinished_path
 from udfburn.protocol.units import Moment
 
 from .model import File, Volume
@@ -39,14 +39,14 @@ def version_of(ledger: str) -> int:
 
 
 class Growing(Local):
-    def put_with(self, client: Client, **options: object) -> Summary:
-        return put_all(client, [(self.folder, ("x",))], Options(recursive=True, **options))  # type: ignore[arg-type]
+    def put_with(self, client: Client, **options: object) -> ImportSummary:
+        return put_all(client, [(self.folder, ("x",))], ImportOptions(recursive=True, **options))  # type: ignore[arg-type]
 
     def files(self) -> Dict[str, bytes]:
         return {p.show(path): data for path, data in self.volume.files().items()}
 
     def unfinished(self) -> List[str]:
-        return [path for path in self.files() if path.startswith("/" + PREFIX)]
+        return [path for path in self.files() if path.startswith("/" + UNFINISHED_PREFIX)]
 
     def requests(self) -> List[Tuple[str, p.Path]]:
         """The kinds of the requests that were answered, with their paths, each once."""
@@ -167,7 +167,7 @@ class Put(Growing):
         self.write("a", content(1))
         told: List[Any] = []
         with self.client() as client:
-            summary = put_all(client, [(self.folder, ("x",))], Options(recursive=True, dry_run=True), lambda *words: told.append(words))
+            summary = put_all(client, [(self.folder, ("x",))], ImportOptions(recursive=True, dry_run=True), lambda *words: told.append(words))
         self.assertIn(("would store", ("x", "a"), PHOTO, 0), told)
         self.assertEqual((summary.bytes, self.volume.commits, os.path.exists(self.ledger)), (PHOTO, 0, False))
 
@@ -195,7 +195,7 @@ class Put(Growing):
         with self.client() as client:
             for what, told in ((local, "not whole"), (os.path.dirname(local), "not finished")):
                 with self.assertRaisesRegex(e.DoesNotFit, told):
-                    put_all(client, [(what, (PREFIX + "1",))], Options(recursive=True))
+                    put_all(client, [(what, (UNFINISHED_PREFIX + "1",))], ImportOptions(recursive=True))
         self.assertEqual(self.volume.commits, 0)
 
 
@@ -317,7 +317,7 @@ class Interrupted(Growing):
             return p.FULL if isinstance(request_of(payload), p.Append) else None
 
         self.server.before = before
-        with self.assertRaisesRegex(e.Full, PREFIX):
+        with self.assertRaisesRegex(e.Full, UNFINISHED_PREFIX):
             self.put(delete_source=True)
         self.assertTrue(os.path.exists(local))
         self.assertEqual(list(self.files()), self.unfinished())

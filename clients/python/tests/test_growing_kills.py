@@ -22,12 +22,12 @@ from udfburn.mounting.image_view import ImageView
 from udfburn.ledger.ledger import Ledger
 from udfburn.ledger.reading import ledger_to_read
 from udfburn.base.progress import Progress
-from udfburn.reader import Kind, Medium
+from udfburn.reader import FileType, Medium
 from udfburn.reader import Volume as ReadVolume
-from udfburn.trees.seal import seal
-from udfburn.mounting.shown_tree import Folder
+from udfburn.trees.seal import seal_directory
+from udfburn.mounting.shown_tree import ShownFolder
 from udfburn.commands.status import of_image
-from udfburn.trees.tree import Options, put_all
+from udfburn.trees.tree import ImportOptions, put_all
 from udfburn.base.unfinished import is_unfinished, unfinished_path
 from udfburn.protocol.units import Moment
 
@@ -80,7 +80,7 @@ class AtEachCall:
             try:
                 kill_before(stop)
                 with Client(self.way, ledger=self.ledger, program=UDFBURN or None, patience=PATIENCE) as client:
-                    summary = put_all(client, [(os.path.join(self.room, "photos"), ("x",))], Options(recursive=True, delete_source=True))
+                    summary = put_all(client, [(os.path.join(self.room, "photos"), ("x",))], ImportOptions(recursive=True, delete_source=True))
                 status = len(summary.failures)
             finally:
                 os._exit(status)
@@ -181,11 +181,11 @@ class Known(WithPrograms):
             self.write(f"photos/{name}", data)
         way = f"{self.where}:{self.image}"
         with Client(way, ledger=self.ledger, program=UDFBURN or None, patience=PATIENCE) as client:
-            summary = put_all(client, [(os.path.join(self.room, "photos"), ("x",))], Options(recursive=True, verify=True))
+            summary = put_all(client, [(os.path.join(self.room, "photos"), ("x",))], ImportOptions(recursive=True, verify=True))
             self.assertEqual((summary.verified, summary.failures), (2, []))
             if summary.blocks is not None:
                 self.assertEqual(os.path.getsize(self.image) // p.limits.BLOCK, 262 + summary.blocks)
-            self.assertEqual(seal(client, ("x",), manifest_only=True).known, 2)
+            self.assertEqual(seal_directory(client, ("x",), manifest_only=True).known, 2)
         require_bytes(self.image, manifest=True)
         self.assertEqual(self.told(), ([], 3))
         with open(self.image, "r+b") as file:
@@ -224,7 +224,7 @@ class Left(WithPrograms):
         self.assertEqual(of_image(self.image).unfinished, [p.show(name)])
         with closing(ImageView(self.image, Progress(False, False))) as view:
             latest = view.find(b"latest")
-            assert isinstance(latest, Folder)
+            assert isinstance(latest, ShownFolder)
             self.assertEqual((list(latest.names()), latest.find(name[0].encode())), ([b"b"], None))
         self.run_command("rm", p.show(name), where=["--image", self.image, "--ledger", self.ledger])
         self.assertEqual(of_image(self.image).unfinished, [])
@@ -235,7 +235,7 @@ def require_bytes(image: str, manifest: bool = False) -> None:
     with Medium(image) as medium:
         volume = ReadVolume(medium)
         state = volume.state()
-        found = {node.path: volume.read(node).data for node in state.walk() if node.kind is Kind.FILE}
+        found = {node.path: volume.read(node).data for node in state.walk() if node.kind is FileType.FILE}
         assert not manifest or found.pop(("x", "manifest-sha256.txt"))
         assert found == {("x", name): data for name, data in PHOTOS.items()}
 

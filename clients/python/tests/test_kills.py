@@ -17,10 +17,10 @@ from typing import Any, Dict, Iterator, List, Optional, Set
 import udfburn
 from udfburn import Client
 from udfburn import protocol as p
-from udfburn.ledger.records import LARGE
+from udfburn.ledger.records import LARGE_DATA
 from udfburn.protocol.units import Moment
 from udfburn.wire.operations import Operation
-from udfburn.trees.tree import Options, put_all
+from udfburn.trees.tree import ImportOptions, put_all
 
 from .programs import PATIENCE, UDFBURN, Daemon, WithPrograms
 
@@ -41,7 +41,7 @@ TRACED = {os.path.join(CODE, name) for name in NAMES}
 
 def content(index: int) -> bytes:
     """The bytes of a file: each has its own. Of some the ledger keeps where they are, and not the bytes."""
-    return random.Random(index).randbytes(LARGE + index % 9 if index % 16 == 3 else index * 7 % 3000)
+    return random.Random(index).randbytes(LARGE_DATA + index % 9 if index % 16 == 3 else index * 7 % 3000)
 
 
 class DaemonKilled(WithPrograms):
@@ -132,7 +132,7 @@ class ClientKilled(WithPrograms):
     def import_once(self, verify: bool) -> None:
         """What a user does again and again until it is done."""
         with Client(self.way, ledger=self.ledger, program=UDFBURN, patience=PATIENCE) as client:
-            put_all(client, [(os.path.join(self.room, "sources"), ("x",))], Options(recursive=True, skip_same=True, delete_source=True, verify=verify))
+            put_all(client, [(os.path.join(self.room, "sources"), ("x",))], ImportOptions(recursive=True, skip_same=True, delete_source=True, verify=verify))
 
     def killed_by_time(self, verify: bool) -> bool:
         """Runs the import in a process of its own, and kills it. Whether it was killed before its end."""

@@ -19,10 +19,10 @@ from unittest import mock
 from udfburn import Client
 from udfburn.base import errors as e
 from udfburn import protocol as p
-from udfburn.ledger.ledger import LOG_BYTES, Ledger, Lock, MemoryLedger, Pending, Reply, Volume as Known
+from udfburn.ledger.ledger import KnownVolume as Known, LOG_BYTES, Ledger, Lock, MemoryLedger, Pending, Reply
 from udfburn.protocol.units import Commit, Moment
 from udfburn.wire.operations import Operation
-from udfburn.trees.tree import Options, put_all
+from udfburn.trees.tree import ImportOptions, put_all
 
 from .programs import PATIENCE
 from .server import request_of
@@ -361,7 +361,7 @@ class Ledgers(WithServer):
         self.server.before = before
         client = self.client()
         with self.assertRaises(e.ForeignReply):
-            put_all(client, [(source, ("source",))], Options(delete_source=True))
+            put_all(client, [(source, ("source",))], ImportOptions(delete_source=True))
         self.assertTrue(os.path.exists(source))
 
 

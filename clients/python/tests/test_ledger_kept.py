@@ -13,7 +13,7 @@ from unittest import mock
 
 from udfburn.base import errors as e
 from udfburn import protocol as p
-from udfburn.ledger.ledger import LAST, LOG_PAGES, Ledger, MemoryLedger, Pending
+from udfburn.ledger.ledger import GREATEST_NUMBER, LOG_PAGES, Ledger, MemoryLedger, Pending
 from udfburn.ledger.reading import ledger_to_read
 from udfburn.ledger.records import Identity, Mark
 from udfburn.protocol.units import Address, Commit, Moment
@@ -28,8 +28,8 @@ class Kept(unittest.TestCase):
     def test_the_last_numbers(self) -> None:
         """No request gets a number that the volume cannot keep four replies before."""
         with closing(Ledger(self.path)) as ledger:
-            self.assertEqual(ledger.learn("one", LAST - p.limits.REPLIES - 1).latest, LAST - p.limits.REPLIES - 1)
-            for latest in (LAST - p.limits.REPLIES, LAST):
+            self.assertEqual(ledger.learn("one", GREATEST_NUMBER - p.limits.REPLIES - 1).latest, GREATEST_NUMBER - p.limits.REPLIES - 1)
+            for latest in (GREATEST_NUMBER - p.limits.REPLIES, GREATEST_NUMBER):
                 with self.assertRaisesRegex(e.LedgerError, "no numbers left"):
                     ledger.learn("two", latest)
 

@@ -177,7 +177,7 @@ class Statuses(WithStub):
         found = library.find_library()
         with mock.patch.object(library.Library, "require", side_effect=KeyboardInterrupt), mock.patch.object(found.calls, "udfburn_close") as closed:
             with self.assertRaises(KeyboardInterrupt):
-                library.OpenVolume(found, self.image)
+                library.LibraryVolume(found, self.image)
         closed.assert_called_once()
 
     def test_of_an_answer(self) -> None:
@@ -198,7 +198,7 @@ class Statuses(WithStub):
         """A child writes nothing to what its parent opened. It closes its copy."""
         assert (endpoint := Endpoint(f"library:{self.image}")).library
         with mock.patch("os.getpid", return_value=1):
-            volume = library.OpenVolume(endpoint.library, self.image)
+            volume = library.LibraryVolume(endpoint.library, self.image)
         with self.assertRaisesRegex(e.UsageError, "before the fork"):
             volume.answer(b"")
         with mock.patch.object(endpoint.library.calls, "udfburn_close") as closed:

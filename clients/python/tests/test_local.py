@@ -13,11 +13,11 @@ from udfburn import Client
 from udfburn import protocol as p
 from udfburn.base import errors as e
 from udfburn.base.beneath import place_of
-from udfburn.local.sources import Identity, Scan, Source, delete, read_parts, scan
+from udfburn.local.sources import FileIdentity, Scan, Source, delete, read_parts, scan
 from udfburn.protocol.units import Moment
 from udfburn.trees import tree
 from udfburn.trees.jobs import Job
-from udfburn.trees.tree import Options, put_all
+from udfburn.trees.tree import ImportOptions, put_all
 
 from .model import Volume
 from .server import request_of
@@ -93,14 +93,14 @@ class Preflight(Local):
         local = self.write("one")
         with self.client() as client:
             with self.assertRaisesRegex(e.DoesNotFit, "/no: is not a directory"):
-                put_all(client, [(local, ("no", "one"))], Options())
-            put_all(client, [(local, ("no", "such", "one"))], Options(parents=True))
+                put_all(client, [(local, ("no", "one"))], ImportOptions())
+            put_all(client, [(local, ("no", "such", "one"))], ImportOptions(parents=True))
             with self.assertRaisesRegex(e.DoesNotFit, "more than one"):
-                put_all(client, [(local, ("same",)), (self.write("two"), ("same",))], Options())
+                put_all(client, [(local, ("same",)), (self.write("two"), ("same",))], ImportOptions())
             with self.assertRaisesRegex(e.DoesNotFit, "-r stores folders"):
-                put_all(client, [(self.folder, ("y",))], Options())
+                put_all(client, [(self.folder, ("y",))], ImportOptions())
             with self.assertRaisesRegex(e.DoesNotFit, "No such file"):
-                put_all(client, [(os.path.join(self.folder, "missing"), ("y",))], Options())
+                put_all(client, [(os.path.join(self.folder, "missing"), ("y",))], ImportOptions())
 
     def test_parts_that_would_be_other_files(self) -> None:
         self.write("big", bytes(p.limits.FILE + 1))
@@ -120,8 +120,8 @@ class Preflight(Local):
         here, there = self.write("here/a", b"one"), self.write("there/a", b"two")
         big = self.write("parts/big", bytes(p.limits.FILE + 1))
         with self.client() as client:
-            put_all(client, [(here, ("a",)), (big, ("big",))], Options(split=True))
-            options = Options(split=True, skip_same=True, delete_source=True)
+            put_all(client, [(here, ("a",)), (big, ("big",))], ImportOptions(split=True))
+            options = ImportOptions(split=True, skip_same=True, delete_source=True)
             for other, path in ((there, ("a",)), (there, ("big.001",)), (there, ("big",))):
                 with self.assertRaisesRegex(e.DoesNotFit, f"/{path[0]}: more than one"):
                     put_all(client, [(here, ("a",)), (big, ("big",)), (other, path)], options)
@@ -132,7 +132,7 @@ class Preflight(Local):
         local = self.write("a")
         steps: List[Tuple[str, p.Path]] = []
         with self.client() as client:
-            summary = put_all(client, [(self.folder, ("x",))], Options(recursive=True, dry_run=True, delete_source=True), lambda what, path, *_: steps.append((what, path)))
+            summary = put_all(client, [(self.folder, ("x",))], ImportOptions(recursive=True, dry_run=True, delete_source=True), lambda what, path, *_: steps.append((what, path)))
         self.assertEqual(steps, [("would make", ("x",)), ("would store", ("x", "a"))])
         self.assertEqual((summary.files, self.volume.commits), (1, 0))
         self.assertTrue(os.path.exists(local))
@@ -147,7 +147,7 @@ class Preflight(Local):
             self.put(split=True)
         steps: List[Tuple[str, p.Path]] = []
         with self.client() as client:
-            options = Options(recursive=True, split=True, skip_same=True, dry_run=True)
+            options = ImportOptions(recursive=True, split=True, skip_same=True, dry_run=True)
             put_all(client, [(self.folder, ("x",))], options, lambda what, path, *_: steps.append((what, path)))
         self.assertEqual(steps, [("same", ("x", "a")), ("would remove", ("x", "a.000")), ("would remove", ("x", "a.001"))])
 
@@ -157,7 +157,7 @@ class Preflight(Local):
         seen: List[str] = []
         with mock.patch("udfburn.image.blocks.space_of", lambda image, program, client: seen.append(program)), mock.patch.dict(os.environ, clear=True):
             with Client(f"unix:{self.server.path}", ledger=self.ledger, program="/opt/udfburn") as client:
-                put_all(client, [(local, ("a",))], Options(image=image))
+                put_all(client, [(local, ("a",))], ImportOptions(image=image))
         self.assertEqual(seen, ["/opt/udfburn"])
 
 
@@ -370,10 +370,10 @@ class Changes(Local):
     def test_lists_of_requests(self) -> None:
         """Files are stored as one list, by 64 where something is done after them, and never too many bytes at once."""
         status = os.stat(self.write("a", bytes(10)))
-        source = Source(place_of(self.folder), (), Identity.of(status))
+        source = Source(place_of(self.folder), (), FileIdentity.of(status))
 
         def sizes(count: int, **options: bool) -> List[int]:
-            importer = tree.Importer(self.client(), Options(**options))  # type: ignore[arg-type]
+            importer = tree.Importer(self.client(), ImportOptions(**options))  # type: ignore[arg-type]
             return [len(chunk) for chunk in importer._chunks(Job(source, [()]) for _ in range(count))]
 
         self.assertEqual(sizes(0), [])

@@ -18,17 +18,17 @@ from udfburn.image.coverage import Coverage
 from udfburn.ledger.reading import ledger_to_read
 from udfburn.protocol import Path, show
 from udfburn.protocol.units import Address, Commit
-from udfburn.reader import Kind, Medium, NoVolume, Volume
+from udfburn.reader import FileType, Medium, NoVolume, Volume
 from udfburn.reader.entry import read_entry, write_entry
-from udfburn.reader.numbering import Link, Span, greatest_at, number
-from udfburn.salvage.salvage import DAMAGED, LOST, UNPROVED, WHOLE, Outcome, Salvage, target_of
+from udfburn.reader.numbering import Link, Span, greatest_at, number_links
+from udfburn.salvage.salvage import FILE_DAMAGED, FILE_LOST, FILE_UNPROVED, FILE_WHOLE, Salvage, SalvageOutcome, target_of
 
 from .losses import BLOCK, File, Loss, Sound, losses, write, write_map
 from .programs import UDFBURN
 
 RUNS = range(126) if os.environ.get("LARGE") else range(4)
 
-Given = Dict[Path, Tuple[Outcome, bytes, Path]]
+Given = Dict[Path, Tuple[SalvageOutcome, bytes, Path]]
 """What was had of each file: how, its bytes, and the path at which it is written."""
 
 
@@ -106,15 +106,15 @@ class Losing(WithLosses):
     def check_state(self, found: Salvage, loss: Loss, commit: int) -> None:
         """What is given back of a state."""
         wanted, given = self.sound.state(commit), self.given(found)
-        data = {data: outcome.state for outcome, data, _ in given.values() if outcome.state != DAMAGED}
+        data = {data: outcome.state for outcome, data, _ in given.values() if outcome.state != FILE_DAMAGED}
         for path, file in wanted.items():
             if not file.blocks & loss.lost:
                 self.assertIn(file.data, data, f"{path} is whole, and comes out as {given.get(path, (None,))[0]}")
         for path, (outcome, read, target) in given.items():
-            if target == path and path[0] != "lost+found" and outcome.state in (WHOLE, UNPROVED):
+            if target == path and path[0] != "lost+found" and outcome.state in (FILE_WHOLE, FILE_UNPROVED):
                 self.check_file(path, wanted, read, outcome)
 
-    def check_file(self, path: Path, wanted: Dict[Path, File], read: bytes, outcome: Outcome) -> None:
+    def check_file(self, path: Path, wanted: Dict[Path, File], read: bytes, outcome: SalvageOutcome) -> None:
         """What has a file's own path has its bytes: the ledger has the digest of each."""
         self.assertIn(path, wanted, outcome)
         self.assertEqual(read == wanted[path].data, True, outcome)
@@ -123,9 +123,9 @@ class Losing(WithLosses):
         """All files as they come out."""
         given: Given = {}
         for item in found.tree.items:
-            if item.kind is not Kind.DIRECTORY:
+            if item.kind is not FileType.DIRECTORY:
                 outcome, data = found.judged(item)
-                if outcome.state != LOST:
+                if outcome.state != FILE_LOST:
                     given[item.path] = (outcome, data, target_of(item, outcome))
         return given
 
@@ -229,7 +229,7 @@ class Numbering(unittest.TestCase):
     """The commits of links, by what tables say."""
 
     def spans(self, *links: Tuple[int, Optional[int], bool]) -> List[Span]:
-        return [link.numbers for link in number([Link(Address(at), None, None if said is None else Commit(said), follows) for at, said, follows in links])]
+        return [link.numbers for link in number_links([Link(Address(at), None, None if said is None else Commit(said), follows) for at, said, follows in links])]
 
     def test_by_links(self) -> None:
         """A number goes along links both ways, and most of a row counts."""

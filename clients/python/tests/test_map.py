@@ -20,10 +20,10 @@ def texts(tree: ElementTree.Element) -> str:
 
 
 class Drawn(unittest.TestCase):
-    def medium(self, commits: int, capacity: int) -> picture.Medium:
+    def medium(self, commits: int, capacity: int) -> picture.Picture:
         known = [LoggedCommit(Commit(0), Address(261), 0, 1)]
         known += [LoggedCommit(Commit(index), Address(261 + 5 * index), index, 1) for index in range(1, commits + 1)]
-        return picture.Medium("disc.img", "A < B & C", capacity, known[-1].address + 1, known)
+        return picture.Picture("disc.img", "A < B & C", capacity, known[-1].address + 1, known)
 
     def test_each_block_is_of_one_run(self) -> None:
         for commits, capacity in ((0, 512), (1, 512), (50, 600), (300, 3000), (30000, 450_000)):
@@ -36,7 +36,7 @@ class Drawn(unittest.TestCase):
 
     def test_it_is_a_picture(self) -> None:
         for commits, capacity in ((0, 512), (50, 600), (300, 3000), (30000, 450_000)):
-            drawn = picture.draw(self.medium(commits, capacity))
+            drawn = picture.svg_of(self.medium(commits, capacity))
             tree = ElementTree.fromstring(drawn)
             told = texts(tree)
             self.assertIn("A < B & C", told)
@@ -50,7 +50,7 @@ class Drawn(unittest.TestCase):
     def test_no_label_is_cut(self) -> None:
         """By the widths of DejaVu Sans, which are larger than those of most: 0.636 of the points for a digit, 0.318 for a comma."""
         for commits, capacity in ((0, 512), (300, 3000), (30000, 450_000), (89_000, 450_000)):
-            tree = ElementTree.fromstring(picture.draw(self.medium(commits, capacity)))
+            tree = ElementTree.fromstring(picture.svg_of(self.medium(commits, capacity)))
             for element in tree.iter(f"{SVG}text"):
                 words, x, points = element.text or "", float(element.get("x", 0)), float(element.get("font-size", 0))
                 if words.replace(",", "").isdecimal():
@@ -60,7 +60,7 @@ class Drawn(unittest.TestCase):
 
     def test_a_commit_that_was_cut(self) -> None:
         medium = self.medium(3, 512)
-        cut = picture.Medium(medium.name, medium.label, medium.capacity, medium.written + 4, medium.commits)
+        cut = picture.Picture(medium.name, medium.label, medium.capacity, medium.written + 4, medium.commits)
         self.assertIn("cut: 277 to 280", [run.text for run in picture.runs_of(cut)][-2])
 
 

@@ -6,10 +6,10 @@ import unittest
 from typing import List, Tuple
 
 from udfburn.protocol.units import BlockNumber, Moment, Size, VirtualAddress
-from udfburn.reader.basics import BLOCK, FILE_BYTES, write_tag
+from udfburn.reader.basics import BLOCK, EXTENT_BYTES, write_tag
 from udfburn.reader.budget import Budget, Work
-from udfburn.reader.directory import IS_DIRECTORY, IS_PARENT, Known, read_directory, write_identifier
-from udfburn.reader.entry import EXTENT, Entry, Kind, write_entry
+from udfburn.reader.directory import KnownIdentifiers, OF_DIRECTORY, OF_PARENT, read_directory, write_identifier
+from udfburn.reader.entry import EXTENT, Entry, FileType, write_entry
 from udfburn.reader.mend import Hint, mend_entry, mend_identifier
 
 NUMBER = 1000
@@ -21,10 +21,10 @@ VIRTUAL, UNIQUE, NAME_SIZE, USE_SIZE, NAME = range(24, 28), range(32, 36), 19, r
 def identifiers() -> List[Tuple[bytes, bool, int]]:
     """Identifiers, whether each is the first of its directory, and the bytes of its implementation use."""
     named = [
-        ("", IS_PARENT, 5, 0, 0), ("a", 0, 7, 300, 0), ("ab", IS_DIRECTORY, 4000, 262_000, 0), ("abc", 0, 7, 300, 0), ("abcd", 0, 7, 300, 0),
-        ("\u00e9\u4e2d", 0, 9, 400, 0), ("a name", 0, 9, 400, 32), ("x" * 100, IS_DIRECTORY, 9, 400, 64), ("y" * 254, 0, 9, 400, 0),
+        ("", OF_PARENT, 5, 0, 0), ("a", 0, 7, 300, 0), ("ab", OF_DIRECTORY, 4000, 262_000, 0), ("abc", 0, 7, 300, 0), ("abcd", 0, 7, 300, 0),
+        ("\u00e9\u4e2d", 0, 9, 400, 0), ("a name", 0, 9, 400, 32), ("x" * 100, OF_DIRECTORY, 9, 400, 64), ("y" * 254, 0, 9, 400, 0),
     ]
-    return [(write_identifier(name, kind, VirtualAddress(virtual), unique, more, BlockNumber(NUMBER)), kind == IS_PARENT, more) for name, kind, virtual, unique, more in named]
+    return [(write_identifier(name, kind, VirtualAddress(virtual), unique, more, BlockNumber(NUMBER)), kind == OF_PARENT, more) for name, kind, virtual, unique, more in named]
 
 
 def with_byte(data: bytes, at: int, byte: int) -> bytes:
@@ -84,9 +84,9 @@ class Identifiers(unittest.TestCase):
         """To try them takes long, so it is done for so many of a medium alone."""
         names = [write_identifier(name, 0, VirtualAddress(7 + index), 300 + index, 0, BlockNumber(NUMBER)) for index, name in enumerate("aBcDeF")]
         hurt = [with_byte(name, NAME + 1, name[NAME + 1] ^ 1) if index % 2 == 0 else name for index, name in enumerate(names)]
-        data = b"".join((write_identifier("", IS_PARENT, VirtualAddress(5), 0, 0, BlockNumber(NUMBER)), *hurt))
+        data = b"".join((write_identifier("", OF_PARENT, VirtualAddress(5), 0, 0, BlockNumber(NUMBER)), *hurt))
         for most in (2, 3):
-            known = Known(Budget(5000))
+            known = KnownIdentifiers(Budget(5000))
             known.bits = most
             found, _ = read_directory(data.ljust(BLOCK, b"\0"), Size(len(data)), BlockNumber(NUMBER), known)
             proved = [name.name for name in found.names if name.proved]
@@ -97,12 +97,12 @@ def entries() -> List[Entry]:
     """Entries of each kind, with their bytes inside, in one extent, in several, and with none."""
     moment, inside = 1_700_000_000_123_456, bytes(range(200))
     return [
-        Entry(Kind.FILE, Moment(moment), 1, 300, Size(len(inside)), None, inside, 7, 0, True),
-        Entry(Kind.FILE, Moment(moment), 1, 300, Size(5000), BlockNumber(NUMBER - 3), None, 7, 0, True),
-        Entry(Kind.FILE, Moment(moment), 1, 300, Size(0), None, None, 7, 0, True),
-        Entry(Kind.FILE, Moment(moment), 1, 300, Size(2 * FILE_BYTES + 5), BlockNumber(100), None, 7, 0, True, (BlockNumber(700), BlockNumber(4000))),
-        Entry(Kind.DIRECTORY, Moment(moment), 3, 300, Size(100), BlockNumber(NUMBER - 1), None, 7, 0, True),
-        Entry(Kind.TABLE, Moment(moment), 0, 0, Size(5000), BlockNumber(NUMBER - 3), None, NUMBER, 0, True),
+        Entry(FileType.FILE, Moment(moment), 1, 300, Size(len(inside)), None, inside, 7, 0, True),
+        Entry(FileType.FILE, Moment(moment), 1, 300, Size(5000), BlockNumber(NUMBER - 3), None, 7, 0, True),
+        Entry(FileType.FILE, Moment(moment), 1, 300, Size(0), None, None, 7, 0, True),
+        Entry(FileType.FILE, Moment(moment), 1, 300, Size(2 * EXTENT_BYTES + 5), BlockNumber(100), None, 7, 0, True, (BlockNumber(700), BlockNumber(4000))),
+        Entry(FileType.DIRECTORY, Moment(moment), 3, 300, Size(100), BlockNumber(NUMBER - 1), None, 7, 0, True),
+        Entry(FileType.TABLE, Moment(moment), 0, 0, Size(5000), BlockNumber(NUMBER - 3), None, NUMBER, 0, True),
     ]
 
 
@@ -123,7 +123,7 @@ class Entries(unittest.TestCase):
             block = write_entry(entry)
             for at in range(192 if entry.first is not None and not entry.others else 176):
                 # How many links a directory has is said once, and each bit of it is tried.
-                bits = 0x02 if entry.kind is Kind.DIRECTORY and at in (48, 49) else 0x5A
+                bits = 0x02 if entry.kind is FileType.DIRECTORY and at in (48, 49) else 0x5A
                 self.assertEqual(self.mended(with_byte(block, at, block[at] ^ bits), entry), entry, (entry.kind, entry.size, at))
 
     def test_a_byte_of_the_bytes_inside(self) -> None:
@@ -148,7 +148,7 @@ class Entries(unittest.TestCase):
     def test_another_place(self) -> None:
         """A tag that agrees with itself is that of the location that it says."""
         entry = entries()[1]
-        found = mend_entry(with_byte(write_entry(entry), BLOCK - 1, 1), Hint(BlockNumber(NUMBER), 8, 300, Kind.FILE), Budget(5000))
+        found = mend_entry(with_byte(write_entry(entry), BLOCK - 1, 1), Hint(BlockNumber(NUMBER), 8, 300, FileType.FILE), Budget(5000))
         assert found is not None
         self.assertEqual(found.location, 7)
 
@@ -160,7 +160,7 @@ class Entries(unittest.TestCase):
     def test_no_budget(self) -> None:
         entry, spent = entries()[1], Budget(5000)
         spent.take(Work.MENDS, 500_001)
-        found = mend_entry(with_byte(write_entry(entry), 44, 1), Hint(BlockNumber(NUMBER), 7, 300, Kind.FILE), spent)
+        found = mend_entry(with_byte(write_entry(entry), 44, 1), Hint(BlockNumber(NUMBER), 7, 300, FileType.FILE), spent)
         assert found is not None
         self.assertFalse(found.proved)
 

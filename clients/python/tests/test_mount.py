@@ -14,13 +14,13 @@ from unittest import mock
 
 from udfburn.base.errors import Damaged
 from udfburn.mounting.image_view import ImageView
-from udfburn.mounting.fuse import ROOT, Numbers
+from udfburn.mounting.fuse import TOP_NUMBER, Numbers
 from udfburn.base.progress import Progress
 from udfburn.protocol import Create, MakeDir, Message, Replace
-from udfburn.reader import Kind, Medium, Volume
-from udfburn.reader.basics import BLOCK, FILE_BYTES
+from udfburn.reader import FileType, Medium, Volume
+from udfburn.reader.basics import BLOCK, EXTENT_BYTES
 from udfburn.reader.directory import write_identifier
-from udfburn.mounting.shown_tree import DIGEST, DIGESTS_KEPT, File, Folder, Memory, Reading
+from udfburn.mounting.shown_tree import DIGEST, DIGESTS_KEPT, Memory, OpenFile, ShownFile, ShownFolder
 from udfburn.protocol.units import BlockNumber, Moment, VirtualAddress
 
 from .appended import Appender
@@ -32,43 +32,43 @@ Found = Dict[bytes, Tuple[Optional[bytes], int]]
 """The bytes of each file, None of a folder, and its moment, by its path."""
 
 
-def bytes_of(file: File, memory: Optional[Memory] = None) -> bytes:
+def bytes_of(file: ShownFile, memory: Optional[Memory] = None) -> bytes:
     """All bytes of a file, as the kernel asks for them."""
-    reading = Reading(file, memory or Memory())
+    reading = OpenFile(file, memory or Memory())
     for _ in reading.check():
         pass
     return b"".join(reading.read(at, 131_072) for at in range(0, max(file.size, 1), 131_072))
 
 
-def at(folder: Folder, *names: str) -> "File | Folder":
+def at(folder: ShownFolder, *names: str) -> "ShownFile | ShownFolder":
     """What is at names below a folder."""
-    item: "File | Folder | None" = folder
+    item: "ShownFile | ShownFolder | None" = folder
     for name in names:
-        assert isinstance(item, Folder)
+        assert isinstance(item, ShownFolder)
         item = item.find(os.fsencode(name))
     assert item is not None, names
     return item
 
 
-def file_at(folder: Folder, *names: str) -> File:
+def file_at(folder: ShownFolder, *names: str) -> ShownFile:
     found = at(folder, *names)
-    assert isinstance(found, File)
+    assert isinstance(found, ShownFile)
     return found
 
 
-def folder_at(folder: Folder, *names: str) -> Folder:
+def folder_at(folder: ShownFolder, *names: str) -> ShownFolder:
     found = at(folder, *names)
-    assert isinstance(found, Folder)
+    assert isinstance(found, ShownFolder)
     return found
 
 
-def all_of(folder: Folder, above: bytes = b"") -> Found:
+def all_of(folder: ShownFolder, above: bytes = b"") -> Found:
     """All that is in a folder, at any depth."""
     found: Found = {}
     for name, item in folder.names().items():
         path = above + b"/" + name
-        found[path] = bytes_of(item) if isinstance(item, File) else None, item.moment
-        if isinstance(item, Folder):
+        found[path] = bytes_of(item) if isinstance(item, ShownFile) else None, item.moment
+        if isinstance(item, ShownFolder):
             found.update(all_of(item, path))
     return found
 
@@ -121,7 +121,7 @@ class Trees(WithImage):
         self.assertEqual(list(commits), [b"%d" % commit for commit in range(61)])
         for commit, wanted in enumerate(states, 1):
             folder = commits[b"%d" % commit]
-            assert isinstance(folder, Folder)
+            assert isinstance(folder, ShownFolder)
             self.assertEqual(all_of(folder), wanted)
         self.assertEqual(all_of(folder_at(view, "latest")), states[-1])
         self.assertEqual(view.names().keys(), {b"latest", b"commits"})
@@ -135,22 +135,22 @@ class Trees(WithImage):
 
     def test_extents_are_one_file(self) -> None:
         format_image(self.image)
-        appender, data = Appender(self.image), random.Random(1).randbytes(2 * FILE_BYTES + 777)
-        appender.create("long", data[:FILE_BYTES])
-        appender.append("long", data[FILE_BYTES : 2 * FILE_BYTES])
-        appender.append("long", data[2 * FILE_BYTES :])
+        appender, data = Appender(self.image), random.Random(1).randbytes(2 * EXTENT_BYTES + 777)
+        appender.create("long", data[:EXTENT_BYTES])
+        appender.append("long", data[EXTENT_BYTES : 2 * EXTENT_BYTES])
+        appender.append("long", data[2 * EXTENT_BYTES :])
         appender.write()
         file = file_at(self.view(), "latest", "long")
         self.assertEqual((file.size, bytes_of(file)), (len(data), data))
-        reading = Reading(file, Memory())
-        self.assertEqual(reading.read(FILE_BYTES - 3, 7), data[FILE_BYTES - 3 : FILE_BYTES + 4])
+        reading = OpenFile(file, Memory())
+        self.assertEqual(reading.read(EXTENT_BYTES - 3, 7), data[EXTENT_BYTES - 3 : EXTENT_BYTES + 4])
         self.assertEqual(reading.read(len(data) - 2, 100), data[-2:])
         self.assertEqual(reading.read(len(data) + 1, 100), b"")
 
     def test_parts_are_one_file(self) -> None:
         """Parts beside one another and those in a folder of their own; each part is there under its own name, and not listed."""
-        data = random.Random(2).randbytes(FILE_BYTES + 10)
-        parts = [data[:FILE_BYTES], data[FILE_BYTES:]]
+        data = random.Random(2).randbytes(EXTENT_BYTES + 10)
+        parts = [data[:EXTENT_BYTES], data[EXTENT_BYTES:]]
         messages: List[Message] = [Create(1, 1 + index, Moment(9), (f"x.{index:03}",), part) for index, part in enumerate(parts)]
         messages += [MakeDir(1, 3, Moment(9), ("y.parts",)), MakeDir(1, 4, Moment(9), ("y.parts", "00"))]
         messages += [Create(1, 5 + index, Moment(9), ("y.parts", "00", f"{index:03}"), part) for index, part in enumerate(parts)]
@@ -177,7 +177,7 @@ class Damage(WithImage):
         messages: List[Message] = [Create(1, 1 + index, Moment(5), (name,), data) for index, (name, data) in enumerate(files)]
         self.send([*messages, Create(1, len(files) + 1, Moment(6), ("manifest-sha256.txt",), lines.encode())])
 
-    def require_damaged(self, file: File, words: str, memory: Optional[Memory] = None) -> None:
+    def require_damaged(self, file: ShownFile, words: str, memory: Optional[Memory] = None) -> None:
         for _ in range(2):
             with self.assertRaisesRegex(Damaged, words):
                 bytes_of(file, memory)
@@ -206,29 +206,29 @@ class Damage(WithImage):
     def test_a_long_file_is_compared_first(self) -> None:
         """Of a file of several pieces nothing is given before all of it was compared, and nothing that changed since."""
         format_image(self.image)
-        appender, data = Appender(self.image), random.Random(4).randbytes(2 * FILE_BYTES + 99)
-        appender.create("long", data[:FILE_BYTES])
-        appender.append("long", data[FILE_BYTES : 2 * FILE_BYTES])
-        appender.append("long", data[2 * FILE_BYTES :])
+        appender, data = Appender(self.image), random.Random(4).randbytes(2 * EXTENT_BYTES + 99)
+        appender.create("long", data[:EXTENT_BYTES])
+        appender.append("long", data[EXTENT_BYTES : 2 * EXTENT_BYTES])
+        appender.append("long", data[2 * EXTENT_BYTES :])
         appender.create("manifest-sha256.txt", f"{hashlib.sha256(data).hexdigest()}  long\n".encode())
         appender.write()
         file, memory = file_at(self.view(), "latest", "long"), Memory()
-        reading = Reading(file, memory)
+        reading = OpenFile(file, memory)
         with self.assertRaises(RuntimeError):
             reading.read(0, 10)
         self.assertEqual(bytes_of(file, memory), data)
         with mock.patch.object(type(file), "piece", side_effect=AssertionError("it is read again")):
-            list(Reading(file, memory).check())
+            list(OpenFile(file, memory).check())
         # The last piece is forgotten, as after many others.
         again = Memory()
-        again.keep((file.key(), file.sums()), b"".join(hashlib.sha256(data[at : at + FILE_BYTES]).digest() for at in range(0, len(data), FILE_BYTES)))
-        self.flip(data[FILE_BYTES + 5 : FILE_BYTES + 70])
-        reading = Reading(file, again)
+        again.keep((file.key(), file.sums()), b"".join(hashlib.sha256(data[at : at + EXTENT_BYTES]).digest() for at in range(0, len(data), EXTENT_BYTES)))
+        self.flip(data[EXTENT_BYTES + 5 : EXTENT_BYTES + 70])
+        reading = OpenFile(file, again)
         list(reading.check())
         self.assertEqual(reading.read(0, 10), data[:10])
         for _ in range(2):
             with self.assertRaisesRegex(Damaged, "not as it was stored"):
-                reading.read(FILE_BYTES, 10)
+                reading.read(EXTENT_BYTES, 10)
         self.require_damaged(file, "not as it was stored")
 
     def test_a_damaged_manifest(self) -> None:
@@ -294,7 +294,7 @@ class Strangers(WithImage):
                 self.assertTrue(all("commit" in failure for failure in failures), failures[:2])
                 self.assertLess(time.process_time() - began, 60)
 
-    def walked(self, folder: Folder) -> Tuple[int, List[str]]:
+    def walked(self, folder: ShownFolder) -> Tuple[int, List[str]]:
         names = 0
         failures: List[str] = []
         try:
@@ -303,7 +303,7 @@ class Strangers(WithImage):
             return 0, [str(error)]
         for item in found.values():
             names += 1
-            if isinstance(item, Folder):
+            if isinstance(item, ShownFolder):
                 below = self.walked(item)
                 names, failures = names + below[0], failures + below[1]
         return names, failures
@@ -313,15 +313,15 @@ class Strangers(WithImage):
         with self.assertRaisesRegex(Damaged, "commit 1: has more than 4,096 names, which no volume has"):
             folder_at(self.view(), "latest").names()
 
-    def forged(self, *names: Tuple[str, int, int]) -> Folder:
+    def forged(self, *names: Tuple[str, int, int]) -> ShownFolder:
         """The root of a volume with these names in it, each with the characteristics and the virtual address that it says."""
         forge = Forge()
         forge.begin()
         first = forge.number
         data = write_identifier("", 10, VirtualAddress(1), 0, 0, BlockNumber(first)) + b"".join(write_identifier(name, kind, VirtualAddress(virtual), 16, 0, BlockNumber(first)) for name, kind, virtual in names)
         forge.put(data)
-        forge.words[1] = forge.node(Kind.DIRECTORY, 0, len(data), first, 1)
-        forge.words.append(forge.node(Kind.FILE, 16, 5, None, 2, b"bytes"))
+        forge.words[1] = forge.node(FileType.DIRECTORY, 0, len(data), first, 1)
+        forge.words.append(forge.node(FileType.FILE, 16, 5, None, 2, b"bytes"))
         forge.table(1, 1, 1)
         self.write(forge.image())
         return folder_at(self.view(), "latest")
@@ -358,19 +358,19 @@ class Kept(unittest.TestCase):
 
     def test_numbers(self) -> None:
         """A name has one number for as long as the kernel knows it, and takes no memory after that."""
-        top = Folder()
+        top = ShownFolder()
         numbers = Numbers(top)
-        one = numbers.of(ROOT, b"a", File())
+        one = numbers.of(TOP_NUMBER, b"a", ShownFile())
         numbers.records[one].given += 2
-        self.assertEqual(numbers.of(ROOT, b"a", File()), one)
+        self.assertEqual(numbers.of(TOP_NUMBER, b"a", ShownFile()), one)
         numbers.forget(one, 1)
-        self.assertEqual(numbers.known(ROOT, b"a"), one)
+        self.assertEqual(numbers.known(TOP_NUMBER, b"a"), one)
         numbers.forget(one, 1)
-        self.assertIsNone(numbers.known(ROOT, b"a"))
-        numbers.forget(ROOT, 1 << 40)
-        self.assertEqual([*numbers.records], [ROOT])
-        self.assertEqual([*numbers.records], [ROOT])
-        self.assertIs(numbers.records[ROOT].item, top)
+        self.assertIsNone(numbers.known(TOP_NUMBER, b"a"))
+        numbers.forget(TOP_NUMBER, 1 << 40)
+        self.assertEqual([*numbers.records], [TOP_NUMBER])
+        self.assertEqual([*numbers.records], [TOP_NUMBER])
+        self.assertIs(numbers.records[TOP_NUMBER].item, top)
 
 
 if __name__ == "__main__":

@@ -21,12 +21,12 @@ from udfburn.base import errors as e
 from udfburn.commands import cli
 from udfburn import protocol as p
 from udfburn.wire.connection import Connection
-from udfburn.ledger.records import LARGE
+from udfburn.ledger.records import LARGE_DATA
 from udfburn.protocol.units import Commit, Moment
 from udfburn.wire.operations import Operation
 from udfburn.session.in_flight import InFlightRequest
 from udfburn.session.session import Session
-from udfburn.trees.tree import Options, put_all
+from udfburn.trees.tree import ImportOptions, put_all
 
 from .programs import PATIENCE, UDFBURN, WithPrograms
 from .server import honestly, is_probe, request_of
@@ -54,7 +54,7 @@ class WithSource(WithServer):
     def setUp(self) -> None:
         super().setUp()
         store_in_parts(self)
-        self.data = random.Random(3).randbytes(LARGE + 5)
+        self.data = random.Random(3).randbytes(LARGE_DATA + 5)
         self.source = self.write("source", self.data)
 
     def write(self, name: str, data: bytes) -> str:
@@ -66,7 +66,7 @@ class WithSource(WithServer):
     def put(self, *names: str, split: bool = False) -> None:
         """Stores files under their names."""
         with self.client(patience=0.1) as client:
-            put_all(client, [(os.path.join(self.room, name), (name,)) for name in names], Options(split=split))
+            put_all(client, [(os.path.join(self.room, name), (name,)) for name in names], ImportOptions(split=split))
 
     def begin(self, done: bool, *names: str, split: bool = False) -> None:
         """A process that ends while the files are on their way."""
@@ -92,19 +92,19 @@ class WithSource(WithServer):
 class Sources(WithSource):
     def test_what_the_ledger_keeps(self) -> None:
         """Of a small file all bytes; of a large one, and of each part of one in parts, where they are."""
-        self.write("small", bytes(LARGE - 1))
-        self.write("parts", bytes(MEBIBYTE + LARGE))
+        self.write("small", bytes(LARGE_DATA - 1))
+        self.write("parts", bytes(MEBIBYTE + LARGE_DATA))
         self.begin(False, "source", "small")
         with closing(sqlite3.connect(self.ledger)) as base:
             large, small = sorted(base.execute(FRAMES).fetchall(), key=lambda row: row[1] is None)
         # A request has its kind, three numbers of 8 bytes, its path (a count, and each name after its length) and the size of its data.
         self.assertEqual(large, (1 + 24 + 1 + 2 + len("source") + 4, os.fsencode(self.source), 0, len(self.data)))
-        self.assertEqual(small, (1 + 24 + 1 + 2 + len("small") + 4 + LARGE - 1, None, None, None))
+        self.assertEqual(small, (1 + 24 + 1 + 2 + len("small") + 4 + LARGE_DATA - 1, None, None, None))
         self.resumed()
         self.begin(False, "parts", split=True)
         with closing(sqlite3.connect(self.ledger)) as base:
             found = {(start, size) for _, origin, start, size in base.execute(FRAMES) if origin == os.fsencode(self.path("parts"))}
-        self.assertEqual(found, {(0, MEBIBYTE + LARGE), (MEBIBYTE, MEBIBYTE + LARGE)})
+        self.assertEqual(found, {(0, MEBIBYTE + LARGE_DATA), (MEBIBYTE, MEBIBYTE + LARGE_DATA)})
 
     def path(self, name: str) -> str:
         return os.path.join(self.room, name)
@@ -124,7 +124,7 @@ class Sources(WithSource):
                 self.assertEqual(self.volume.commits, commit)
 
     def test_parts_sent_again_as_they_were(self) -> None:
-        data = random.Random(8).randbytes(2 * MEBIBYTE + LARGE)
+        data = random.Random(8).randbytes(2 * MEBIBYTE + LARGE_DATA)
         self.write("whole", data)
         self.begin(False, "whole", split=True)
         done, lost = self.resumed()
@@ -193,10 +193,10 @@ class Sources(WithSource):
                 name = f"again{done}"
                 self.write(name, self.data)
                 self.begin(done, name)
-                self.write(name, b"new" * LARGE)
+                self.write(name, b"new" * LARGE_DATA)
                 before = self.volume.commits
                 self.put(name)
-                self.assertEqual(self.volume.files()[(name,)], b"new" * LARGE)
+                self.assertEqual(self.volume.files()[(name,)], b"new" * LARGE_DATA)
                 # What was not done takes a number for its refusal, and both take one for what is stored now.
                 self.assertEqual(self.volume.commits, before + (1 if done else 2))
 
@@ -227,7 +227,7 @@ class Sources(WithSource):
 
         self.server.say = say
         with self.client() as client:
-            summary = put_all(client, [(self.source, ("source",))], Options())
+            summary = put_all(client, [(self.source, ("source",))], ImportOptions())
         self.assertEqual((summary.files, summary.failures), (1, []))
         self.assertEqual(seen, [seen[0]] * 2)
         self.assertEqual((self.volume.files(), self.volume.commits), ({("source",): self.data}, 1))
@@ -235,7 +235,7 @@ class Sources(WithSource):
     def test_one_between_others(self) -> None:
         """Four are pending, and the source of the second is gone: the others are sent as they were."""
         names = [f"f{index}" for index in range(4)]
-        contents = {name: random.Random(name).randbytes(LARGE) for name in names}
+        contents = {name: random.Random(name).randbytes(LARGE_DATA) for name in names}
         for name in names:
             self.write(name, contents[name])
         self.begin(False, *names)
@@ -248,7 +248,7 @@ class Sources(WithSource):
 
     def test_a_file_in_parts(self) -> None:
         """Where one of its parts is gone, those after it are not stored either: it has no hole."""
-        data = random.Random(9).randbytes(3 * MEBIBYTE + LARGE)
+        data = random.Random(9).randbytes(3 * MEBIBYTE + LARGE_DATA)
         self.write("whole", data)
         self.begin(False, "whole", split=True)
         status = os.stat(self.path("whole"))
@@ -348,7 +348,7 @@ class Kills(WithPrograms):
             path = os.path.join(self.sources, name)
             turn = self.chance.randrange(6)
             if not os.path.exists(path) or turn == 0:
-                data = self.chance.randbytes(LARGE + self.chance.choice((0, 0, 1)))
+                data = self.chance.randbytes(LARGE_DATA + self.chance.choice((0, 0, 1)))
                 status = os.stat(path) if os.path.exists(path) else None
                 with open(path, "wb") as file:
                     file.write(data)
@@ -370,7 +370,7 @@ class Kills(WithPrograms):
                 if lines:
                     sys.settrace(killer(lines))
                 with Client(f"unix:{self.path}", ledger=self.ledger, program=UDFBURN, patience=PATIENCE) as client:
-                    put_all(client, [(self.sources, ("x",))], Options(recursive=True))
+                    put_all(client, [(self.sources, ("x",))], ImportOptions(recursive=True))
                 status = 0
             finally:
                 sys.settrace(None)

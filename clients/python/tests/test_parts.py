@@ -165,7 +165,7 @@ class Folders(Local):
             self.put(split=True)
             self.write("big", b"small")
 
-            def some(client: Client, paths: List[p.Path], told: walk.Told, left: int = left) -> None:
+            def some(client: Client, paths: List[p.Path], told: walk.StepTold, left: int = left) -> None:
                 walk.remove_paths(client, paths[:left], told)
                 raise KeyboardInterrupt
 
@@ -279,7 +279,7 @@ class Folders(Local):
         self.write("big", self.data(3))
         steps: List[str] = []
         with self.client() as client:
-            options = tree.Options(recursive=True, split=True, dry_run=True)
+            options = tree.ImportOptions(recursive=True, split=True, dry_run=True)
             tree.put_all(client, [(self.folder, ("x",))], options, lambda what, path, size, _: steps.append(f"{what} {p.show(path)} {size}"))
         self.assertEqual(steps, ["would make /x 0", "would make /x/big.parts 0", "would make /x/big.parts/00 0", "would make /x/big.parts/01 0",
                                  *[f"would store /x/big.parts/{name} {MEBIBYTE}" for name in ("00/000", "00/001", "01/000")],
@@ -306,7 +306,7 @@ class Reckoned(WithPrograms):
             data[changed] ^= 1
             self.write("source/big", bytes(data))
             before = os.path.getsize(image) // 2048
-            summary = tree.put_all(client, [(local, ("big",))], tree.Options(split=True))
+            summary = tree.put_all(client, [(local, ("big",))], tree.ImportOptions(split=True))
             self.assertEqual(os.path.getsize(image) // 2048 - before, summary.blocks)
         self.assertEqual(b"".join(client.get(f"/big.00{index}") for index in range(4)), bytes(data))
 

@@ -16,7 +16,7 @@ from udfburn import protocol as p
 from udfburn.image.blocks import space_of
 from udfburn.protocol.units import Moment
 from udfburn.wire.operations import Operation
-from udfburn.trees.tree import Options, put_all
+from udfburn.trees.tree import ImportOptions, put_all
 
 from .model import Volume
 from .programs import PATIENCE, UDFBURN, WithPrograms
@@ -146,9 +146,9 @@ class Folders(WithPrograms):
     def test_the_blocks_are_reckoned_exactly(self) -> None:
         local = self.thousand()
         client = self.on_image()
-        summary = put_all(client, [(local, ("x",))], Options(recursive=True))
+        summary = put_all(client, [(local, ("x",))], ImportOptions(recursive=True))
         self.assertEqual(os.path.getsize(self.image) // 2048, 262 + (summary.blocks or 0))
-        again = put_all(client, [(local, ("x",))], Options(recursive=True, rewrite=True))
+        again = put_all(client, [(local, ("x",))], ImportOptions(recursive=True, rewrite=True))
         self.assertEqual(again.files, summary.files)
         self.assertEqual(os.path.getsize(self.image) // 2048, 262 + (summary.blocks or 0) + (again.blocks or 0))
 
@@ -162,7 +162,7 @@ class Folders(WithPrograms):
         # As earlier programs stored it.
         store_in_parts(self)
         with self.client() as client:
-            put_all(client, [(folder, ("x",))], Options(recursive=True, split=True))
+            put_all(client, [(folder, ("x",))], ImportOptions(recursive=True, split=True))
         client = self.client()
         self.run_command("put", "-r", "--split", folder, "/x")
         self.assertEqual([name.name for name in client.list("/x")], ["big.000", "big.001", "big.002"])
@@ -297,7 +297,7 @@ class Limits(WithPrograms):
             for index in range(count):
                 self.write(f"tight{count}/{index:03}", bytes(9000))
             try:
-                put_all(client, [(folder, ())], Options(recursive=True))
+                put_all(client, [(folder, ())], ImportOptions(recursive=True))
             except e.DoesNotFit as error:
                 self.assertIn("blocks", str(error))
                 self.assertEqual(os.path.getsize(image), 262 * 2048, "nothing was sent")
@@ -318,7 +318,7 @@ class Limits(WithPrograms):
             self.format(capacity, image)
             with self.on_image(os.path.join(self.room, f"{capacity}.sqlite"), image) as client:
                 try:
-                    put_all(client, [(local, ("one",))], Options())
+                    put_all(client, [(local, ("one",))], ImportOptions())
                 except e.DoesNotFit as error:
                     return str(error)
             return ""
@@ -391,7 +391,7 @@ class Limits(WithPrograms):
             client.mkdir("/one-more")
         source = self.write("source/new", b"")
         with self.assertRaisesRegex(e.DoesNotFit, "4097"):
-            put_all(client, [(os.path.dirname(source), ("0",))], Options(recursive=True))
+            put_all(client, [(os.path.dirname(source), ("0",))], ImportOptions(recursive=True))
 
     def test_clients_full(self) -> None:
         client = self.on_image()

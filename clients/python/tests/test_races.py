@@ -13,7 +13,7 @@ from udfburn.protocol.units import Moment
 from udfburn.trees import fetch
 from udfburn.trees.client import Client
 from udfburn.salvage.write import InTheWay, Output
-from udfburn.trees.tree import Options, put_all
+from udfburn.trees.tree import ImportOptions, put_all
 
 from .model import Volume
 from .swaps import REAL, Swap, Turned, picture
@@ -71,7 +71,7 @@ class Races(Local):
         def run() -> None:
             with self.fresh() as client, self.direct(client):
                 try:
-                    put_all(client, [(self.folder, ("x",))], Options(recursive=True, skip_odd=True, delete_source=delete))
+                    put_all(client, [(self.folder, ("x",))], ImportOptions(recursive=True, skip_odd=True, delete_source=delete))
                 except (UdfburnError, OSError):
                     pass
 
@@ -94,7 +94,7 @@ class Races(Local):
         """What is got is what the volume has, and is in the folder."""
         self.fill()
         with self.client() as client:
-            put_all(client, [(self.folder, ("x",))], Options(recursive=True))
+            put_all(client, [(self.folder, ("x",))], ImportOptions(recursive=True))
 
         def ready() -> None:
             shutil.rmtree(self.back, ignore_errors=True)
@@ -155,7 +155,7 @@ class Pipes(Local):
         def run() -> None:
             with self.client() as client, self.direct(client):
                 try:
-                    put_all(client, [(self.folder, (f"x{at}",))], Options(recursive=True, skip_odd=True))
+                    put_all(client, [(self.folder, (f"x{at}",))], ImportOptions(recursive=True, skip_odd=True))
                 except (UdfburnError, OSError):
                     pass
 

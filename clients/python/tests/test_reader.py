@@ -11,7 +11,7 @@ from typing import Dict
 
 from udfburn.protocol import Create, MakeDir, Path
 from udfburn.protocol.units import Address, BlockNumber, Commit, Moment, VirtualAddress
-from udfburn.reader import Cause, Kind, MapError, Medium, NoVolume, RescueMap, State, Volume
+from udfburn.reader import DamageCause, FileType, MapError, Medium, NoVolume, RescueMap, State, Volume
 from udfburn.reader import basics, directory, entry, front
 from udfburn.reader.notes import Notes
 from udfburn.salvage.salvage import Salvage
@@ -72,12 +72,12 @@ class Reader(unittest.TestCase):
             paths[node.path] = node
             known = model.nodes[node.path]
             if isinstance(known, File):
-                self.assertEqual((node.kind, node.size, node.moment), (Kind.FILE, len(known.data), known.moment))
+                self.assertEqual((node.kind, node.size, node.moment), (FileType.FILE, len(known.data), known.moment))
                 run = state.volume.read(node)
                 self.assertEqual((run.data, run.missing), (known.data, ()))
             else:
                 assert isinstance(known, Directory)
-                self.assertEqual((node.kind, node.moment), (Kind.DIRECTORY, known.moment))
+                self.assertEqual((node.kind, node.moment), (FileType.DIRECTORY, known.moment))
                 self.assertEqual([name.name for name in state.names(node)], known.names)
         self.assertEqual(set(paths), set(model.nodes))
         kept = {client.client: (client.latest, [(reply.code, reply.commit) for reply in client.replies]) for client in state.clients}
@@ -106,7 +106,7 @@ class Reader(unittest.TestCase):
         volume = Volume(self.medium())
         for commit, paths in enumerate(states, 1):
             state = volume.state(Commit(commit))
-            read = {node.path: volume.read(node).data if node.kind is Kind.FILE else None for node in state.walk()}
+            read = {node.path: volume.read(node).data if node.kind is FileType.FILE else None for node in state.walk()}
             self.assertEqual(read, paths)
         self.assertRaises(NoVolume, volume.state, 41)
 
@@ -158,11 +158,11 @@ class Reader(unittest.TestCase):
             found, faults = entry.read_entry(block, node.virtual)
             assert found is not None
             self.assertEqual((entry.write_entry(found), faults), (block, []))
-            if node.kind is Kind.DIRECTORY and node.data is not None and node.size < 2048:
+            if node.kind is FileType.DIRECTORY and node.data is not None and node.size < 2048:
                 data = medium.run(node.data, node.blocks).data
-                laid = directory.write_identifier("", directory.IS_PARENT, node.above, 0, 0, BlockNumber(node.data - 257))
+                laid = directory.write_identifier("", directory.OF_PARENT, node.above, 0, 0, BlockNumber(node.data - 257))
                 for name in state.names(node):
-                    kind = directory.IS_DIRECTORY if name.is_directory else 0
+                    kind = directory.OF_DIRECTORY if name.is_directory else 0
                     laid += directory.write_identifier(name.name, kind, name.virtual, name.unique, 0, BlockNumber(node.data - 257))
                 self.assertEqual(laid, data[: node.size])
 
@@ -174,7 +174,7 @@ class Reader(unittest.TestCase):
             whole = file.read()
         state = Volume(self.medium()).state()
         places = [state.table.address, state.table.first + 257, 16, 34, 50, 64, 65, 100, 256, 257]
-        places += [node.address for node in state.walk()] + [node.data for node in state.walk() if node.kind is Kind.DIRECTORY and node.data]
+        places += [node.address for node in state.walk()] + [node.data for node in state.walk() if node.kind is FileType.DIRECTORY and node.data]
         for at in places:
             for byte in (0, 13, 30, 100, 2047):
                 with open(self.image, "wb") as file:
@@ -202,7 +202,7 @@ class Reader(unittest.TestCase):
                     file.write(changed)
                     file.seek(at * 2048)
                     file.write(entry.write_file_set(label, Moment(moment)))
-                expected = [(100, Cause.FRONT)] * (changed == b"x") + [(at, Cause.LABELS)] * wrong
+                expected = [(100, DamageCause.FRONT)] * (changed == b"x") + [(at, DamageCause.LABELS)] * wrong
                 for notes in (Volume(self.medium()).check().all(), Salvage(self.medium()).notes):
                     self.assertEqual([(note.block, note.cause) for note in notes], expected, (label, moment))
 
@@ -219,7 +219,7 @@ class Fronts(unittest.TestCase):
         self.image, self.map = os.path.join(room.name, "disc.img"), os.path.join(room.name, "map")
         self.blocks = front.blocks_of_front("DISC", Moment(1_700_000_000_000_000), 50_000)
 
-    def read(self, blocks: Dict[int, bytes], missing: "tuple[int, ...]" = ()) -> "tuple[front.Front, list[tuple[int, Cause]]]":
+    def read(self, blocks: Dict[int, bytes], missing: "tuple[int, ...]" = ()) -> "tuple[front.Front, list[tuple[int, DamageCause]]]":
         """What a volume header with these blocks says, and what is noted of it."""
         with open(self.image, "wb") as file:
             file.write(b"".join(blocks.get(at, bytes(2048)) for at in range(257)))
@@ -258,11 +258,11 @@ class Fronts(unittest.TestCase):
         for name, at in (("label", 32), ("moment", 32), ("capacity", 34)):
             found, notes = self.read({at: block for at, block in self.blocks.items() if at not in self.PLACES[name]})
             self.assertIsNone(getattr(found, name))
-            self.assertEqual(notes, [(at, Cause.FRONT)], name)
+            self.assertEqual(notes, [(at, DamageCause.FRONT)], name)
 
     def test_blocks_that_differ(self) -> None:
-        self.assertEqual(self.read(self.blocks, missing=(40,))[1], [(40, Cause.MISSING)])
-        self.assertEqual(self.read({**self.blocks, 40: b"x".ljust(2048, b"\0")})[1], [(40, Cause.FRONT)])
+        self.assertEqual(self.read(self.blocks, missing=(40,))[1], [(40, DamageCause.MISSING)])
+        self.assertEqual(self.read({**self.blocks, 40: b"x".ljust(2048, b"\0")})[1], [(40, DamageCause.FRONT)])
 
 
 class Missing(unittest.TestCase):
@@ -300,4 +300,4 @@ class Missing(unittest.TestCase):
 
     def test_causes(self) -> None:
         """The numbers are those of docs/OPERATIONS.md."""
-        self.assertEqual([int(cause) for cause in Cause], [0, *range(21, 28), *range(31, 38), *range(41, 48), *range(71, 79)])
+        self.assertEqual([int(cause) for cause in DamageCause], [0, *range(21, 28), *range(31, 38), *range(41, 48), *range(71, 79)])

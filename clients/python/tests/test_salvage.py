@@ -12,15 +12,15 @@ from unittest import mock
 
 from udfburn.protocol import Create, MakeDir, Message, Path, Remove, Rename, Replace
 from udfburn.protocol.units import Address, Commit
-from udfburn.reader import Kind, Medium, Volume
-from udfburn.salvage.salvage import DAMAGED, EARLIER, LOST, NAMELESS, UNFINISHED, UNPROVED, NothingToSalvage, Outcome, Salvage
+from udfburn.reader import FileType, Medium, Volume
+from udfburn.salvage.salvage import FILE_DAMAGED, FILE_EARLIER, FILE_LOST, FILE_NAMELESS, FILE_UNPROVED, UNFINISHED, NothingToSalvage, Salvage, SalvageOutcome
 
 from .model import Volume as Model
 from .programs import UDFBURN
 from .volumes import Writer, apply_messages, format_image
 
 BLOCK = 2048
-Found = Dict[Path, Tuple[str, bytes, Outcome]]
+Found = Dict[Path, Tuple[str, bytes, SalvageOutcome]]
 
 
 class Damaged(unittest.TestCase):
@@ -89,7 +89,7 @@ class Damaged(unittest.TestCase):
             found = Salvage(medium, commit)
             files = {}
             for item in found.tree.items:
-                if item.kind is not Kind.DIRECTORY:
+                if item.kind is not FileType.DIRECTORY:
                     outcome, data = found.judged(item)
                     files[item.path] = (outcome.state, data, outcome)
             return files, [str(note) for note in found.notes]
@@ -101,7 +101,7 @@ class Damaged(unittest.TestCase):
             if path in but:
                 self.assertEqual(files[path][0], but[path], (path, files[path][2], notes))
             else:
-                self.assertEqual(files.get(path, ("", b""))[:2], (UNPROVED, data), (path, notes))
+                self.assertEqual(files.get(path, ("", b""))[:2], (FILE_UNPROVED, data), (path, notes))
         return notes
 
 
@@ -178,10 +178,10 @@ class Salvaging(Damaged):
         assert data is not None
         self.damage(data, 0, bytes(range(256)) * 8)
         files, _ = self.salvage()
-        self.assertEqual(files["d", "large"][:2], (EARLIER, self.model.files()["d", "large"]))
+        self.assertEqual(files["d", "large"][:2], (FILE_EARLIER, self.model.files()["d", "large"]))
         self.assertEqual(files["d", "large"][2].commit, (7, 7))
-        self.assertEqual(files["d", "small"][:2], (EARLIER, self.model.files()["d", "renamed"]))
-        self.assertEqual(files["d", "e", "deep"][:2], (UNPROVED, self.model.files()["d", "e", "deep"]))
+        self.assertEqual(files["d", "small"][:2], (FILE_EARLIER, self.model.files()["d", "renamed"]))
+        self.assertEqual(files["d", "e", "deep"][:2], (FILE_UNPROVED, self.model.files()["d", "e", "deep"]))
 
     def test_a_lost_root(self) -> None:
         """Its names are read from its listing."""
@@ -194,12 +194,12 @@ class Salvaging(Damaged):
         """A replaced file is had as it was before, a new one as its blocks, one inside its entry is lost."""
         self.fill()
         sound = self.blocks()
-        for path, state in ((("d", "large"), EARLIER), (("top",), DAMAGED), (("d", "renamed"), LOST)):
+        for path, state in ((("d", "large"), FILE_EARLIER), (("top",), FILE_DAMAGED), (("d", "renamed"), FILE_LOST)):
             self.put(sound)
             self.damage(self.node(*path)[0], 0, bytes(BLOCK))
             self.expect_all({path: state})
             files, _ = self.salvage()
-            if state == DAMAGED:
+            if state == FILE_DAMAGED:
                 self.assertEqual(files[path][1].rstrip(b"\0"), self.model.files()[path].rstrip(b"\0"))
 
     def test_a_node_without_a_name(self) -> None:
@@ -209,7 +209,7 @@ class Salvaging(Damaged):
         assert data is not None
         self.damage(data, 0, bytes(BLOCK))
         files, _ = self.salvage()
-        nameless = [(path, found[1]) for path, found in files.items() if found[0] == NAMELESS]
+        nameless = [(path, found[1]) for path, found in files.items() if found[0] == FILE_NAMELESS]
         self.assertEqual(nameless, [(("lost+found", "22"), self.model.files()["last",])])
 
     def test_removed_nodes(self) -> None:
@@ -222,7 +222,7 @@ class Salvaging(Damaged):
         self.damage(data, 0, bytes(BLOCK))
         files, _ = self.salvage()
         self.assertNotIn(("d", "large"), files)
-        self.assertEqual([found[1] for path, found in files.items() if found[0] == NAMELESS], [self.model.files()["d", "other"]])
+        self.assertEqual([found[1] for path, found in files.items() if found[0] == FILE_NAMELESS], [self.model.files()["d", "other"]])
 
     def test_missing_blocks(self) -> None:
         """Zeros stand for them, and the ranges are named."""
@@ -239,7 +239,7 @@ class Salvaging(Damaged):
             files, notes = self.salvage()
         state, found, outcome = files["d", "large"]
         whole = self.model.files()["d", "large"]
-        self.assertEqual((state, outcome.ranges), (DAMAGED, ((2048, 2048), (6144, 856))))
+        self.assertEqual((state, outcome.ranges), (FILE_DAMAGED, ((2048, 2048), (6144, 856))))
         self.assertEqual(found, whole[:2048] + bytes(2048) + whole[4096:6144] + bytes(856))
         self.assertEqual([note.split(":")[0] for note in notes], [f"block {data + 1} cause 0", f"block {data + blocks - 1} cause 0"])
 

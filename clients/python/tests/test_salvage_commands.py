@@ -16,7 +16,7 @@ from unittest import mock
 
 from udfburn.commands import cli
 from udfburn.protocol import Create, MakeDir
-from udfburn.salvage.salvage import DAMAGED, UNPROVED, WHOLE
+from udfburn.salvage.salvage import FILE_DAMAGED, FILE_UNPROVED, FILE_WHOLE
 from udfburn.local.saving import write_all
 
 from .programs import PACKAGE, UDFBURN, run_client
@@ -36,20 +36,20 @@ class Commands(Damaged):
         self.send(Create, ("manifest-sha256.txt",), lines.encode())
         self.send(Create, ("new",), b"not listed")
         files, _ = self.salvage()
-        self.assertEqual({found[0] for path, found in files.items() if path[-1] != "manifest-sha256.txt"}, {WHOLE, UNPROVED})
-        self.assertEqual(files["new",][0], UNPROVED)
+        self.assertEqual({found[0] for path, found in files.items() if path[-1] != "manifest-sha256.txt"}, {FILE_WHOLE, FILE_UNPROVED})
+        self.assertEqual(files["new",][0], FILE_UNPROVED)
         _, data, _ = self.node("top")
         assert data is not None
         self.flip(data, 77)
         files, _ = self.salvage()
-        self.assertEqual((files["top",][0], files["d", "large"][0]), (DAMAGED, WHOLE))
+        self.assertEqual((files["top",][0], files["d", "large"][0]), (FILE_DAMAGED, FILE_WHOLE))
         # A bit inside an entry is mended by the digest, and so is a lost entry.
         self.flip(data, 77)
         self.flip(self.node("d", "renamed")[0], 300)
         self.damage(self.node("top")[0], 0, bytes(BLOCK))
         files, _ = self.salvage()
         for path in (("d", "renamed"), ("top",)):
-            self.assertEqual(files[path][:2], (WHOLE, self.model.files()[path]))
+            self.assertEqual(files[path][:2], (FILE_WHOLE, self.model.files()[path]))
 
     def test_digests_of_a_ledger(self) -> None:
         """They are found by the commits that wrote the files, whatever the files are called now."""

@@ -11,7 +11,7 @@ from unittest import mock
 
 from udfburn.protocol import Path
 from udfburn.protocol.units import Address, Moment
-from udfburn.salvage.digests import Digests, Manifest, add_manifests, folder_of, lines_of
+from udfburn.salvage.digests import Digests, Manifest, add_manifests, folder_of, listed_lines
 from udfburn.salvage.write import InTheWay, Output, fitting
 
 
@@ -86,9 +86,9 @@ class Manifests(unittest.TestCase):
     def test_lines(self) -> None:
         digest = "ab" * 32
         bag = f"{digest}  data/a%0Ab%25\n{digest} *data/c\nno line\n".encode()
-        self.assertEqual([line.path for line in lines_of(("bag",), bag, True)], [("bag", "data", "a\nb%"), ("bag", "data", "c")])
+        self.assertEqual([line.path for line in listed_lines(("bag",), bag, True)], [("bag", "data", "a\nb%"), ("bag", "data", "c")])
         plain = f"\\{digest}  a\\nb\\\\\n{digest.upper()}  ./d/e%25\u2028f\n".encode()
-        self.assertEqual(list(lines_of((), plain, False)), [(("a\nb\\",), digest), (("d", "e%25\u2028f"), digest)])
+        self.assertEqual(list(listed_lines((), plain, False)), [(("a\nb\\",), digest), (("d", "e%25\u2028f"), digest)])
 
     def test_a_manifest_without_a_name(self) -> None:
         """It is that of the folder in which its files are."""

@@ -13,10 +13,10 @@ from unittest import mock
 from udfburn import Client
 from udfburn.base import errors as e
 from udfburn import protocol as p
-from udfburn.base.manifest import Line, bag_manifest, plain_manifest, read_manifest
+from udfburn.base.manifest import ManifestLine, bag_manifest, plain_manifest, read_manifest
 from udfburn.protocol.units import Moment
-from udfburn.trees.seal import seal
-from udfburn.trees.tree import Options, put_all
+from udfburn.trees.seal import seal_directory
+from udfburn.trees.tree import ImportOptions, put_all
 
 from . import bags
 from .model import File
@@ -40,7 +40,7 @@ class Lines(unittest.TestCase):
             ("x\ry", "x%0Dy", "x\\ry", "\\"), ("x\\y", "x\\y", "x\\\\y", "\\"), ("x\\n", "x\\n", "x\\\\n", "\\"), ("ü", "ü", "ü", ""),
         )
         for name, bag, plain, mark in cases:
-            line = Line(digest, ("data", name))
+            line = ManifestLine(digest, ("data", name))
             self.assertEqual(bag_manifest([line]).decode(), f"{digits}  data/{bag}\n")
             self.assertEqual(plain_manifest([line]).decode(), f"{mark}{digits}  data/{plain}\n")
             for form, data in ((True, bag_manifest([line])), (False, plain_manifest([line]))):
@@ -50,15 +50,15 @@ class Lines(unittest.TestCase):
         digits = "ab" * 32
         digest = bytes.fromhex(digits)
         for data in (f"{digits} *./d/f\n", f"{digits.upper()}  d/f\r\n", f"\n{digits}  ./d/./f"):
-            self.assertEqual(read_manifest(data.encode(), False), ([Line(digest, ("d", "f"))], []))
+            self.assertEqual(read_manifest(data.encode(), False), ([ManifestLine(digest, ("d", "f"))], []))
         for data in (f"{digits}\tdata/f\n", f"{digits}   data/f\n", f"{digits} *data/f\r\n"):
-            self.assertEqual(read_manifest(data.encode(), True), ([Line(digest, ("data", "f"))], []))
-        self.assertEqual(read_manifest(f"{digits}  *star\n".encode(), True), ([Line(digest, ("*star",))], []))
-        self.assertEqual(read_manifest(f"{digits}  d/%0a%0A%25%41\n".encode(), True)[0], [Line(digest, ("d", "\n\n%%41"))])
+            self.assertEqual(read_manifest(data.encode(), True), ([ManifestLine(digest, ("data", "f"))], []))
+        self.assertEqual(read_manifest(f"{digits}  *star\n".encode(), True), ([ManifestLine(digest, ("*star",))], []))
+        self.assertEqual(read_manifest(f"{digits}  d/%0a%0A%25%41\n".encode(), True)[0], [ManifestLine(digest, ("d", "\n\n%%41"))])
         # Only these end a line.
         for end in ("\r\n", "\r", "\n"):
-            self.assertEqual(read_manifest(f"{digits}  a\x0b\u2028\x85b{end}{digits}  c{end}".encode(), True)[0], [Line(digest, ("a\x0b\u2028\x85b",)), Line(digest, ("c",))])
-        self.assertEqual(read_manifest(f"{digits}  a\x0b\u2028b\n".encode(), False)[0], [Line(digest, ("a\x0b\u2028b",))])
+            self.assertEqual(read_manifest(f"{digits}  a\x0b\u2028\x85b{end}{digits}  c{end}".encode(), True)[0], [ManifestLine(digest, ("a\x0b\u2028\x85b",)), ManifestLine(digest, ("c",))])
+        self.assertEqual(read_manifest(f"{digits}  a\x0b\u2028b\n".encode(), False)[0], [ManifestLine(digest, ("a\x0b\u2028b",))])
 
     def test_what_is_no_line(self) -> None:
         digits = "ab" * 32
@@ -134,7 +134,7 @@ class Bags(WithPrograms):
         where = ["--image", self.image]
         store_in_parts(self)
         with Client(f"image:{self.image}", ledger=self.ledger, program=UDFBURN) as client:
-            put_all(client, [(os.path.join(self.room, "source"), ("bag", "data"))], Options(recursive=True, parents=True, split=True))
+            put_all(client, [(os.path.join(self.room, "source"), ("bag", "data"))], ImportOptions(recursive=True, parents=True, split=True))
         self.run_command("put", "-r", "--split", "--seal", os.path.join(self.room, "source"), "/bag", where=where)
         bag = os.path.join(self.copied(), "bag")
         self.assertEqual(bags.faults(bag), [])
@@ -164,21 +164,21 @@ class Sealed(WithServer):
 
     def test_again(self) -> None:
         """Nothing is written where all is there; a new file changes the manifest, and keeps what others wrote of the bag."""
-        sealed = seal(self.one, ("bag",))
+        sealed = seal_directory(self.one, ("bag",))
         self.assertEqual((sealed.files, sealed.bytes, sealed.known, len(sealed.written)), (3, 63, 3, 4))
         commits = self.volume.commits
-        self.assertEqual(seal(self.one, ("bag",)).written, [])
+        self.assertEqual(seal_directory(self.one, ("bag",)).written, [])
         self.assertEqual(self.volume.commits, commits)
         info = b"Contact-Name: A. Person\nExternal-Description: one\n  and two\nBagging-Date: 2020-02-02\nPayload-Oxum: 1.1\n"
         self.one.replace("/bag/bag-info.txt", info)
         self.one.create("/bag/notes.txt", b"of ours")
-        seal(self.one, ("bag",))
+        seal_directory(self.one, ("bag",))
         text = self.files()["/bag/bag-info.txt"].decode()
         for line in ("Bagging-Date: 2020-02-02\n", "Payload-Oxum: 63.3\n", "Contact-Name: A. Person\n", "External-Description: one\n  and two\n"):
             self.assertEqual(text.count(line), 1, "the payload is the same, so the day is")
         self.assertIn("notes.txt", self.files()["/bag/tagmanifest-sha256.txt"].decode())
         self.one.create("/bag/data/new", b"")
-        sealed = seal(self.one, ("bag",))
+        sealed = seal_directory(self.one, ("bag",))
         self.assertEqual([p.show(path) for path in sealed.written], ["/bag/bag-info.txt", "/bag/manifest-sha256.txt", "/bag/tagmanifest-sha256.txt"])
         text = self.files()["/bag/bag-info.txt"].decode()
         self.assertIn("Payload-Oxum: 63.4\n", text)
@@ -190,7 +190,7 @@ class Sealed(WithServer):
         node.data = b"X" + node.data[1:]
         for path, manifest_only in ((("bag",), False), (("bag", "data"), True)):
             with self.assertRaisesRegex(e.Differs, r"/bag/data/d/b: has other bytes than were sent \(commit 5\)"):
-                seal(self.one, path, manifest_only)
+                seal_directory(self.one, path, manifest_only)
         self.assertEqual(len(self.files()), 3, "nothing is written")
         self.put_refuses()
 
@@ -210,23 +210,23 @@ class Sealed(WithServer):
 
     def test_a_manifest_that_says_other_bytes(self) -> None:
         """Years later and with another ledger: a new manifest would hide what happened to a file."""
-        seal(self.one, ("bag",))
+        seal_directory(self.one, ("bag",))
         self.one.close()
         with Client(f"unix:{self.server.path}", ledger=os.path.join(self.room, "other.sqlite")) as other:
             other.create("/bag/data/new", b"new")
-            self.assertEqual(seal(other, ("bag",)).known, 1)
+            self.assertEqual(seal_directory(other, ("bag",)).known, 1)
             for path, manifest in ((("bag", "data", "a"), "manifest"), (("bag", "bagit.txt"), "tagmanifest")):
                 node = self.volume.nodes[path]
                 assert isinstance(node, File)
                 node.data, before, commits = b"X" + node.data[1:], node.data, self.volume.commits
                 with self.assertRaisesRegex(e.Differs, f"{p.show(path)}: has other bytes than /bag/{manifest}-sha256.txt says"):
-                    seal(other, ("bag",))
+                    seal_directory(other, ("bag",))
                 self.assertEqual(self.volume.commits, commits)
                 node.data = before
-            self.assertEqual(seal(other, ("bag",)).written, [])
+            self.assertEqual(seal_directory(other, ("bag",)).written, [])
             # What this ledger itself stored anew is no fault.
             other.replace("/bag/data/a", b"of this ledger")
-            self.assertEqual(len(seal(other, ("bag",)).written), 3)
+            self.assertEqual(len(seal_directory(other, ("bag",)).written), 3)
 
     def test_a_sealing_that_is_killed(self) -> None:
         """At any line: the same command again makes it whole, and each file is stored as often as it has other bytes."""
@@ -242,13 +242,13 @@ class Sealed(WithServer):
                 try:
                     sys.settrace(killer(lines))
                     with self.client() as client:
-                        seal(client, ("bag",))
+                        seal_directory(client, ("bag",))
                 finally:
                     sys.settrace(None)
                     os._exit(0)
             killed = os.WIFSIGNALED(os.waitpid(child, 0)[1])
             with self.client() as client:
-                written.add(len(seal(client, ("bag",)).written))
+                written.add(len(seal_directory(client, ("bag",)).written))
             self.assert_sealed()
         self.assertLessEqual({0, 1, 3}, written, "it was killed before, between and after what it writes")
 
@@ -284,7 +284,7 @@ class Sealed(WithServer):
             other.replace("/bag/data/a", b"theirs too", Moment(6))
         self.one.close()
         with Client(f"unix:{self.server.path}", ledger=self.ledger, shared=True) as client:
-            sealed = seal(client, ("bag",))
+            sealed = seal_directory(client, ("bag",))
         self.assertEqual((sealed.files, sealed.known), (4, 2))
         self.assertIn(hashlib.sha256(b"theirs too").hexdigest() + "  data/a\n", self.files()["/bag/manifest-sha256.txt"].decode())
 
@@ -294,9 +294,9 @@ class Sealed(WithServer):
             with self.assertRaisesRegex(e.TooLarge, "--manifest-only"):
                 self.one.create("/bag/data/e", b"")
                 self.one.create("/bag/data/f", b"")
-                seal(self.one, ("bag",))
+                seal_directory(self.one, ("bag",))
             self.assertFalse([path for path in self.files() if path.endswith(".txt")])
-            sealed = seal(self.one, ("bag", "data"), manifest_only=True)
+            sealed = seal_directory(self.one, ("bag", "data"), manifest_only=True)
         self.assertEqual([p.show(path) for path in sealed.written], ["/bag/data/manifest-sha256.txt", "/bag/data/d/manifest-sha256.txt"])
         names = [line.split("  ")[1] for line in self.files()["/bag/data/d/manifest-sha256.txt"].decode().splitlines()]
         self.assertEqual(names, ["b", "c"])
@@ -310,14 +310,14 @@ class Sealed(WithServer):
         ]
         for path, manifest_only, error, words in cases:
             with self.assertRaisesRegex(error, words):
-                seal(self.one, p.path_of(path), manifest_only)
-        seal(self.one, ("bag",))
+                seal_directory(self.one, p.path_of(path), manifest_only)
+        seal_directory(self.one, ("bag",))
         with self.assertRaisesRegex(e.UsageError, "is a bag"):
-            seal(self.one, ("bag",), True)
+            seal_directory(self.one, ("bag",), True)
 
     def test_a_dry_run(self) -> None:
         commits, told = self.volume.commits, []
-        sealed = seal(self.one, ("bag",), dry_run=True, told=lambda what, path, size, commit: told.append((what, p.show(path))))
+        sealed = seal_directory(self.one, ("bag",), dry_run=True, told=lambda what, path, size, commit: told.append((what, p.show(path))))
         self.assertEqual((self.volume.commits, len(sealed.written)), (commits, 4))
         self.assertEqual({what for what, _ in told}, {"would store"})
 

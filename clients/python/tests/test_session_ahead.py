@@ -13,7 +13,7 @@ from udfburn.base import errors as e
 from udfburn.ledger.ledger import Ledger, Pending, Reply
 from udfburn.protocol.units import Commit
 from udfburn.session.in_flight import InFlightRequest
-from udfburn.wire.connection import PIECE, Connection
+from udfburn.wire.connection import SOCKET_PIECE, Connection
 from udfburn.wire.operations import Operation
 
 from .model import Volume
@@ -86,7 +86,7 @@ class Ahead(WithServer):
 class Foreseen(WithServer):
     """Transactions that are begun before the answers come, and what comes in place of what was foreseen."""
 
-    def done(self, operations: List[Operation], most: int = PIECE) -> Tuple[List[p.Code], int]:
+    def done(self, operations: List[Operation], most: int = SOCKET_PIECE) -> Tuple[List[p.Code], int]:
         """The codes of operations, and how many transactions were as foreseen."""
         client = self.client()
         ends: List[bool] = []

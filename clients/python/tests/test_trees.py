@@ -18,7 +18,7 @@ from udfburn.image import blocks
 from udfburn.local import saving
 from udfburn.protocol.units import Address
 from udfburn.trees import fetch, tree
-from udfburn.trees.jobs import Options
+from udfburn.trees.jobs import ImportOptions
 
 from .model import Volume
 from .with_files import Local
@@ -145,7 +145,7 @@ class Parts(unittest.TestCase):
 
     def test_joined(self) -> None:
         full = p.limits.FILE
-        files, rest = split.joined([("a.000", full), ("a.001", full), ("a.002", 5), ("a.003", 5), ("b.000", full), ("c.000", 5), ("c.001", 5), ("d.000", None), ("e", 1), ("e.000", full), ("e.001", 1)])
+        files, rest = split.joined_parts([("a.000", full), ("a.001", full), ("a.002", 5), ("a.003", 5), ("b.000", full), ("c.000", 5), ("c.001", 5), ("d.000", None), ("e", 1), ("e.000", full), ("e.001", 1)])
         self.assertEqual(files, {"a": ["a.000", "a.001", "a.002"]})
         self.assertEqual(rest, ["a.003", "b.000", "c.000", "c.001", "d.000", "e", "e.000", "e.001"])
 
@@ -267,7 +267,7 @@ class Typed(unittest.TestCase):
 
     def test_the_options_of_a_tree(self) -> None:
         """Those of `put_tree` are those of the command, but for what says which command it is."""
-        wanted = set(Options._fields) - {"recursive", "skip_same", "delete_last"}
+        wanted = set(ImportOptions._fields) - {"recursive", "skip_same", "delete_last"}
         self.assertEqual(set(self.calls()["put_tree"].parameters) - {"self", "local", "path", "told"}, wanted)
 
 

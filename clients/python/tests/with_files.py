@@ -10,7 +10,7 @@ from udfburn import protocol as p
 from udfburn.base import errors as e
 from udfburn.base import split
 from udfburn.trees import tree
-from udfburn.trees.tree import Options, put_all
+from udfburn.trees.tree import ImportOptions, put_all
 
 from .with_server import WithServer
 
@@ -38,9 +38,9 @@ class Local(WithServer):
     def folder(self) -> str:
         return os.path.join(self.room, "source")
 
-    def put(self, **options: object) -> tree.Summary:
+    def put(self, **options: object) -> tree.ImportSummary:
         with self.client() as client:
-            return put_all(client, [(self.folder, ("x",))], Options(recursive=True, **options))  # type: ignore[arg-type]
+            return put_all(client, [(self.folder, ("x",))], ImportOptions(recursive=True, **options))  # type: ignore[arg-type]
 
     def refused(self, **options: object) -> str:
         """What is reported against an import; and nothing was sent."""

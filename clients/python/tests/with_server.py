@@ -14,7 +14,7 @@ from unittest import mock
 from udfburn import Client
 from udfburn import protocol as p
 from udfburn.protocol.units import Moment
-from udfburn.wire.connection import PIECE
+from udfburn.wire.connection import SOCKET_PIECE
 from udfburn.wire.operations import Operation
 
 from .model import Volume
@@ -50,7 +50,7 @@ class WithServer(unittest.TestCase):
         self.addCleanup(made.close)
         return made
 
-    def direct(self, client: Client, most: int = PIECE) -> Any:
+    def direct(self, client: Client, most: int = SOCKET_PIECE) -> Any:
         """A client's conversations are held with the volume itself meanwhile, whose answers come in pieces of at most so many bytes."""
         return mock.patch.object(client.endpoint, "open", lambda *_: Direct(self.volume, most))
 

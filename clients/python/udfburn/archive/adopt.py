@@ -6,7 +6,7 @@ import os
 from contextlib import closing, contextmanager
 from typing import Iterator, List, Optional, Tuple
 
-from ..base.own_files import copy, from_top, move, remove, set_mode
+from ..base.own_files import copy_file, from_top, move, remove, set_mode
 from ..base.scratch import room, sweep
 from ..local.sources import shown
 from ..wire.operations import now
@@ -180,4 +180,4 @@ def copy_to(config: Config, image: str, target: str, closed: bool) -> None:
 def copied_to(source: str, target: str, most: Optional[int] = None) -> None:
     """Copies a file, or so many of its bytes, into the folder of the archive, in the place of what has its name."""
     with from_top(target) as place:
-        copy(source, place, most)
+        copy_file(source, place, most)

@@ -5,13 +5,13 @@ from __future__ import annotations
 from hashlib import sha256
 from typing import Mapping
 
-from ..base.manifest import Line, bag_manifest
+from ..base.manifest import ManifestLine, bag_manifest
 from ..protocol import Path
 
 
 def manifest_size(path: Path) -> int:
     """The bytes of the line that a file has in a manifest."""
-    return len(bag_manifest([Line(bytes(32), path)]))
+    return len(bag_manifest([ManifestLine(bytes(32), path)]))
 
 
 def info(fields: Mapping[str, str], payload_bytes: int, payload_files: int) -> bytes:
@@ -22,4 +22,4 @@ def info(fields: Mapping[str, str], payload_bytes: int, payload_files: int) -> b
 
 def tag_manifest(files: Mapping[Path, bytes]) -> bytes:
     """The manifest of the tag files (RFC 8493 2.2.1), sorted by their paths."""
-    return bag_manifest(Line(sha256(data).digest(), path) for path, data in sorted(files.items()))
+    return bag_manifest(ManifestLine(sha256(data).digest(), path) for path, data in sorted(files.items()))

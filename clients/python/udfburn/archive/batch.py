@@ -19,9 +19,9 @@ from typing import IO, Optional, Type
 from ..base.beneath import open_own
 from ..base.disk import room_left
 from ..base.locks import lock_or_close
-from ..base.own_files import from_top, opened
+from ..base.own_files import from_top, open_to_write
 from ..base.scratch import own_folder, sweep
-from ..ledger.file import remove
+from ..ledger.file import remove_if_there
 from ..local.saving import write_all, write_file
 from ..local.sources import shown
 from ..protocol import limits
@@ -93,7 +93,7 @@ def forget_tail(image: str) -> None:
 
 def locked(image: str) -> int:
     """A descriptor of an image that no other process writes meanwhile."""
-    descriptor = opened(image)
+    descriptor = open_to_write(image)
     if not lock_or_close(descriptor):
         raise VolumeDiffers(f"{shown(image)}: another program is writing it")
     return descriptor
@@ -159,11 +159,11 @@ class Batch:
 
     def close(self) -> None:
         """Gives the image and the memory back."""
-        remove(self.copy)
+        remove_if_there(self.copy)
         os.close(self._descriptor)
 
     def _copy(self) -> None:
-        remove(self.copy)
+        remove_if_there(self.copy)
         try:
             with open(self.copy, "xb", opener=private) as new:
                 at = 0

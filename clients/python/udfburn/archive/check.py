@@ -9,7 +9,7 @@ from hashlib import sha256
 from typing import Any, Dict, Iterator, List, NamedTuple, Optional, Sequence, Set, Tuple
 
 from ..base.beneath import is_own, is_there
-from ..base.own_files import Told, from_top, move, remove, set_mode, untold
+from ..base.own_files import BytesTold, from_top, move, remove, set_mode, untold
 from ..base.scratch import room, sweep
 from ..local.sources import shown
 from ..protocol import Path, limits
@@ -206,7 +206,7 @@ class Checker:
         return "no copy is known: 'udfburn-client salvage' copies out what is intact"
 
 
-def has_print(image: str, wanted: Print, told: Told = untold) -> bool:
+def has_print(image: str, wanted: Print, told: BytesTold = untold) -> bool:
     """Whether an image is there, with this length and digest. One that cannot be read has another."""
     try:
         return is_own(image) and print_of_file(image, fresh=True, told=told) == wanted

@@ -8,7 +8,7 @@ import sys
 from typing import TYPE_CHECKING, Callable, List, Optional
 
 from .. import __version__
-from ..base.completion import complete
+from ..base.completion import complete_line
 from ..base.errors import OutputFailed, UdfburnError, UsageError
 from ..base.sizes import capacity, percent
 from ..base.streams import drop_output, parsed, take_any_name, take_descriptors
@@ -236,7 +236,7 @@ def main(words: Optional[List[str]] = None) -> int:
         print("udfburn-archive: needs Python 3.11 or later", file=sys.stderr)
         return 1
     try:
-        complete(parser)
+        complete_line(parser)
         closed = take_descriptors()
         arguments = parsed(parser(), words, closed)
         return printed(arguments, Tell(arguments.quiet, arguments.json, closed=closed, verbose=arguments.verbose))

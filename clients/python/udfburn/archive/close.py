@@ -12,8 +12,8 @@ from tempfile import TemporaryDirectory
 from typing import Dict, List, Mapping, NamedTuple, Optional, Sequence, Tuple
 
 from ..base.beneath import is_own, open_own, place_of
-from ..base.manifest import BAG_DECLARATION, BAG_INFO, DECLARATION, MANIFEST, PAYLOAD, TAG_MANIFEST, Line, bag_manifest
-from ..base.own_files import Told, move, remove, untold
+from ..base.manifest import BAG_DECLARATION, BAG_INFO, DECLARATION, MANIFEST, PAYLOAD_FOLDER, TAG_MANIFEST, ManifestLine, bag_manifest
+from ..base.own_files import BytesTold, move, remove, untold
 from ..base.unfinished import is_unfinished
 from ..local.saving import write_file
 from ..local.sources import shown
@@ -303,12 +303,12 @@ class Payload(NamedTuple):
     """The payload of a volume as it was read: the manifest's lines in order of their paths, its bytes, and the files that are not as
     they were stored."""
 
-    lines: List[Line]
+    lines: List[ManifestLine]
     size: int
     damaged: List[File]
 
 
-def read_payload(contents: Contents, rows: Sequence[Held], sent: Mapping[int, bytes], told: Told = untold) -> Payload:
+def read_payload(contents: Contents, rows: Sequence[Held], sent: Mapping[int, bytes], told: BytesTold = untold) -> Payload:
     """Reads every byte of a payload. Files that are whole on the volume are compared with the catalogue's digests, and parts of others
     with those of what was sent, by their commits."""
     known = {held.commit: held for held in rows}
@@ -335,10 +335,10 @@ def read_payload(contents: Contents, rows: Sequence[Held], sent: Mapping[int, by
         if node.path not in digests:
             digests[node.path] = sha256(contents.bytes_of(node)).digest()
             size += node.size
-    return Payload([Line(digests[node.path], node.path) for node in contents.payload()], size, damaged)
+    return Payload([ManifestLine(digests[node.path], node.path) for node in contents.payload()], size, damaged)
 
 
-def send(catalogue: Catalogue, row: VolumeRow, image: str, name: str, told: Told = untold) -> None:
+def send(catalogue: Catalogue, row: VolumeRow, image: str, name: str, told: BytesTold = untold) -> None:
     """Copies a closed volume to a remote, the image first, where it is not there; and compares all its bytes as they are there."""
     remote, wanted = remote_of(catalogue, name, told), Print(row.length or 0, row.sha256 or b"")
     base = os.path.basename(image)
@@ -399,4 +399,4 @@ def require_no_other(remote: Remote, row: VolumeRow, known: bool) -> None:
 
 def is_tag(path: Path, kind: str) -> bool:
     """Whether a file of the volume is a tag file beside those of a bag (RFC 8493 2.2.4)."""
-    return kind == "FILE" and path[0] != PAYLOAD and not is_unfinished(path) and path[0] not in (BAG_DECLARATION, BAG_INFO, MANIFEST, TAG_MANIFEST)
+    return kind == "FILE" and path[0] != PAYLOAD_FOLDER and not is_unfinished(path) and path[0] not in (BAG_DECLARATION, BAG_INFO, MANIFEST, TAG_MANIFEST)

@@ -11,6 +11,7 @@ from typing import Any, Dict, Iterable, List, NamedTuple, Optional, Set, Tuple
 
 from ..base.beneath import open_given
 from ..base.durable import make_folder
+from ..base.sizes import mode_of
 from ..local.saving import write_file
 from ..local.sources import shown
 from ..protocol import is_bytes, limits
@@ -188,7 +189,7 @@ def checked(folder: str, table: Dict[str, Any], where: str) -> Config:
     found = Config(
         folder, field(table, "id", str, where), check_label(field(table, "label", str, where)), field(table, "catalogue", str, where),
         field(table, "capacity", int, where), tuple(check_remote(copy) for copy in copies), field(table, "copies_wanted", int, where),
-        field(table, "delete", str, where), same_device, mode_of(table.get("mode", "600"), where), nodes,
+        field(table, "delete", str, where), same_device, mode_named(table.get("mode", "600"), where), nodes,
     )
     check_different(found.copies, where)
     if not limits.CAPACITY[0] <= found.capacity <= limits.CAPACITY[1]:
@@ -200,11 +201,12 @@ def checked(folder: str, table: Dict[str, Any], where: str) -> Config:
     return found
 
 
-def mode_of(value: object, where: str) -> int:
+def mode_named(value: object, where: str) -> int:
     """The permissions that `archive.toml` names, in octal."""
-    if not isinstance(value, str) or not re.fullmatch("0?6[0246][0246]", value):
+    mode = mode_of(value) if isinstance(value, str) else None
+    if mode is None:
         raise BadConfig(f"{where}: mode must be a string from \"600\" to \"666\", such as \"640\"")
-    return int(value, 8)
+    return mode
 
 
 def text(config: Config) -> str:

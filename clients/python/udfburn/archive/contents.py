@@ -8,10 +8,10 @@ from bisect import bisect_left, bisect_right
 from hashlib import sha256
 from typing import Dict, Iterator, List, Mapping, NamedTuple, Optional, Set, Tuple
 
-from ..base.manifest import MANIFEST, PAYLOAD, TAG_MANIFEST, read_manifest
+from ..base.manifest import MANIFEST, PAYLOAD_FOLDER, TAG_MANIFEST, read_manifest
 from ..protocol import Path, limits
 from ..protocol.units import Commit, Moment, Size
-from ..reader import Kind, Medium, Node, NoVolume, Run, State, Volume
+from ..reader import FileType, Medium, NoVolume, Run, State, StateNode, Volume
 from ..reader.basics import address_of, blocks_of
 from .batch import sound_length
 from .catalogue import Held, part_count
@@ -49,7 +49,7 @@ class File(NamedTuple):
     version: int
     whole: Path
     """Its stored path, which is a folder's where it has parts."""
-    nodes: Tuple[Node, ...]
+    nodes: Tuple[StateNode, ...]
     size: Size
     moment: Moment
     commit: Commit
@@ -163,7 +163,7 @@ class Contents:
         self.label, self.formatted = self.volume.label or "", self.volume.moment or Moment(0)
         self.capacity = self.volume.capacity or limits.CAPACITY[1]
         self.state: State = self.volume.state()
-        self.nodes: Dict[Path, Node] = {node.path: node for node in self.state.walk()}
+        self.nodes: Dict[Path, StateNode] = {node.path: node for node in self.state.walk()}
         if self.state.broken:
             raise VolumeDiffers(f"{self.image}: is damaged: {len(self.state.broken)} files or folders cannot be read: repair it from a copy, or use 'udfburn-client salvage'")
         self._runs = sorted((self.commit_of(node), node.moment or Moment(0)) for path, node in self.nodes.items() if len(path) == 2 and path[0] == RUNS)
@@ -177,7 +177,7 @@ class Contents:
             raise VolumeDiffers(f"{self.image}: is not a volume of an archive: it has no {ABOUT}")
         return read_about(self.bytes_of(node), self.image)
 
-    def commit_of(self, node: Node) -> Commit:
+    def commit_of(self, node: StateNode) -> Commit:
         """The commit that wrote a file: the first whose VAT ICB comes after the file's own."""
         return Commit(self.first_commit + bisect_left(self.addresses, node.address))
 
@@ -194,11 +194,11 @@ class Contents:
         """The clients that it keeps."""
         return {client.client for client in self.state.clients}
 
-    def bytes_of(self, node: Node) -> bytes:
+    def bytes_of(self, node: StateNode) -> bytes:
         """The bytes of a file, or `VolumeDiffers` where a block cannot be read."""
         return self._whole(node, self.volume.read(node))
 
-    def sha256_of(self, node: Node) -> bytes:
+    def sha256_of(self, node: StateNode) -> bytes:
         """The SHA-256 of a file, with zeros where a block is missing."""
         whole = sha256()
         for run in self.volume.pieces(node):
@@ -226,10 +226,10 @@ class Contents:
         """The files of the archive, by their commits. Parts without a description are left out."""
         digests = self.manifest()
         whole: List[File] = []
-        described: Dict[Tuple[Path, int], Node] = {}
-        parts: Dict[Tuple[Path, int], Dict[int, Node]] = {}
+        described: Dict[Tuple[Path, int], StateNode] = {}
+        parts: Dict[Tuple[Path, int], Dict[int, StateNode]] = {}
         for path, node in self.nodes.items():
-            stored = read_back(path) if node.kind is Kind.FILE else None
+            stored = read_back(path) if node.kind is FileType.FILE else None
             if stored is None:
                 continue
             if stored.part is None:
@@ -242,7 +242,7 @@ class Contents:
         whole += [self._in_parts(path, version, node, parts.get((path, version), {})) for (path, version), node in described.items()]
         return sorted(whole, key=lambda file: file.commit)
 
-    def _in_parts(self, path: Path, version: int, node: Node, parts: Dict[int, Node]) -> File:
+    def _in_parts(self, path: Path, version: int, node: StateNode, parts: Dict[int, StateNode]) -> File:
         """A file in parts, by its description."""
         fields = read_fields(self.bytes_of(node))
         try:
@@ -252,7 +252,7 @@ class Contents:
                 raise ValueError("no SHA-256")
         except (KeyError, ValueError) as error:
             raise VolumeDiffers(f"{self.image}: {text_of(node.path)} does not describe a file in parts") from error
-        nodes: List[Node] = []
+        nodes: List[StateNode] = []
         at = first * limits.FILE
         # A part of which only the end of the file may follow ends the row.
         while at < size and not at % limits.FILE and at in parts and parts[at].size:
@@ -272,7 +272,7 @@ class Contents:
         for node in file.nodes:
             yield from self.pieces_of(node)
 
-    def pieces_of(self, node: Node) -> Iterator[bytes]:
+    def pieces_of(self, node: StateNode) -> Iterator[bytes]:
         """The bytes of a node, a mebibyte at a time, or `VolumeDiffers` where a block cannot be read."""
         for run in self.volume.pieces(node):
             yield self._whole(node, run)
@@ -286,13 +286,13 @@ class Contents:
             index -= count
         raise VolumeDiffers(f"{self.image}: {text_of(file.path)} has fewer bytes than the catalogue says: run 'check --data', then 'repair'")
 
-    def _extent(self, node: Node, index: int) -> bytes:
+    def _extent(self, node: StateNode, index: int) -> bytes:
         """The bytes of an extent."""
         extent = node.extents[index]
         run = self.medium.run(address_of(extent.first), blocks_of(extent.size))
         return self._whole(node, Run(run.data[: extent.size], run.missing))
 
-    def _whole(self, node: Node, run: Run) -> bytes:
+    def _whole(self, node: StateNode, run: Run) -> bytes:
         """The bytes that were read of a node."""
         if run.missing:
             raise VolumeDiffers(f"{self.image}: blocks of {text_of(node.path)} cannot be read, the first is {run.missing[0]}")
@@ -321,9 +321,9 @@ class Contents:
             found.append(file.held(number, old.sha256 if old is not None and same else self.digest(file)))
         return found
 
-    def payload(self) -> List[Node]:
+    def payload(self) -> List[StateNode]:
         """The files of the payload, in order of their paths."""
-        return [node for path, node in sorted(self.nodes.items()) if path[:1] == (PAYLOAD,) and node.kind is Kind.FILE]
+        return [node for path, node in sorted(self.nodes.items()) if path[:1] == (PAYLOAD_FOLDER,) and node.kind is FileType.FILE]
 
 
 def require_keepable(image: str, file: File) -> None:

@@ -10,7 +10,7 @@ from typing import Dict, Iterable, Iterator, List, NamedTuple, Optional, Sequenc
 
 from ..protocol import Path
 from ..protocol.units import Commit, Moment
-from ..reader import Kind, Node
+from ..reader import FileType, StateNode
 from .catalogue import Catalogue, Held, as_of, versions, volume_and_commit
 from .contents import GONE, Contents
 from .errors import VolumeDiffers
@@ -79,7 +79,7 @@ def read_text(data: bytes, where: str) -> Iterator[Tuple[Path, bool]]:
 
 def events_on(contents: Contents, number: int) -> List[Event]:
     """The events that a volume has."""
-    nodes: List[Node] = [node for path, node in contents.nodes.items() if len(path) == 2 and path[0] == GONE and node.kind is Kind.FILE]
+    nodes: List[StateNode] = [node for path, node in contents.nodes.items() if len(path) == 2 and path[0] == GONE and node.kind is FileType.FILE]
     if sum(node.size for node in nodes) > MOST:
         raise VolumeDiffers(f"{contents.image}: has more than {MOST} bytes of deletions")
     found: List[Event] = []

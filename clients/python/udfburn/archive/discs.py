@@ -14,7 +14,7 @@ from typing import List, Optional, Tuple
 from ..base.errors import DiscFailed, UsageError
 from ..base.own_files import from_top, remove
 from ..base.progress import printable
-from ..discs.burning import Say, burned, device_path, ends_well, look_at, opened, read_back, read_from, require_drive, require_other, take_in_again
+from ..discs.burning import Say, burned, device_path, ends_well, look_at, open_drive, read_disc, read_from, require_drive, require_other, take_in_again
 from ..discs.finish import track_of
 from ..local.sources import shown
 from ..protocol import limits
@@ -111,7 +111,7 @@ class Burner:
         if image is not None:
             require_other(self.device, image)
         take_in_again(self.device, self.say)
-        if Print(*read_back(self.device, wanted.length, self.say)) != wanted:
+        if Print(*read_disc(self.device, wanted.length, self.say)) != wanted:
             raise DiscFailed(f"{shown(self.device)}: the disc in it ({words}) is not blank, and does not have {row.label}: put a blank one in")
         blocks = wanted.length // limits.BLOCK
         if not ends_well(self.device, blocks):
@@ -151,7 +151,7 @@ def require_volume(device: str, row: VolumeRow) -> None:
     """Raises where the disc in a drive is surely not one of a volume, so that nothing is said of the one that lies elsewhere."""
     from ..reader import Medium, Volume
 
-    with opened(device):
+    with open_drive(device):
         pass
     with Medium(device_path(device)) as medium:
         volume = Volume(medium)
@@ -172,7 +172,7 @@ def check_disc(arguments: argparse.Namespace) -> int:
         require_volume(device, row)
         trouble: Optional[str] = None
         try:
-            if Print(*read_back(device, wanted.length, tell.working)) != wanted:
+            if Print(*read_disc(device, wanted.length, tell.working)) != wanted:
                 trouble = "is not as it was burned"
         except DiscFailed as error:
             trouble = str(error)

@@ -6,7 +6,7 @@ import argparse
 from importlib import import_module
 from typing import Any, List, NamedTuple, Optional
 
-from ..base.beneath import Names, Place, open_given
+from ..base.beneath import Place, RelativePath, open_given
 from ..base.errors import UsageError
 from ..local.sources import shown
 from ..protocol import limits
@@ -22,7 +22,7 @@ class Rules(NamedTuple):
     caches: bool = False
     one_file_system: bool = False
 
-    def excludes(self, below: Names, is_folder: bool) -> bool:
+    def excludes(self, below: RelativePath, is_folder: bool) -> bool:
         """Whether a file or a folder is left out, by its names below the folder that the user named."""
         return self.patterns is not None and bool(self.patterns.match_file("/".join(below) + "/" * is_folder))
 

@@ -7,7 +7,7 @@ import stat
 from hashlib import sha256
 from typing import Dict, Iterable, Iterator, List, NamedTuple, Optional, Sequence
 
-from ..base.beneath import Names, Root, folder_mode, mode_for, status_given
+from ..base.beneath import RelativePath, Root, folder_mode, mode_for, status_given
 from ..base.errors import DiskFull, SourceError, UdfburnError
 from ..local.saving import Saver
 from ..local.sources import shown
@@ -26,7 +26,7 @@ class Wanted(NamedTuple):
     """A version that is to be copied: its rows, and the names that it gets below the folder that is copied into."""
 
     rows: List[Held]
-    names: Names
+    names: RelativePath
 
 
 class Summary:
@@ -59,7 +59,7 @@ def wanted(catalogue: Catalogue, paths: Sequence[Path], moment: Optional[Moment]
 
 def once(files: Iterable[Wanted]) -> List[Wanted]:
     """Files, each once. Two that would have one path are an error, since one would take the place of the other."""
-    found: Dict[Names, Wanted] = {}
+    found: Dict[RelativePath, Wanted] = {}
     for want in files:
         if found.setdefault(want.names, want).rows != want.rows:
             raise SourceError(f"{shown('/'.join(want.names))}: two of the files would have this path: get them one by one")

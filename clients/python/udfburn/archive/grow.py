@@ -13,7 +13,7 @@ from typing import Dict, Optional, Tuple
 from ..base.beneath import Place, Root, mode_for
 from ..base.disk import is_full
 from ..base.locks import try_lock
-from ..base.own_files import Told, untold
+from ..base.own_files import BytesTold, untold
 from ..local.saving import save_at, write_all
 from ..local.sources import shown
 from ..protocol import limits
@@ -26,7 +26,7 @@ Compared = Dict[str, Tuple[int, int, int]]
 """What was compared in this run of copies, by their names: which file, by its device and inode, and how many of its bytes."""
 
 
-def extend(root: Root, name: str, image: int, length: int, compared: Compared, told: Told = untold) -> int:
+def extend(root: Root, name: str, image: int, length: int, compared: Compared, told: BytesTold = untold) -> int:
     """Has a copy in a folder have the first so many bytes of an open image, durably; gives how many it had. It is made where it is not
     there. One that is no beginning of the image stays as it is, and is `CopyFailed`. What `compared` has of it is not read again.
     `told` gets the bytes that are written and read."""
@@ -56,7 +56,7 @@ def lock(descriptor: int, local: str) -> None:
         raise CopyFailed(f"{shown(local)}: another process is writing it")
 
 
-def begun(root: Root, name: str, descriptor: int, image: int, length: int, compared: Compared, told: Told = untold) -> int:
+def begun(root: Root, name: str, descriptor: int, image: int, length: int, compared: Compared, told: BytesTold = untold) -> int:
     """How many bytes of a copy count, all of which are compared with the image's as the disk has them; `CopyFailed` where they differ. A
     copy that has more than the image is compared as far as the image goes."""
     local, status = root.local((name,)), os.fstat(descriptor)
@@ -88,7 +88,7 @@ def sound(root: Root, name: str, descriptor: int) -> int:
     return min(size, int(text))
 
 
-def differs(copy: int, image: int, start: int, end: int, told: Told = untold) -> Optional[int]:
+def differs(copy: int, image: int, start: int, end: int, told: BytesTold = untold) -> Optional[int]:
     """The first piece, by its place, in which a copy has other bytes than the image; None where it has none."""
     for at in range(start, end, PIECE):
         count = min(PIECE, end - at)
@@ -107,7 +107,7 @@ def cut(root: Root, name: str, descriptor: int, had: int) -> None:
         _forget_note(root, name)
 
 
-def _begin(root: Root, name: str, image: int, length: int, told: Told) -> None:
+def _begin(root: Root, name: str, image: int, length: int, told: BytesTold) -> None:
     """Makes a copy. It has its name once it is whole and on the disk."""
     new = Place(root, (name + ".new",))
     # What is left of a copy that somebody took away says nothing of this one.
@@ -127,7 +127,7 @@ def _begin(root: Root, name: str, image: int, length: int, told: Told) -> None:
         os.close(descriptor)
 
 
-def _append(root: Root, name: str, descriptor: int, image: int, had: int, length: int, told: Told) -> None:
+def _append(root: Root, name: str, descriptor: int, image: int, had: int, length: int, told: BytesTold) -> None:
     """Appends what the image has more."""
     note = Place(root, (tail_note(name),))
     save_at(note, [f"{had}\n".encode()], None, True, mode_for(os.fstat(image)))
@@ -142,7 +142,7 @@ def _append(root: Root, name: str, descriptor: int, image: int, had: int, length
     _forget_note(root, name)
 
 
-def _write(root: Root, name: str, descriptor: int, image: int, start: int, end: int, told: Told) -> None:
+def _write(root: Root, name: str, descriptor: int, image: int, start: int, end: int, told: BytesTold) -> None:
     """Writes bytes of the image to a copy, and reads them back from its disk."""
     local = shown(root.local((name,)))
     os.lseek(descriptor, start, os.SEEK_SET)

@@ -9,9 +9,9 @@ from itertools import takewhile
 from typing import Any, Generator, Iterator, List, Optional, Tuple
 
 from ..base.errors import SourceChanged, SourceError
-from ..base.manifest import PAYLOAD
+from ..base.manifest import PAYLOAD_FOLDER
 from ..base.unfinished import unfinished_path
-from ..local.sources import Source, exactly, open_source, origin_of, read_parts, shown, unchanged
+from ..local.sources import Source, exactly, open_source, origin_of, read_parts, require_unchanged, shown
 from ..protocol import Create, MakeDir, Path, Remove, Rename, limits
 from ..protocol.units import Commit, Moment, Size
 from ..trees.growing import naming, piece_request
@@ -132,7 +132,7 @@ class Job:
 
     def key(self, start: Optional[int] = None) -> Path:
         """The path that it has until it is whole, or the part of it that begins with a byte."""
-        stored = (PAYLOAD,) + stored_folder(self.source.path[:-1]) + spelled(self.source.path[-1])
+        stored = (PAYLOAD_FOLDER,) + stored_folder(self.source.path[:-1]) + spelled(self.source.path[-1])
         return unfinished_path(WRITER, stored if start is None else stored + (part_name(start),))
 
     def _plan_whole(self, tree: Tree, unfinished: Optional[Unfinished]) -> bool:
@@ -285,12 +285,12 @@ def parts_from(source: Source, first: int) -> Generator[bytes, None, None]:
     try:
         descriptor = open_source(source)
         try:
-            unchanged(source, os.fstat(descriptor))
+            require_unchanged(source, os.fstat(descriptor))
             os.lseek(descriptor, first * limits.FILE, os.SEEK_SET)
             left = max(source.identity.size - first * limits.FILE, 0)
             while left > 0:
                 data = exactly(descriptor, min(left, limits.FILE))
-                unchanged(source, os.fstat(descriptor))
+                require_unchanged(source, os.fstat(descriptor))
                 if len(data) != min(left, limits.FILE):
                     raise SourceChanged(f"{shown(source.local)}: its size is not the one that the system reports")
                 left -= len(data)

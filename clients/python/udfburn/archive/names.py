@@ -12,7 +12,7 @@ import os
 import re
 from typing import Iterable, List, NamedTuple, Optional, Tuple
 
-from ..base.manifest import PAYLOAD
+from ..base.manifest import PAYLOAD_FOLDER
 from ..protocol import Path, limits
 from ..protocol.names import has_spelling, name_fault, spelled_size
 from .errors import CannotStore
@@ -137,7 +137,7 @@ class Stored(NamedTuple):
 
 def read_back(names: Path) -> Optional[Stored]:
     """What a stored file is; None where it is none of the payload, or stands for what is no path, as where another program wrote it."""
-    if not names or names[0] != PAYLOAD:
+    if not names or names[0] != PAYLOAD_FOLDER:
         return None
     names, version, part = names[1:], 1, None
     found = VERSION.fullmatch(names[0]) if names else None

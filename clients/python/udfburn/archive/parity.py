@@ -11,7 +11,7 @@ from typing import Iterable, Iterator, List, Sequence, Tuple
 
 from ..base.beneath import is_own, open_own
 from ..base.errors import UsageError
-from ..base.own_files import copy, from_top, move, set_mode
+from ..base.own_files import copy_file, from_top, move, set_mode
 from ..base.scratch import room, sweep
 from ..local.sources import shown
 from ..protocol import limits
@@ -104,7 +104,7 @@ def gathered(image: str, remotes: Sequence[Remote], folder: str) -> Iterator[Tup
     if own:
         for path in own:
             with from_top(os.path.join(folder, os.path.basename(path))) as place:
-                copy(path, place)
+                copy_file(path, place)
         yield "parity", [os.path.join(folder, os.path.basename(path)) for path in own]
     for remote in remotes:
         with suppress(CopyFailed, OSError):

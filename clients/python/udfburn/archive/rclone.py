@@ -13,7 +13,7 @@ from tempfile import TemporaryFile
 from typing import Any, Dict, Iterator, List, NamedTuple, Optional, Sequence, Set
 
 from ..base.beneath import Place
-from ..base.own_files import Told, untold
+from ..base.own_files import BytesTold, untold
 from .errors import CopyFailed
 from .remote import PIECE, UNREADABLE, Print, Remote, failed, forget
 
@@ -59,7 +59,7 @@ def print_of_range(descriptor: int, start: int, end: int) -> Print:
 class RcloneRemote(Remote):
     """A remote of rclone, by its own configuration. The copy of an open image is a file for each tail: no remote can append."""
 
-    def __init__(self, name: str, told: Told = untold):
+    def __init__(self, name: str, told: BytesTold = untold):
         super().__init__(name, told)
         self._read: Set[str] = set()
         """The tails that this run has read, or of which the remote has given their SHA-256."""

@@ -9,7 +9,7 @@ from hashlib import sha256
 from typing import IO, List, NamedTuple, Optional
 
 from ..base.beneath import Place, open_own
-from ..base.own_files import Told, untold
+from ..base.own_files import BytesTold, untold
 from ..local.sources import shown
 from ..protocol import limits
 from .errors import CopyFailed
@@ -31,7 +31,7 @@ UNREADABLE = Print(0, b"")
 """What is said of a file that is there, and of which the disk cannot read all: no file has this."""
 
 
-def print_of(stream: IO[bytes], most: Optional[int] = None, told: Told = untold) -> Print:
+def print_of(stream: IO[bytes], most: Optional[int] = None, told: BytesTold = untold) -> Print:
     """The length and the digest of what is left of a stream, or of so many bytes at most."""
     whole, count = sha256(), 0
     while True:
@@ -43,7 +43,7 @@ def print_of(stream: IO[bytes], most: Optional[int] = None, told: Told = untold)
         told(len(piece))
 
 
-def print_of_open(descriptor: int, fresh: bool = False, most: Optional[int] = None, told: Told = untold) -> Print:
+def print_of_open(descriptor: int, fresh: bool = False, most: Optional[int] = None, told: BytesTold = untold) -> Print:
     """The length and the digest of a file that is open, and closed here, or of its first bytes; `fresh` reads it from the disk, and not what
     the system has in memory."""
     with open(descriptor, "rb") as file:
@@ -52,7 +52,7 @@ def print_of_open(descriptor: int, fresh: bool = False, most: Optional[int] = No
         return print_of(file, most, told)
 
 
-def print_of_file(path: str, fresh: bool = False, most: Optional[int] = None, told: Told = untold) -> Print:
+def print_of_file(path: str, fresh: bool = False, most: Optional[int] = None, told: BytesTold = untold) -> Print:
     """The same of a regular file."""
     return print_of_open(open_own(path), fresh, most, told)
 
@@ -80,7 +80,7 @@ class Remote:
     grows = False
     """Whether the copy of an open image has the name already that the whole has later."""
 
-    def __init__(self, name: str, told: Told = untold):
+    def __init__(self, name: str, told: BytesTold = untold):
         self.name, self.told = name, told
 
     def send(self, local: str, name: str) -> None:

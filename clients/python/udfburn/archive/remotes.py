@@ -8,7 +8,7 @@ import stat
 from typing import List, Optional
 
 from ..base.beneath import Place
-from ..base.own_files import Told, copy, untold
+from ..base.own_files import BytesTold, copy_file, untold
 from ..local.sources import shown
 from . import grow
 from .batch import tail_note
@@ -24,7 +24,7 @@ class FolderRemote(Remote):
 
     grows = True
 
-    def __init__(self, name: str, owner: Owner, told: Told = untold):
+    def __init__(self, name: str, owner: Owner, told: BytesTold = untold):
         super().__init__(name, told)
         self.owner = owner
         self._compared: grow.Compared = {}
@@ -59,7 +59,7 @@ class FolderRemote(Remote):
             require_own(self.owner, root)
             new = Place(root, (name + ".new",))
             try:
-                copy(local, new, told=self.told)
+                copy_file(local, new, told=self.told)
                 root.rename(new.names, name)
                 root.sync(())
             except OSError as error:
@@ -68,7 +68,7 @@ class FolderRemote(Remote):
 
     def fetch(self, name: str, target: Place) -> None:
         try:
-            copy(os.path.join(self.name, name), target, told=self.told)
+            copy_file(os.path.join(self.name, name), target, told=self.told)
         except OSError as error:
             forget(target)
             raise failed(target.local() if is_full(error) else os.path.join(self.name, name), error) from error
@@ -117,7 +117,7 @@ class FolderRemote(Remote):
     def fetch_grown(self, name: str, target: Place) -> None:
         most = self.grown(name)
         try:
-            copy(os.path.join(self.name, name), target, most, self.told)
+            copy_file(os.path.join(self.name, name), target, most, self.told)
         except OSError as error:
             forget(target)
             raise failed(target.local() if is_full(error) else os.path.join(self.name, name), error) from error
@@ -160,7 +160,7 @@ def owner_of(catalogue: Catalogue) -> Owner:
     return Owner(config.folder, catalogue.id, config.label, config.same_device)
 
 
-def remote_of(catalogue: Catalogue, name: str, told: Told = untold) -> Remote:
+def remote_of(catalogue: Catalogue, name: str, told: BytesTold = untold) -> Remote:
     """The place of a name in `archive.toml`. A disc is none: somebody has to put it in a drive."""
     if name.startswith(DISC):
         raise CopyFailed(f"{name[len(DISC):]}: is a disc: name it with --disc, and its drive with --device")

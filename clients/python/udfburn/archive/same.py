@@ -8,10 +8,10 @@ from __future__ import annotations
 import re
 from typing import Iterable, Iterator, List, NamedTuple, Sequence, Tuple
 
-from ..base.manifest import PAYLOAD
+from ..base.manifest import PAYLOAD_FOLDER
 from ..protocol import limits
 from ..protocol.units import Commit, Moment, Size
-from ..reader import Kind, Node
+from ..reader import FileType, StateNode
 from .config import volume_label
 from .contents import SAME, SIZE, Contents, number
 from .errors import CannotStore, VolumeDiffers
@@ -55,7 +55,7 @@ def entry(rows: Sequence[Held], label: str, places: Sequence[int]) -> Entry:
     held = rows[0]
     lines = [f"{held.sha256.hex()} {held.size} {held.moment} {path_line(held.path)}"]
     for row, version in zip(rows, places):
-        path = (PAYLOAD,) + ((f"=v{version}",) if version > 1 else ()) + stored_folder(row.stored_as()[:-1]) + spelled(row.stored_as()[-1])
+        path = (PAYLOAD_FOLDER,) + ((f"=v{version}",) if version > 1 else ()) + stored_folder(row.stored_as()[:-1]) + spelled(row.stored_as()[-1])
         lines.append(f"  the same as {volume_label(label, row.volume)}, commit {row.commit}{span(row)}: {path_line(path)[1:]}")
     return Entry(list(rows), ("\n".join(lines) + "\n").encode())
 
@@ -162,9 +162,9 @@ def rows_on(contents: Contents, volume: int) -> List[Held]:
     return found
 
 
-def nodes_on(contents: Contents) -> List[Node]:
+def nodes_on(contents: Contents) -> List[StateNode]:
     """The texts that a volume has."""
-    return [node for path, node in contents.nodes.items() if len(path) == 2 and path[0] == SAME and node.kind is Kind.FILE]
+    return [node for path, node in contents.nodes.items() if len(path) == 2 and path[0] == SAME and node.kind is FileType.FILE]
 
 
 def count_of(rows: Iterable[Held]) -> int:

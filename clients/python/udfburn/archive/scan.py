@@ -8,7 +8,7 @@ from typing import Iterator, List, NamedTuple, Sequence, Set, Tuple
 
 from ..base.beneath import Place, place_of
 from ..base.errors import UsageError
-from ..local.sources import Identity, Source, odd, shown
+from ..local.sources import FileIdentity, Source, odd, shown
 from ..protocol import Path
 from .exclude import Rules
 from .names import path_from, text_of
@@ -49,7 +49,7 @@ class Walk:
         if stat.S_ISDIR(status.st_mode):
             yield from self._folder(place, at)
         elif stat.S_ISREG(status.st_mode):
-            yield Found(at[:-1], [Source(place, at, Identity.of(status))])
+            yield Found(at[:-1], [Source(place, at, FileIdentity.of(status))])
         else:
             self.odd.append(f"{shown(local)}: is {odd(status)}, which is not kept")
 
@@ -90,7 +90,7 @@ class Walk:
             elif stat.S_ISDIR(found.st_mode):
                 folders.append((below, at + (name,)))
             elif stat.S_ISREG(found.st_mode):
-                files.append(Source(below, at + (name,), Identity.of(found)))
+                files.append(Source(below, at + (name,), FileIdentity.of(found)))
             else:
                 self.odd.append(f"{shown(below.local())}: is {odd(found)}, which is not kept")
                 self.left_out.append(at + (name,))

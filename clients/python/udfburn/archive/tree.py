@@ -4,7 +4,7 @@ from __future__ import annotations
 
 from typing import Dict, Iterable, List, NamedTuple, Optional, Tuple
 
-from ..base.manifest import PAYLOAD
+from ..base.manifest import PAYLOAD_FOLDER
 from ..image.blocks import Layout, Reckoner, Space, blocks_for, data_blocks, table_blocks
 from ..protocol import Path, limits
 from ..protocol.units import Address
@@ -67,7 +67,7 @@ class Tree:
         """A volume right after it was opened."""
         tree = Tree(Space(capacity, FIRST, {1}), 0, nodes)
         tree.small(("volume.txt",), 2000)
-        for folder in ("runs", PAYLOAD):
+        for folder in ("runs", PAYLOAD_FOLDER):
             tree.reckoner.make((folder,))
             tree.has((folder,), True)
         tree.small(("runs", "00001.txt"), 500)
@@ -115,7 +115,7 @@ class Tree:
         """Whether files of these sizes and names fit in a folder together, as far as can be computed ahead."""
         layout, entries, nodes, blocks, manifest = self._layout(folder), self.space.entries, self.space.nodes, 0, self.manifest
         nodes += len(folder) + 2
-        base = manifest_size((PAYLOAD,) + stored_folder(folder))
+        base = manifest_size((PAYLOAD_FOLDER,) + stored_folder(folder))
         root = self.reckoner.layouts.get((), Layout()).blocks() + 1
         for size, name in zip(sizes, names):
             parts = 0 if size <= limits.GREATEST_FILE else -(-size // limits.GREATEST_FILE)
@@ -141,7 +141,7 @@ class Tree:
 
     def _layout(self, folder: Path) -> Layout:
         """How the names of a folder are laid, to add more to it."""
-        found = self.actual.get((PAYLOAD,) + stored_folder(folder), [])
+        found = self.actual.get((PAYLOAD_FOLDER,) + stored_folder(folder), [])
         layouts: Dict[Path, Layout] = {}
         restore_layout(layouts, (), kept_layout(self.reckoner.layouts.get(found[-1])) if found else None)
         return layouts.get((), Layout())
@@ -166,7 +166,7 @@ class Tree:
     def _free(self, folder: Path, name: str) -> Optional[Path]:
         """The path of a file in the first version in which nothing else has it."""
         for version in range(1, limits.NODES):
-            whole = (PAYLOAD,) + ((f"=v{version}",) if version > 1 else ()) + stored_folder(folder) + spelled(name)
+            whole = (PAYLOAD_FOLDER,) + ((f"=v{version}",) if version > 1 else ()) + stored_folder(folder) + spelled(name)
             if not self._conflict(whole):
                 return whole
         return None
@@ -191,7 +191,7 @@ class Tree:
             grows = size > limits.FILE
             fits = all([self.reckoner.make(path) for path in made])
             fits = (self.reckoner.grow(last, size, kept, unfinished, False) if grows else self.reckoner.create(last, size)) and fits
-            self.manifest += manifest_size(last) if whole[0] == PAYLOAD else 0
+            self.manifest += manifest_size(last) if whole[0] == PAYLOAD_FOLDER else 0
             self._keep_room()
             if fits and self.space.nodes <= self.most_nodes() - KEPT_NODES and self.manifest <= MANIFEST and self.space.next <= self.space.capacity:
                 return Place(tuple(made), last)

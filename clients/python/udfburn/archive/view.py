@@ -11,7 +11,7 @@ from collections import OrderedDict
 from typing import Dict, Hashable, Iterable, Iterator, List, Optional
 
 from ..base.errors import UdfburnError
-from ..mounting.shown_tree import File, Folder, Item, NoMedium, Sums
+from ..mounting.shown_tree import NoMedium, ShownFile, ShownFolder, ShownItem, Sums
 from ..protocol import Path
 from ..protocol.units import Commit, Moment
 from . import same_rows
@@ -39,7 +39,7 @@ def run_name(moment: Moment) -> str:
     return time.strftime("%Y-%m-%dT%H:%M:%S", time.gmtime(seconds)) + f".{rest:06}Z"
 
 
-class ArchiveView(Folder):
+class ArchiveView(ShownFolder):
     """The top folder of an archive that is mounted."""
 
     def __init__(self, config: Config, tell: Tell):
@@ -76,7 +76,7 @@ class ArchiveView(Folder):
                 self._open()
         return self.catalogue
 
-    def names(self) -> Dict[bytes, Item]:
+    def names(self) -> Dict[bytes, ShownItem]:
         return {LATEST: State(self, None, ()), VOLUMES: Volumes(self), RUNS: Runs(self)}
 
     def shown(self, rows: Iterable[Held]) -> List[List[Held]]:
@@ -146,22 +146,22 @@ class ArchiveView(Folder):
                 self.tell.note(f"{printed_path(path + (name,))}: is a file and a folder: the folder is shown, and 'get' has both", did="twice", path=shown_path(path + (name,)))
 
 
-class State(Folder):
+class State(ShownFolder):
     """A folder of the archive as it is, or as it was at a moment."""
 
     def __init__(self, view: ArchiveView, at: Optional[Moment], path: Path):
         self.view, self.at, self.path = view, at, path
         self.moment = view.moment if at is None else at
 
-    def names(self) -> Dict[bytes, Item]:
+    def names(self) -> Dict[bytes, ShownItem]:
         catalogue = self.view.base()
         folders = [name for name in catalogue.children(self.path) if self.view.has_below(self.path + (name,), self.at)]
-        found: Dict[bytes, Item] = {os.fsencode(name): State(self.view, self.at, self.path + (name,)) for name in folders}
+        found: Dict[bytes, ShownItem] = {os.fsencode(name): State(self.view, self.at, self.path + (name,)) for name in folders}
         files = self.view.files_in(self.path, self.at)
         found.update((os.fsencode(name), ArchiveFile(self.view, files[name])) for name in self.view.without_doubles(self.path, files, folders))
         return found
 
-    def find(self, name: bytes) -> Optional[Item]:
+    def find(self, name: bytes) -> Optional[ShownItem]:
         path = self.path + (os.fsdecode(name),)
         try:
             kept_name(path[-1])
@@ -174,27 +174,27 @@ class State(Folder):
         return None if group is None else ArchiveFile(self.view, group)
 
 
-class Runs(Folder):
+class Runs(ShownFolder):
     """The archive as it was after each run."""
 
     def __init__(self, view: ArchiveView):
         self.view, self.moment = view, view.moment
 
-    def names(self) -> Dict[bytes, Item]:
+    def names(self) -> Dict[bytes, ShownItem]:
         return {name: State(self.view, moment, ()) for name, moment in self.view.runs().items()}
 
-    def find(self, name: bytes) -> Optional[Item]:
+    def find(self, name: bytes) -> Optional[ShownItem]:
         moment = self.view.runs().get(name)
         return None if moment is None else State(self.view, moment, ())
 
 
-class Volumes(Folder):
+class Volumes(ShownFolder):
     """The files of each volume, under their paths in the archive."""
 
     def __init__(self, view: ArchiveView):
         self.view, self.moment = view, view.moment
 
-    def names(self) -> Dict[bytes, Item]:
+    def names(self) -> Dict[bytes, ShownItem]:
         return {name: OnVolume(self.view, number, ()) for name, number in self.view.labels.items()}
 
 
@@ -221,21 +221,21 @@ class Tree:
         return next((group for group in view.shown(view.base().of_path(row.path)) if group[0].version() == row.version()), None)
 
 
-class OnVolume(Folder):
+class OnVolume(ShownFolder):
     """A folder of a volume."""
 
     def __init__(self, view: ArchiveView, number: int, path: Path):
         self.view, self.number, self.path, self.moment = view, number, path, view.moment
 
-    def names(self) -> Dict[bytes, Item]:
+    def names(self) -> Dict[bytes, ShownItem]:
         tree = self.view.tree(self.number)
         folders, files = tree.folders.get(self.path, {}), tree.files.get(self.path, {})
-        found: Dict[bytes, Item] = {os.fsencode(name): OnVolume(self.view, self.number, self.path + (name,)) for name in folders}
+        found: Dict[bytes, ShownItem] = {os.fsencode(name): OnVolume(self.view, self.number, self.path + (name,)) for name in folders}
         found.update((os.fsencode(name), ArchiveFile(self.view, files[name])) for name in self.view.without_doubles(self.path, files, folders))
         return found
 
 
-class ArchiveFile(File):
+class ArchiveFile(ShownFile):
     """A version of a file."""
 
     cure = ": run 'check --data', then 'repair'"

@@ -7,15 +7,15 @@ from contextlib import closing
 from typing import TYPE_CHECKING, Dict, Iterator, List, NamedTuple, Optional, Tuple
 
 from ..base.errors import ConnectionFailed, Damaged, DiskFull, DriveFailed, Full, NumberUsedElsewhere, OutOfMemory, ProgramFailed, UsageError, WrongVolume
-from ..base.manifest import PAYLOAD
+from ..base.manifest import PAYLOAD_FOLDER
 from ..base.own_files import move, new as new_file, remove
 from ..base.unfinished import is_unfinished
 from ..image.blocks import Space
 from ..ledger.digests import Files
-from ..ledger.ledger import Ledger, MemoryLedger, Volume as Known
+from ..ledger.ledger import KnownVolume, Ledger, MemoryLedger
 from ..protocol import Code, Create, MakeDir, Path, Remove, limits
 from ..protocol.units import Address, Commit, Moment
-from ..reader import Kind
+from ..reader import FileType
 from ..trees.client import Client
 from ..wire.connection import find_program, run_program
 from ..wire.operations import Operation, Outcome, now
@@ -123,7 +123,7 @@ class OpenVolume:
         )
         wanted = [
             Operation(Create, (ABOUT,), self.row.formatted, text.encode()), Operation(MakeDir, (RUNS,), self.row.formatted),
-            Operation(MakeDir, (PAYLOAD,), self.row.formatted),
+            Operation(MakeDir, (PAYLOAD_FOLDER,), self.row.formatted),
         ]
         with self.client.held():
             missing = [operation for operation in wanted if self.client.find(operation.path) is None]
@@ -151,7 +151,7 @@ class OpenVolume:
             raise VolumeDiffers(f"{self.image}: is damaged, and nothing is written to it: 'udfburn check' says where, and {LOST}") from error
         with closing(Contents(self.image)) as contents:
             self.require_own(contents)
-            if all((name,) in contents.nodes for name in (ABOUT, PAYLOAD, RUNS)):
+            if all((name,) in contents.nodes for name in (ABOUT, PAYLOAD_FOLDER, RUNS)):
                 self._load(contents)
                 return
         self.begin()
@@ -255,7 +255,7 @@ class OpenVolume:
         tree = Tree(space, manifest, self.config.nodes)
         for path, node in contents.nodes.items():
             if path:
-                tree.has(path, node.kind is Kind.DIRECTORY)
+                tree.has(path, node.kind is FileType.DIRECTORY)
         tree.lay_out()
         return tree
 
@@ -320,7 +320,7 @@ class OpenVolume:
                 ledger.take(volume, kept)
         return done, full
 
-    def _in_ledger(self) -> "Tuple[Ledger, Optional[Known]]":
+    def _in_ledger(self) -> "Tuple[Ledger, Optional[KnownVolume]]":
         """The ledger, and the volume as it knows it."""
         ledger = self.client.session().ledger
         return ledger, ledger.volume(self.client.endpoint.key())
@@ -358,7 +358,7 @@ class OpenVolume:
 
 def left_in(contents: Contents) -> Dict[Path, int]:
     """The unfinished files of a volume, and the bytes of each."""
-    return {path: node.size for path, node in contents.nodes.items() if is_unfinished(path) and node.kind is Kind.FILE}
+    return {path: node.size for path, node in contents.nodes.items() if is_unfinished(path) and node.kind is FileType.FILE}
 
 
 def is_damaged(image: str) -> bool:

@@ -19,18 +19,19 @@ from ..protocol import shown
 from .disk import sync_names
 from .errors import SourceError
 
-Names = Tuple[str, ...]
+RelativePath = Tuple[str, ...]
 """A path below a root; none for the root itself."""
 
-FOLDER = os.O_RDONLY | os.O_DIRECTORY | os.O_NOFOLLOW | os.O_NONBLOCK | os.O_CLOEXEC
+FOLDER_FLAGS = os.O_RDONLY | os.O_DIRECTORY | os.O_NOFOLLOW | os.O_NONBLOCK | os.O_CLOEXEC
 READ = os.O_RDONLY | os.O_NOFOLLOW | os.O_NONBLOCK | os.O_CLOEXEC
-NEW = os.O_RDWR | os.O_CREAT | os.O_EXCL | os.O_NOFOLLOW | os.O_CLOEXEC
+NEW_FLAGS = os.O_RDWR | os.O_CREAT | os.O_EXCL | os.O_NOFOLLOW | os.O_CLOEXEC
 NO_ACCESS_TIME: int = getattr(os, "O_NOATIME", 0)
 PATH_ALONE: int = getattr(os, "O_PATH", 0)
 
 PIECE = 1 << 20
+"""Bytes of a file that are read or written at once."""
 
-KEPT = 32
+FOLDERS_OPEN = 32
 """Folders of one path that stay open, at most."""
 
 Check = Callable[[os.stat_result], None]
@@ -49,7 +50,7 @@ class Level(NamedTuple):
     owner: Any
 
 
-class Owner:
+class DescriptorOwner:
     """Closes a descriptor once nothing refers to this, where the system has no `epoll`."""
 
     def __init__(self, descriptor: int):
@@ -63,11 +64,11 @@ class Owner:
     __del__ = close
 
 
-def owner_of(descriptor: int) -> Any:
+def descriptor_owner(descriptor: int) -> Any:
     """What closes a descriptor once nothing refers to it. An object of `epoll` takes any, and does it without a line of Python: an
     interrupt that comes in `__del__` is lost."""
     epoll: Any = getattr(select, "epoll", None)
-    return epoll.fromfd(descriptor) if epoll is not None else Owner(descriptor)
+    return epoll.fromfd(descriptor) if epoll is not None else DescriptorOwner(descriptor)
 
 
 class Root:
@@ -77,14 +78,14 @@ class Root:
         self.path = path
         self.made = False
         """Whether it was made just now, so that its own name is durable."""
-        self._descriptor, self._owner = descriptor, owner_of(descriptor)
+        self._descriptor, self._owner = descriptor, descriptor_owner(descriptor)
         self._levels: List[Level] = []
         self._lock = RLock()
 
     @staticmethod
     def open(path: str) -> "Root":
         """A folder that the user named. It may be a link."""
-        return Root(path, open_searchable(path or os.curdir, FOLDER & ~os.O_NOFOLLOW))
+        return Root(path, open_searchable(path or os.curdir, FOLDER_FLAGS & ~os.O_NOFOLLOW))
 
     @staticmethod
     def make(path: str, mode: int = 0o777) -> "Root":
@@ -120,19 +121,19 @@ class Root:
             return os.readlink(f"/proc/self/fd/{self._descriptor}")
         return os.path.realpath(self.path)
 
-    def local(self, names: Names) -> str:
+    def local(self, names: RelativePath) -> str:
         """The path of something below, to be shown to people."""
         return os.path.join(self.path, *names)
 
     # ---- folders
 
     @contextmanager
-    def at(self, names: Names, make: Optional[int] = None) -> Iterator[int]:
+    def at(self, names: RelativePath, make: Optional[int] = None) -> Iterator[int]:
         """The descriptor of a folder below, as long as this lasts. With `make` it is made with that mode where it is missing."""
         with self._lock:
             yield self._reach(names, make)
 
-    def _reach(self, names: Names, make: Optional[int]) -> int:
+    def _reach(self, names: RelativePath, make: Optional[int]) -> int:
         kept = 0
         for level, name in zip(self._levels, names):
             if level.name != name:
@@ -143,10 +144,10 @@ class Root:
         self._drop(kept)
         for name in names[kept:]:
             descriptor = open_folder(name, self._last(), make)
-            self._levels.append(Level(name, descriptor, owner_of(descriptor)))
-            if len(self._levels) > KEPT:
-                self._levels[-KEPT].owner.close()
-                self._levels[-KEPT] = self._levels[-KEPT]._replace(descriptor=-1)
+            self._levels.append(Level(name, descriptor, descriptor_owner(descriptor)))
+            if len(self._levels) > FOLDERS_OPEN:
+                self._levels[-FOLDERS_OPEN].owner.close()
+                self._levels[-FOLDERS_OPEN] = self._levels[-FOLDERS_OPEN]._replace(descriptor=-1)
         return self._last()
 
     def _last(self) -> int:
@@ -157,7 +158,7 @@ class Root:
         while len(self._levels) > kept:
             self._levels.pop().owner.close()
 
-    def sync(self, names: Names) -> None:
+    def sync(self, names: RelativePath) -> None:
         """Makes the names in a folder durable, where its file system can do that and this user may."""
         with self.at(names) as descriptor:
             sync_names(descriptor)
@@ -165,13 +166,13 @@ class Root:
     def sync_above(self) -> None:
         """Makes the name of the root itself durable, in the folder that it is in."""
         with self.at(()) as descriptor:
-            above = open_searchable(os.pardir, FOLDER, descriptor)
+            above = open_searchable(os.pardir, FOLDER_FLAGS, descriptor)
             try:
                 sync_names(above)
             finally:
                 os.close(above)
 
-    def names_in(self, names: Names) -> List[str]:
+    def names_in(self, names: RelativePath) -> List[str]:
         """The names in a folder, in an order that is always the same."""
         with self.at(names) as descriptor:
             try:
@@ -183,7 +184,7 @@ class Root:
 
     # ---- files
 
-    def status(self, names: Names) -> os.stat_result:
+    def status(self, names: RelativePath) -> os.stat_result:
         """What the system says of a file or a folder, or of a link itself."""
         if not names:
             with self.at(()) as descriptor:
@@ -191,42 +192,42 @@ class Root:
         with self.at(names[:-1]) as descriptor:
             return os.stat(plain(names[-1]), dir_fd=descriptor, follow_symlinks=False)
 
-    def find(self, names: Names) -> Optional[os.stat_result]:
+    def find(self, names: RelativePath) -> Optional[os.stat_result]:
         """The same; None where nothing is there, or no folder for it."""
         try:
             return self.status(names)
         except FileNotFoundError:
             return None
 
-    def open_file(self, names: Names, keep_access_time: bool = False, writes: bool = False) -> int:
+    def open_file(self, names: RelativePath, keep_access_time: bool = False, writes: bool = False) -> int:
         """Opens a regular file to read it, or to write to it too. Its time of access stays, if asked for, where the system lets this user: a time that changes is
         one more thing for the disk to write."""
         with self.at(names[:-1]) as descriptor:
             return open_regular(names[-1], READ | (NO_ACCESS_TIME if keep_access_time else 0) | (os.O_RDWR if writes else 0), descriptor)
 
-    def lock_file(self, names: Names) -> int:
+    def lock_file(self, names: RelativePath) -> int:
         """Opens a file whose lock alone counts, made where it is missing. Nothing is read of it or written to it."""
         with self.at(names[:-1]) as descriptor:
             return os.open(plain(names[-1]), os.O_RDWR | os.O_CREAT | os.O_NOFOLLOW | os.O_NONBLOCK | os.O_CLOEXEC, 0o600, dir_fd=descriptor)
 
-    def new_file(self, names: Names, mode: int = 0o666) -> int:
+    def new_file(self, names: RelativePath, mode: int = 0o666) -> int:
         """Makes a file that was not there, and opens it."""
         with self.at(names[:-1]) as descriptor:
-            return os.open(plain(names[-1]), NEW, mode, dir_fd=descriptor)
+            return os.open(plain(names[-1]), NEW_FLAGS, mode, dir_fd=descriptor)
 
-    def unlink(self, names: Names, check: Optional[Check] = None) -> None:
+    def unlink(self, names: RelativePath, check: Optional[Check] = None) -> None:
         """Removes a file, where `check` takes it for the one that is meant."""
         with self.at(names[:-1]) as descriptor:
             if check is not None:
                 check(os.stat(plain(names[-1]), dir_fd=descriptor, follow_symlinks=False))
             os.unlink(plain(names[-1]), dir_fd=descriptor)
 
-    def rename(self, names: Names, name: str) -> None:
+    def rename(self, names: RelativePath, name: str) -> None:
         """Gives a file another name in its folder, in the place of what has that."""
         with self.at(names[:-1]) as descriptor:
             os.replace(plain(names[-1]), plain(name), src_dir_fd=descriptor, dst_dir_fd=descriptor)
 
-    def move(self, names: Names, to: Names) -> None:
+    def move(self, names: RelativePath, to: RelativePath) -> None:
         """Gives a file another name, maybe in another folder, in the place of what has that. Both folders are durable then."""
         with self.at(names[:-1]) as descriptor:
             first = os.dup(descriptor)
@@ -238,18 +239,18 @@ class Root:
         finally:
             os.close(first)
 
-    def link(self, names: Names, name: str) -> None:
+    def link(self, names: RelativePath, name: str) -> None:
         """Gives a file a second name in its folder, which nothing has yet."""
         with self.at(names[:-1]) as descriptor:
             os.link(plain(names[-1]), plain(name), src_dir_fd=descriptor, dst_dir_fd=descriptor, follow_symlinks=False)
 
-    def link_open(self, opened: int, names: Names) -> None:
+    def link_open(self, opened: int, names: RelativePath) -> None:
         """Gives a name, which nothing has yet, to a file that is open and has none."""
         with self.at(names[:-1]) as descriptor:
             # With a descriptor for its folder Python follows the link of /proc, as is needed here.
             os.link(f"/proc/self/fd/{opened}", plain(names[-1]), src_dir_fd=descriptor, dst_dir_fd=descriptor, follow_symlinks=True)
 
-    def unnamed_file(self, names: Names, flag: int, mode: int = 0o666) -> int:
+    def unnamed_file(self, names: RelativePath, flag: int, mode: int = 0o666) -> int:
         """Opens a new file without a name in a folder, by the flag that the system has for it."""
         with self.at(names) as descriptor:
             return os.open(os.curdir, flag | os.O_WRONLY | os.O_CLOEXEC, mode, dir_fd=descriptor)
@@ -259,7 +260,7 @@ class Place(NamedTuple):
     """A file or a folder below a root."""
 
     root: Root
-    names: Names
+    names: RelativePath
 
     def local(self) -> str:
         """Its path, to be shown to people."""
@@ -301,9 +302,9 @@ def open_folder(name: str, above: int, make: Optional[int] = None) -> int:
         with suppress(FileExistsError):
             os.mkdir(plain(name), make, dir_fd=above)
     try:
-        return open_searchable(plain(name), FOLDER, above)
+        return open_searchable(plain(name), FOLDER_FLAGS, above)
     except OSError as error:
-        raise named(error, name, above) from error
+        raise link_error(error, name, above) from error
 
 
 def open_searchable(path: str, flags: int, above: Optional[int] = None) -> int:
@@ -326,7 +327,7 @@ def open_regular(name: str, flags: int, above: int) -> int:
                 raise
             descriptor = os.open(plain(name), flags & ~NO_ACCESS_TIME, dir_fd=above)
     except OSError as error:
-        raise named(error, name, above) from error
+        raise link_error(error, name, above) from error
     return regular(descriptor, name)
 
 
@@ -338,7 +339,7 @@ def regular(descriptor: int, name: str) -> int:
     raise OSError(errno.EINVAL, "is no regular file", name)
 
 
-def named(error: OSError, name: str, above: int) -> OSError:
+def link_error(error: OSError, name: str, above: int) -> OSError:
     """The error, or one that says that a link is in the way."""
     if error.errno in (errno.ELOOP, errno.ENOTDIR):
         with suppress(OSError):
@@ -355,7 +356,7 @@ def open_from_top(path: str) -> int:
         return root.open_file(names_from_top(path), keep_access_time=True)
 
 
-def names_from_top(path: str) -> Names:
+def names_from_top(path: str) -> RelativePath:
     """The names of a path from the top of the system."""
     return tuple(name for name in path.split(os.sep) if name)
 
@@ -457,5 +458,5 @@ def folder_mode(mode: int) -> int:
 
 
 __all__ = [
-    "Names", "NotFollowed", "Place", "Root", "folder_mode", "is_own", "is_there", "mode_for", "names_from_top", "new_given", "open_from_top", "open_given", "open_medium", "open_own", "place_of", "remove_empty", "status_given",
+    "NotFollowed", "Place", "RelativePath", "Root", "folder_mode", "is_own", "is_there", "mode_for", "names_from_top", "new_given", "open_from_top", "open_given", "open_medium", "open_own", "place_of", "remove_empty", "status_given",
 ]

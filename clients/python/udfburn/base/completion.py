@@ -7,7 +7,7 @@ import os
 import sys
 from typing import Callable, Iterator, List
 
-LOCAL = ("DEVICE", "DIR", "FILE", "FOLDER", "IMAGE", "IMAGE|SOCKET", "LEDGER", "LOCAL", "MAPFILE", "OUT", "OUT.html", "OUT.svg", "REMOTE")
+LOCAL_WORDS = ("DEVICE", "DIR", "FILE", "FOLDER", "IMAGE", "IMAGE|SOCKET", "LEDGER", "LOCAL", "MAPFILE", "OUT", "OUT.html", "OUT.svg", "REMOTE")
 """The words that are files or folders of this machine. All others are names on a volume, or numbers."""
 
 OPTIONS = ("--image", "--ledger", "--program", "--socket")
@@ -30,10 +30,10 @@ def actions(parser: argparse.ArgumentParser) -> Iterator[argparse.Action]:
 
 def is_local(action: argparse.Action) -> bool:
     """Whether a word is a file or a folder of this machine."""
-    return action.metavar in LOCAL or any(option in OPTIONS for option in action.option_strings)
+    return action.metavar in LOCAL_WORDS or any(option in OPTIONS for option in action.option_strings)
 
 
-def complete(parser: Callable[[], argparse.ArgumentParser]) -> None:
+def complete_line(parser: Callable[[], argparse.ArgumentParser]) -> None:
     """Prints what completes a line, and ends, where a shell asks for it by `_ARGCOMPLETE`. No command runs then, also where argcomplete
     is missing."""
     if "_ARGCOMPLETE" not in os.environ:
@@ -50,4 +50,4 @@ def complete(parser: Callable[[], argparse.ArgumentParser]) -> None:
     sys.exit(1)
 
 
-__all__ = ["complete"]
+__all__ = ["complete_line"]

@@ -6,13 +6,13 @@ import errno
 import os
 from typing import Any, Optional
 
-FULL = (errno.ENOSPC, errno.EDQUOT)
+NO_ROOM = (errno.ENOSPC, errno.EDQUOT)
 """The errors of a file system that has no room, for this user at least."""
 
 
 def is_full(error: BaseException) -> bool:
     """Whether an error says that a file system is full."""
-    return isinstance(error, OSError) and error.errno in FULL
+    return isinstance(error, OSError) and error.errno in NO_ROOM
 
 
 def room_left(path: str) -> Optional[int]:

@@ -13,12 +13,12 @@ from typing import Iterable, List, NamedTuple, Tuple
 from ..protocol import Path, name_fault
 
 MANIFEST, TAG_MANIFEST = "manifest-sha256.txt", "tagmanifest-sha256.txt"
-BAG_DECLARATION, BAG_INFO, PAYLOAD = "bagit.txt", "bag-info.txt", "data"
+BAG_DECLARATION, BAG_INFO, PAYLOAD_FOLDER = "bagit.txt", "bag-info.txt", "data"
 DECLARATION = b"BagIt-Version: 1.0\nTag-File-Character-Encoding: UTF-8\n"
 """The bytes of `bagit.txt` (RFC 8493, 2.1.1)."""
 
 
-class Line(NamedTuple):
+class ManifestLine(NamedTuple):
     """A line of a manifest: the digest of a file, and its path from the manifest's directory on."""
 
     sha256: bytes
@@ -31,17 +31,17 @@ PERCENT = str.maketrans({"%": "%25", "\r": "%0D", "\n": "%0A"})
 BACKSLASH = str.maketrans({"\\": "\\\\", "\r": "\\r", "\n": "\\n"})
 
 
-def bag_manifest(lines: Iterable[Line]) -> bytes:
+def bag_manifest(lines: Iterable[ManifestLine]) -> bytes:
     """A manifest of a bag."""
     return "".join([f"{line.sha256.hex()}  {'/'.join(line.path).translate(PERCENT)}\n" for line in lines]).encode()
 
 
-def plain_manifest(lines: Iterable[Line]) -> bytes:
+def plain_manifest(lines: Iterable[ManifestLine]) -> bytes:
     """A manifest as `sha256sum` writes it."""
     return "".join(map(plain_line, lines)).encode()
 
 
-def plain_line(line: Line) -> str:
+def plain_line(line: ManifestLine) -> str:
     """A line of `sha256sum`, which begins with a backslash where its name has one."""
     path = "/".join(line.path)
     escaped = path.translate(BACKSLASH)
@@ -57,13 +57,13 @@ BAG_LINE = re.compile(r"([0-9A-Fa-f]{64})[ \t]+(?:\*(?=data/))?(.+)", re.DOTALL)
 """An asterisk before a path of the payload is the mark of older tools for binary files, and is none of the path."""
 PLAIN_LINE = re.compile(r"(\\?)([0-9A-Fa-f]{64}) [ *](.+)", re.DOTALL)
 ENCODED = re.compile(r"%(0[AaDd]|25)")
-ESCAPED = re.compile(r"\\(.?)", re.DOTALL)
+ESCAPED_LETTER = re.compile(r"\\(.?)", re.DOTALL)
 UNESCAPED = {"\\": "\\", "n": "\n", "r": "\r"}
 
 
-def read_manifest(data: bytes, bag: bool) -> Tuple[List[Line], List[str]]:
+def read_manifest(data: bytes, bag: bool) -> Tuple[List[ManifestLine], List[str]]:
     """The lines of a manifest, and what is wrong with those that are none."""
-    lines: List[Line] = []
+    lines: List[ManifestLine] = []
     faults: List[str] = []
     try:
         text = data.decode()
@@ -80,36 +80,36 @@ def read_manifest(data: bytes, bag: bool) -> Tuple[List[Line], List[str]]:
     return lines, faults
 
 
-def bag_row(row: str) -> "Line | None":
+def bag_row(row: str) -> "ManifestLine | None":
     """What a line of a bag's manifest says."""
     found = BAG_LINE.fullmatch(row)
     if found is None:
         return None
-    return line_of(found[1], ENCODED.sub(lambda code: chr(int(code[1], 16)), found[2]))
+    return manifest_line(found[1], ENCODED.sub(lambda code: chr(int(code[1], 16)), found[2]))
 
 
-def plain_row(row: str) -> "Line | None":
+def plain_row(row: str) -> "ManifestLine | None":
     """What a line of `sha256sum` says."""
     found = PLAIN_LINE.fullmatch(row)
     if found is None:
         return None
     name = found[3]
     if found[1]:
-        if any(code not in UNESCAPED for code in ESCAPED.findall(name)):
+        if any(code not in UNESCAPED for code in ESCAPED_LETTER.findall(name)):
             return None
-        name = ESCAPED.sub(lambda code: UNESCAPED[code[1]], name)
-    return line_of(found[2], name)
+        name = ESCAPED_LETTER.sub(lambda code: UNESCAPED[code[1]], name)
+    return manifest_line(found[2], name)
 
 
-def line_of(digits: str, name: str) -> "Line | None":
+def manifest_line(digits: str, name: str) -> "ManifestLine | None":
     """The line of a digest and a path; None where that is no path below the manifest's directory."""
     names = tuple(part for part in name.split("/") if part != ".")
     if not names or any(name_fault(part) is not None for part in names):
         return None
-    return Line(bytes.fromhex(digits), names)
+    return ManifestLine(bytes.fromhex(digits), names)
 
 
 __all__ = [
-    "BAG_DECLARATION", "BAG_END", "BAG_INFO", "DECLARATION", "Line", "MANIFEST", "PAYLOAD", "TAG_MANIFEST", "bag_manifest", "plain_manifest",
+    "BAG_DECLARATION", "BAG_END", "BAG_INFO", "DECLARATION", "MANIFEST", "ManifestLine", "PAYLOAD_FOLDER", "TAG_MANIFEST", "bag_manifest", "plain_manifest",
     "read_manifest",
 ]

@@ -12,7 +12,7 @@ from typing import Callable, Iterator, Optional
 
 from .beneath import PIECE, Place, Root, mode_for, names_from_top, open_own
 
-Told = Callable[[int], None]
+BytesTold = Callable[[int], None]
 """Called with how many bytes more were read or written."""
 
 
@@ -27,7 +27,7 @@ def from_top(path: str) -> Iterator[Place]:
         yield Place(root, names_from_top(path))
 
 
-def opened(path: str) -> int:
+def open_to_write(path: str) -> int:
     """A descriptor of a regular file, to read and to write it."""
     with from_top(path) as place:
         return place.root.open_file(place.names, writes=True)
@@ -61,7 +61,7 @@ def set_mode(path: str, mode: int) -> None:
         os.close(descriptor)
 
 
-def copy(source: str, target: Place, most: Optional[int] = None, told: Told = untold) -> None:
+def copy_file(source: str, target: Place, most: Optional[int] = None, told: BytesTold = untold) -> None:
     """Copies a regular file, or so many of its bytes, to a new one, in the place of what has its name, and makes them durable. Nobody may
     read that who may not read the first, and it has the same times."""
     with open(open_own(source), "rb") as old:
@@ -74,7 +74,7 @@ def copy(source: str, target: Place, most: Optional[int] = None, told: Told = un
             os.fsync(new.fileno())
 
 
-def copy_bytes(old: int, new: int, most: Optional[int] = None, told: Told = untold) -> None:
+def copy_bytes(old: int, new: int, most: Optional[int] = None, told: BytesTold = untold) -> None:
     """Copies the bytes of an open file, or so many of them at most, to another one. `told` is called with the bytes of each piece."""
     left = os.fstat(old).st_size if most is None else most
     while left:
@@ -87,4 +87,4 @@ def copy_bytes(old: int, new: int, most: Optional[int] = None, told: Told = unto
             piece = piece[os.write(new, piece) :]
 
 
-__all__ = ["Told", "copy", "copy_bytes", "from_top", "move", "new", "opened", "remove", "set_mode", "untold"]
+__all__ = ["BytesTold", "copy_bytes", "copy_file", "from_top", "move", "new", "open_to_write", "remove", "set_mode", "untold"]

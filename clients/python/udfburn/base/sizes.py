@@ -1,13 +1,15 @@
-"""Sizes and shares as users write them."""
+"""Sizes, shares and permissions as users write them."""
 
 from __future__ import annotations
 
 import argparse
+import re
+from typing import Optional
 
 from ..protocol import limits
 from .progress import size
 
-UNITS = {"KIB": 10, "MIB": 20, "GIB": 30, "K": 10, "M": 20, "G": 30}
+SIZE_UNITS = {"KIB": 10, "MIB": 20, "GIB": 30, "K": 10, "M": 20, "G": 30}
 """The units in which a capacity may be given, as powers of 2."""
 
 
@@ -15,7 +17,7 @@ def capacity(text: str) -> int:
     """Blocks of a word: a count, or bytes with a unit."""
     letters = text.lstrip("0123456789")
     digits = text[: len(text) - len(letters)]
-    power = UNITS.get(letters.upper(), 11 if not letters else None)
+    power = SIZE_UNITS.get(letters.upper(), 11 if not letters else None)
     if not digits.isascii() or not digits or power is None or len(digits) > 12:
         raise argparse.ArgumentTypeError(f"{text!r} is not a valid capacity: give a number of blocks, or a size such as 700MiB")
     blocks = (int(digits) << power) // limits.BLOCK
@@ -32,4 +34,9 @@ def percent(text: str) -> int:
     return int(text)
 
 
-__all__ = ["capacity", "percent"]
+def mode_of(text: str) -> Optional[int]:
+    """The permissions of a file that a text says in octal. The user reads and writes it, and nobody runs it; None for any other text."""
+    return int(text, 8) if re.fullmatch("0?6[0246][0246]", text) else None
+
+
+__all__ = ["capacity", "mode_of", "percent"]

@@ -11,19 +11,19 @@ from typing import Container, Dict, Iterator, List, Mapping, Optional, Sequence,
 
 from ..protocol import NodeKind, Path, limits
 
-PARTS = 1000
+MOST_PARTS = 1000
 """Parts that are beside others, at most: three digits. None above 400 are written so, but earlier programs did."""
 
 FLAT = 400
 """Parts of a file that are beside others: one with more has a folder of its own."""
 
-FOLDER = 400
+FOLDER_PARTS = 400
 """Parts of each folder below that, of which only the last may have fewer."""
 
 WHOLE = limits.GREATEST_FILE
 """Bytes of a file that is stored as one, at most: above, it is in parts."""
 
-FIRST = ".000"
+FIRST_PART_ENDING = ".000"
 """How the name of a first part ends."""
 
 SUFFIX = ".parts"
@@ -64,7 +64,7 @@ def base_of(path: Path) -> Path:
 def part_path(path: Path, index: int, folders: bool) -> Path:
     """The path of a part: in a folder of parts, or beside others."""
     if folders:
-        return base_of(path) + (f"{index // FOLDER:02}", f"{index % FOLDER:03}")
+        return base_of(path) + (f"{index // FOLDER_PARTS:02}", f"{index % FOLDER_PARTS:03}")
     return path[:-1] + (part_name(path[-1], index),)
 
 
@@ -87,7 +87,7 @@ def part_folders(path: Path, size: int, split: bool) -> List[Path]:
     if count <= FLAT:
         return []
     base = base_of(path)
-    return [base] + [base + (f"{index:02}",) for index in range(-(-count // FOLDER))]
+    return [base] + [base + (f"{index:02}",) for index in range(-(-count // FOLDER_PARTS))]
 
 
 def own_paths(path: Path, size: int, split: bool) -> List[Path]:
@@ -103,7 +103,7 @@ def flat_others(path: Path, size: int, present: Mapping[Path, NodeKind], wanted:
     found: List[Path] = []
     count = part_count(size) if part_count(size) <= FLAT else 0
     # Parts without those before them are nobody's, so they are looked at from the first one on.
-    for index in range(PARTS):
+    for index in range(MOST_PARTS):
         part, own = part_path(path, index, False), index < count
         if present.get(part) is not NodeKind.FILE or (part in wanted and not own):
             break
@@ -146,7 +146,7 @@ def is_number(name: str, digits: int) -> bool:
 
 # ---- joined
 
-def joined(sizes: Sequence[Tuple[str, Optional[int]]]) -> Tuple[Dict[str, List[str]], List[str]]:
+def joined_parts(sizes: Sequence[Tuple[str, Optional[int]]]) -> Tuple[Dict[str, List[str]], List[str]]:
     """The files of a directory that parts beside one another make, each with its parts in order, and the other names.
 
     `sizes` has each name with the bytes of its file, None for a directory. Parts are those from `.000` on without
@@ -155,8 +155,8 @@ def joined(sizes: Sequence[Tuple[str, Optional[int]]]) -> Tuple[Dict[str, List[s
     known = dict(sizes)
     files: Dict[str, List[str]] = {}
     for name, _ in sizes:
-        whole = name[: -len(FIRST)]
-        if name.endswith(FIRST) and whole and whole not in known:
+        whole = name[: -len(FIRST_PART_ENDING)]
+        if name.endswith(FIRST_PART_ENDING) and whole and whole not in known:
             parts = parts_from(whole, known)
             if len(parts) > 1:
                 files[whole] = parts
@@ -167,7 +167,7 @@ def joined(sizes: Sequence[Tuple[str, Optional[int]]]) -> Tuple[Dict[str, List[s
 def parts_from(name: str, known: Mapping[str, Optional[int]]) -> List[str]:
     """The parts of a name."""
     parts: List[str] = []
-    while len(parts) < PARTS and known.get(part_name(name, len(parts))) is not None:
+    while len(parts) < MOST_PARTS and known.get(part_name(name, len(parts))) is not None:
         parts.append(part_name(name, len(parts)))
         if known[parts[-1]] != limits.FILE:
             break
@@ -189,7 +189,7 @@ def joined_folder(base: Path, names: Mapping[Path, Sequence[str]], sizes: Mappin
         parts.append(part)
         if size != limits.FILE:
             break
-    if len(parts) <= FLAT or len(parts) + -(-len(parts) // FOLDER) != below:
+    if len(parts) <= FLAT or len(parts) + -(-len(parts) // FOLDER_PARTS) != below:
         return []
     return parts
 

@@ -1,6 +1,6 @@
 """The names of files above a mebibyte until they are whole.
 
-Such a file is in the root meanwhile, under a name that begins with `PREFIX` and has the client's number and a digest of the file's own
+Such a file is in the root meanwhile, under a name that begins with `UNFINISHED_PREFIX` and has the client's number and a digest of the file's own
 path. So no other client makes a file of that name, and this one finds it again after a crash.
 """
 
@@ -8,7 +8,7 @@ from __future__ import annotations
 
 from ..protocol import Path, limits, show
 
-PREFIX = ".udfburn-unfinished-"
+UNFINISHED_PREFIX = ".udfburn-unfinished-"
 """How the name of a file in the root begins that is not whole yet."""
 
 UNDER_WAY = 4
@@ -22,14 +22,14 @@ def grows(size: int, split: bool) -> bool:
 
 def is_unfinished(path: Path) -> bool:
     """Whether a path is that of a file that is not whole yet, or below it."""
-    return bool(path) and path[0].startswith(PREFIX)
+    return bool(path) and path[0].startswith(UNFINISHED_PREFIX)
 
 
 def unfinished_path(client: int, path: Path) -> Path:
     """The path that a client's file has until it is whole."""
     from hashlib import sha256
 
-    return (f"{PREFIX}{client:016x}-{sha256(show(path).encode()).hexdigest()[:32]}",)
+    return (f"{UNFINISHED_PREFIX}{client:016x}-{sha256(show(path).encode()).hexdigest()[:32]}",)
 
 
-__all__ = ["PREFIX", "UNDER_WAY", "grows", "is_unfinished", "unfinished_path"]
+__all__ = ["UNDER_WAY", "UNFINISHED_PREFIX", "grows", "is_unfinished", "unfinished_path"]

@@ -8,12 +8,12 @@ from typing import TYPE_CHECKING, Any, Callable, Dict, Optional, Union
 
 from ..protocol import limits
 from ..protocol.units import Commit
-from ..wire.connection import LONGEST
+from ..wire.connection import LONGEST_WAIT
 
 if TYPE_CHECKING:
     Subs = argparse._SubParsersAction[argparse.ArgumentParser]
 
-Run = Callable[[argparse.Namespace], int]
+CommandFunction = Callable[[argparse.Namespace], int]
 """Runs a command by its arguments, and gives its status."""
 
 WAIT, ANSWER = 10.0, 120.0
@@ -57,7 +57,7 @@ def add_output(sub: argparse.ArgumentParser) -> None:
 
 
 def command(
-    subs: Subs, name: str, run: Run, text: str, more: str, ledger: bool = False, volume: bool = True,
+    subs: Subs, name: str, run: CommandFunction, text: str, more: str, ledger: bool = False, volume: bool = True,
 ) -> argparse.ArgumentParser:
     """A command with the options that all have. `text` is its line among all commands, `more` goes on in its own help."""
     sub: argparse.ArgumentParser = subs.add_parser(name, help=text, description=f"{text[0].upper()}{text[1:]}. {more}")
@@ -94,7 +94,7 @@ def patience_of(arguments: argparse.Namespace) -> Dict[str, Any]:
     wait: Optional[float] = arguments.wait
     if wait is None:
         return {"patience": WAIT, "timeout": ANSWER}
-    return {"patience": wait, "timeout": min(max(wait, 1.0), LONGEST)}
+    return {"patience": wait, "timeout": min(max(wait, 1.0), LONGEST_WAIT)}
 
 
-__all__ = ["ANSWER", "Run", "WAIT", "add_library", "add_output", "add_volume", "client_number", "command", "commit_number", "patience_of", "seconds"]
+__all__ = ["ANSWER", "CommandFunction", "WAIT", "add_library", "add_output", "add_volume", "client_number", "command", "commit_number", "patience_of", "seconds"]

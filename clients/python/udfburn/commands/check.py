@@ -9,11 +9,11 @@ from typing import TYPE_CHECKING, List, Optional, Tuple
 
 from ..base.errors import Damaged, ProgramFailed, UsageError
 from ..base.progress import Progress, plural
-from ..image.second_opinion import opinion_of, tell
+from ..image.second_opinion import opinion_of, tell_opinion
 from ..protocol import as_text, shown
 from ..wire.connection import find_program, run_program
 from .arguments import command, commit_number
-from .check_ledger import data_words, look
+from .check_ledger import data_words, read_image
 from .common import progress_of
 
 if TYPE_CHECKING:
@@ -46,7 +46,7 @@ CAUSES = {
 """What the program's causes mean: 21 to 27 of a file entry, 31 to 37 of a directory's data, 41 to 47 of a table's data."""
 
 
-def add(subs: Subs) -> None:
+def add_commands(subs: Subs) -> None:
     """The words of this command."""
     words = command(
         subs, "check", check, "check an image",
@@ -70,7 +70,7 @@ def check(arguments: argparse.Namespace) -> int:
     status, count, words = check_twice(image, arguments, progress)
     result: Optional[Result] = None
     if arguments.data or arguments.ledger:
-        checked = look(arguments, progress)
+        checked = read_image(arguments, progress)
         result = checked.result
         if checked.acknowledged is not None and count < checked.acknowledged:
             status = progress.fail(missing_commits(image, count, checked.acknowledged, "was acknowledged to the ledger"))
@@ -94,7 +94,7 @@ def check_twice(image: str, arguments: argparse.Namespace, progress: Progress) -
         status, known = progress.fail(error), str(error)
         is_unchecked = isinstance(error, UsageError)
     opinion = opinion_of(image)
-    found = tell(image, opinion, known, progress)
+    found = tell_opinion(image, opinion, known, progress)
     if is_unchecked and not found:
         words.append(f"its newest state, after commit {opinion.commit}, is as it must be; the earlier states were not checked")
     status = found or status
@@ -132,4 +132,4 @@ def missing_commits(image: str, count: int, wanted: int, why: str) -> str:
     )
 
 
-__all__ = ["add", "check", "check_structure"]
+__all__ = ["add_commands", "check", "check_structure"]

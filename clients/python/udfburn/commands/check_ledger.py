@@ -17,7 +17,7 @@ if TYPE_CHECKING:
     from ..image.coverage import Coverage
     from ..ledger.ledger import Ledger
 
-WAIT = 10.0
+LEDGER_WAIT = 10.0
 """Seconds for which a ledger is awaited that was named."""
 
 
@@ -32,12 +32,12 @@ class Checked(NamedTuple):
 @contextmanager
 def ledger_of(arguments: argparse.Namespace, progress: Progress) -> Iterator[Optional[Ledger]]:
     """The ledger that is named; else the user's own, where data is checked and it is there and free."""
-    from ..ledger.file import default_path, is_there
+    from ..ledger.file import default_path, is_ledger
     from ..ledger.reading import ledger_to_read
 
     named: Optional[str] = arguments.ledger
     path = named or default_path()
-    if not is_there(path):
+    if not is_ledger(path):
         if named:
             raise LedgerError(f"{shown(path)}: there is no ledger")
         yield None
@@ -45,7 +45,7 @@ def ledger_of(arguments: argparse.Namespace, progress: Progress) -> Iterator[Opt
     with ExitStack() as stack:
         ledger: Optional[Ledger] = None
         try:
-            ledger = stack.enter_context(ledger_to_read(path, WAIT if named else 0.0))
+            ledger = stack.enter_context(ledger_to_read(path, LEDGER_WAIT if named else 0.0))
         except LedgerBusy:
             if named:
                 raise
@@ -53,7 +53,7 @@ def ledger_of(arguments: argparse.Namespace, progress: Progress) -> Iterator[Opt
         yield ledger
 
 
-def look(arguments: argparse.Namespace, progress: Progress) -> Checked:
+def read_image(arguments: argparse.Namespace, progress: Progress) -> Checked:
     """Reads an image by the client's own reader: its newest commit, what a ledger expects of it, and with --data each file."""
     from ..image.coverage import Coverage
     from ..reader import Medium, NoVolume, Volume
@@ -66,7 +66,7 @@ def look(arguments: argparse.Namespace, progress: Progress) -> Checked:
         except NoVolume as error:
             raise Damaged(f"{error}: 'udfburn-client salvage' gives back what can be read") from error
         acknowledged = expected_of(coverage, ledger, image, progress) if ledger is not None else None
-        result = data_of(coverage, arguments, progress) if arguments.data else None
+        result = check_files(coverage, arguments, progress) if arguments.data else None
         return Checked(result, volume.table().commit, acknowledged)
 
 
@@ -79,7 +79,7 @@ def expected_of(coverage: Coverage, ledger: Ledger, image: str, progress: Progre
     return ledger.last_commit(known)
 
 
-def data_of(coverage: Coverage, arguments: argparse.Namespace, progress: Progress) -> Result:
+def check_files(coverage: Coverage, arguments: argparse.Namespace, progress: Progress) -> Result:
     """Reads each file at or below the path that is asked for."""
     from ..image.check_data import check_data
 
@@ -98,4 +98,4 @@ def data_words(result: Result) -> str:
     return words + f", and no digest covers {plural(result.uncovered, 'file', 'files')}"
 
 
-__all__ = ["Checked", "data_words", "look"]
+__all__ = ["Checked", "data_words", "read_image"]

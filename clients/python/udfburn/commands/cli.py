@@ -7,7 +7,7 @@ import sys
 from typing import List, Optional
 
 from .. import __version__
-from ..base.completion import complete
+from ..base.completion import complete_line
 from ..base.errors import OutputFailed, UdfburnError, UsageError
 from ..base.progress import Progress
 from ..base.streams import drop_output, parsed, take_any_name, take_descriptors
@@ -15,11 +15,11 @@ from ..protocol import BadAnswer, Fault, InvalidName, InvalidPath
 from . import check, disc, mount, read, salvage, seal, volume, write
 
 MODULES = (write, seal, read, volume, check, disc, salvage, mount)
-"""Each has `add`, which declares the words of its commands. What runs one is the default `run` of its words."""
+"""Each has `add_commands`, which declares the words of its commands. What runs one is the default `run` of its words."""
 
 INTERRUPTED = "interrupted: 'resume', or the same command, finishes what is under way"
 
-LONG = """examples:
+EPILOG = """examples:
   udfburn-client format disc.img
   udfburn-client put -r photos /photos --image disc.img
   udfburn-client ls -l /photos --image disc.img
@@ -38,12 +38,12 @@ def parser() -> argparse.ArgumentParser:
     """The words of each command."""
     top = argparse.ArgumentParser(
         prog="udfburn-client", description="Stores files and folders on a UDF volume, each once and for certain.",
-        epilog=LONG, formatter_class=argparse.RawDescriptionHelpFormatter,
+        epilog=EPILOG, formatter_class=argparse.RawDescriptionHelpFormatter,
     )
     top.add_argument("--version", action="version", version=f"udfburn-client {__version__}")
     subs = top.add_subparsers(dest="command", required=True, metavar="COMMAND")
     for module in MODULES:
-        module.add(subs)
+        module.add_commands(subs)
     top.set_defaults(names=list(subs.choices))
     return top
 
@@ -51,18 +51,18 @@ def parser() -> argparse.ArgumentParser:
 def main(words: Optional[List[str]] = None) -> int:
     """Runs a command, and gives its status."""
     try:
-        complete(parser)
+        complete_line(parser)
         closed = take_descriptors()
         arguments = parsed(parser(), words, closed)
         progress = arguments.progress = Progress(arguments.quiet, arguments.json, closed=closed, verbose=arguments.verbose)
-        return printed(arguments, progress)
+        return run_printing(arguments, progress)
     except KeyboardInterrupt:
         # Before the command began, or after it.
         print(f"udfburn-client: {INTERRUPTED}", file=sys.stderr)
         return 130
 
 
-def printed(arguments: argparse.Namespace, progress: Progress) -> int:
+def run_printing(arguments: argparse.Namespace, progress: Progress) -> int:
     """Runs a command, and sees that what it printed was taken."""
     take_any_name()
     try:

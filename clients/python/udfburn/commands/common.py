@@ -80,7 +80,7 @@ def reader(arguments: argparse.Namespace) -> Iterator[Client]:
         raise UsageError("--as-of reads an image: name it with --image")
     if commit is None:
         with Client(connect, program=arguments.program, **patience_of(arguments)) as client:
-            if connect.startswith(("unix:", "device:")) or not taken(client):
+            if connect.startswith(("unix:", "device:")) or not image_in_use(client):
                 yield client
                 return
     from ..image import past
@@ -92,7 +92,7 @@ def reader(arguments: argparse.Namespace) -> Iterator[Client]:
             yield client
 
 
-def taken(client: Client) -> bool:
+def image_in_use(client: Client) -> bool:
     """Whether the program cannot have the image, which it opens for writing too, and alone."""
     patience, client.line.patience.seconds = client.line.patience.seconds, 0.0
     try:

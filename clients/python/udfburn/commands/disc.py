@@ -9,19 +9,18 @@ from typing import TYPE_CHECKING, Iterator
 from ..base.beneath import mode_for, status_given
 from ..base.errors import Damaged, Differs, DiscFailed, SourceError
 from ..base.progress import Progress, plural, printable, size
+from ..discs import DRIVE
 from ..protocol import limits, shown
 from .arguments import command
 from .common import progress_of
 
 if TYPE_CHECKING:
-    from ..discs.burning import Check, Say
+    from ..discs.burning import LengthAndDigest, Say
     from ..discs.finish import Track
     from .arguments import Subs
 
-DEVICE = "/dev/sr0"
 
-
-def add(subs: Subs) -> None:
+def add_commands(subs: Subs) -> None:
     """The words of these commands."""
     finish = command(
         subs, "finish", finish_image, "copy an image for a disc, so that Linux finds its end",
@@ -37,7 +36,7 @@ def add(subs: Subs) -> None:
         " byte. Run it again after it was interrupted: a disc that has the image already is only compared.", volume=False,
     )
     burn.add_argument("image_path", metavar="IMAGE", help="the image, finished or not")
-    burn.add_argument("--device", default=DEVICE, metavar="DEVICE", help=f"the recorder (default: {DEVICE})")
+    burn.add_argument("--device", default=DRIVE, metavar="DEVICE", help=f"the recorder (default: {DRIVE})")
 
 
 def require_sound(arguments: argparse.Namespace, progress: Progress) -> None:
@@ -85,25 +84,25 @@ class Sum:
 
     def through(self, track: "Track") -> Iterator[bytes]:
         """The bytes of a track."""
-        from ..discs.finish import pieces
+        from ..discs.finish import track_pieces
 
-        for piece in pieces(track):
+        for piece in track_pieces(track):
             self.length += len(piece)
             self.digest.update(piece)
             yield piece
 
-    def check(self) -> "Check":
+    def check(self) -> "LengthAndDigest":
         """What went through."""
-        from ..discs.burning import Check
+        from ..discs.burning import LengthAndDigest
 
-        return Check(self.length, self.digest.digest())
+        return LengthAndDigest(self.length, self.digest.digest())
 
 
-def check_of(path: str) -> "Check":
+def check_of(path: str) -> "LengthAndDigest":
     """The length and the digest of a file, from its disk."""
-    from ..discs.burning import FILE, read_back
+    from ..discs.burning import FILE_DRIVE, read_disc
 
-    return read_back(FILE + path, os.path.getsize(path), lambda line: None)
+    return read_disc(FILE_DRIVE + path, os.path.getsize(path), lambda line: None)
 
 
 # ---- burn
@@ -126,7 +125,7 @@ def burn_image(arguments: argparse.Namespace) -> int:
     wanted = check_of(image)
     if burned(track, device, disc, say) != wanted:
         raise DiscFailed(f"{shown(image)}: changed while it was burned: mark this disc as spoiled")
-    label = label_of(image)
+    label = label_on_image(image)
     progress.result(
         f"{shown(image)} is on the disc, and every byte was read back. Write on it: {label}", path=shown(image), medium=disc.words, blocks=track.total,
         label=label, sha256=wanted.sha256.hex(),
@@ -136,17 +135,17 @@ def burn_image(arguments: argparse.Namespace) -> int:
 
 def found_again(arguments: argparse.Namespace, words: str, say: "Say") -> int:
     """Compares a disc that is not blank, as one that an interrupted run burned."""
-    from ..discs.burning import ends_well, read_back, take_in_again
+    from ..discs.burning import ends_well, read_disc, take_in_again
 
     image, device, progress = arguments.image_path, arguments.device, progress_of(arguments)
     wanted = check_of(image)
     take_in_again(device, say)
-    if read_back(device, wanted.length, say) != wanted:
+    if read_disc(device, wanted.length, say) != wanted:
         raise DiscFailed(f"{shown(device)}: the disc in it ({words}) is not blank, and does not have this image: put a blank one in")
     blocks = wanted.length // limits.BLOCK
     if not ends_well(device, blocks):
         progress.note(f"{shown(device)}: no copy of the VAT ICB follows: Linux may need the option lastblock={blocks - 1}", did="unfinished", lastblock=blocks - 1)
-    label = label_of(image)
+    label = label_on_image(image)
     progress.result(
         f"{shown(image)} is on this disc already, and every byte was compared. Write on it: {label}", path=shown(image), medium=words, label=label,
         sha256=wanted.sha256.hex(),
@@ -154,7 +153,7 @@ def found_again(arguments: argparse.Namespace, words: str, say: "Say") -> int:
     return 0
 
 
-def label_of(image: str) -> str:
+def label_on_image(image: str) -> str:
     """The label of a volume."""
     from ..reader import Medium, Volume
 
@@ -173,4 +172,4 @@ def working(progress: Progress) -> "Say":
     return say
 
 
-__all__ = ["add", "burn_image", "finish_image"]
+__all__ = ["add_commands", "burn_image", "finish_image"]

@@ -15,7 +15,7 @@ if TYPE_CHECKING:
     from .arguments import Subs
 
 
-def add(subs: Subs) -> None:
+def add_commands(subs: Subs) -> None:
     """The words of this command."""
     words = command(
         subs, "mount", mount, "show an image as a file tree, read only",
@@ -46,4 +46,4 @@ def mount(arguments: argparse.Namespace) -> int:
     return 1 if progress.failures else 0
 
 
-__all__ = ["add", "mount"]
+__all__ = ["add_commands", "mount"]

@@ -26,7 +26,7 @@ if TYPE_CHECKING:
 PAST: Dict[str, Any] = dict(metavar="COMMIT", type=commit_number, help="read the tree as it was after this commit of 'udfburn log' (needs --image)")
 
 
-def add(subs: Subs) -> None:
+def add_commands(subs: Subs) -> None:
     """The words of these commands."""
     add_get(subs)
     listing = command(subs, "ls", ls, "list a directory", "Each line has d for a directory or f for a file, and the name.")
@@ -90,7 +90,7 @@ def get(arguments: argparse.Namespace) -> int:
             if arguments.recursive:
                 fetcher.tree(path, arguments.local)
             else:
-                fetcher.file(path, place_of(arguments.local, path))
+                fetcher.file(path, local_target(arguments.local, path))
         finally:
             progress.end()
             for failure in fetcher.summary.failures:
@@ -99,7 +99,7 @@ def get(arguments: argparse.Namespace) -> int:
     return 1 if fetcher.summary.failures else 0
 
 
-def place_of(local: str, path: Path) -> str:
+def local_target(local: str, path: Path) -> str:
     """The local file that a file is copied to: in a folder it keeps its own name."""
     return os.path.join(local, decode(path[-1])) if os.path.isdir(local) and path else local
 
@@ -182,4 +182,4 @@ def draw(arguments: argparse.Namespace) -> int:
     return 0
 
 
-__all__ = ["add", "draw", "get", "ls", "verify"]
+__all__ = ["add_commands", "draw", "get", "ls", "verify"]

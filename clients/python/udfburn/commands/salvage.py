@@ -17,11 +17,11 @@ from .arguments import add_output, commit_number
 
 if TYPE_CHECKING:
     from ..reader.chain import Link, Span
-    from ..salvage.salvage import Outcome, Salvage
+    from ..salvage.salvage import Salvage, SalvageOutcome
     from .arguments import Subs
 
 
-def add(subs: Subs) -> None:
+def add_commands(subs: Subs) -> None:
     """The words of these commands."""
     text = "copy everything that can be read out of a volume, even a damaged one"
     words = subs.add_parser(
@@ -133,48 +133,48 @@ class Report:
         else:
             self.progress.say(line)
 
-    def _outcome(self, outcome: "Outcome", writes: bool) -> None:
-        from ..reader import Kind
-        from ..salvage.salvage import LOST, UNFINISHED, UNPROVED, WHOLE
+    def _outcome(self, outcome: "SalvageOutcome", writes: bool) -> None:
+        from ..reader import FileType
+        from ..salvage.salvage import FILE_LOST, FILE_UNPROVED, FILE_WHOLE, UNFINISHED
 
-        is_directory = outcome.kind is Kind.DIRECTORY
-        missed = writes and outcome.written is None and outcome.state != LOST
+        is_directory = outcome.kind is FileType.DIRECTORY
+        missed = writes and outcome.written is None and outcome.state != FILE_LOST
         self.unwritten += missed
         if is_directory:
             self.directories += 1
         else:
             self.counts[outcome.state] += 1
-            self.bytes += outcome.size if outcome.state not in (LOST, UNFINISHED) else 0
+            self.bytes += outcome.size if outcome.state not in (FILE_LOST, UNFINISHED) else 0
         path = "/" + "/".join(outcome.path)
         self._told(
-            line_of(outcome, path, writes), missed or outcome.state not in (WHOLE, UNPROVED, UNFINISHED), did="directory" if is_directory else "file",
+            outcome_line(outcome, path, writes), missed or outcome.state not in (FILE_WHOLE, FILE_UNPROVED, UNFINISHED), did="directory" if is_directory else "file",
             path=path, state=outcome.state, bytes=outcome.size, **said_of(outcome.commit), ranges=[list(found) for found in outcome.ranges],
             message=outcome.why, written=outcome.written,
         )
 
     def _end(self, notes: int) -> int:
-        from ..salvage.salvage import STATES, UNFINISHED, UNPROVED, WHOLE
+        from ..salvage.salvage import FILE_STATES, FILE_UNPROVED, FILE_WHOLE, UNFINISHED
 
-        volume, link, files = self.found.volume, self.found.link, sum(self.counts[state] for state in STATES)
-        status = 0 if not (notes or self.unwritten or self.directories or self.missing) and self.counts[WHOLE] + self.counts[UNPROVED] == files else 1
-        unproved = self.counts[UNPROVED]
+        volume, link, files = self.found.volume, self.found.link, sum(self.counts[state] for state in FILE_STATES)
+        status = 0 if not (notes or self.unwritten or self.directories or self.missing) and self.counts[FILE_WHOLE] + self.counts[FILE_UNPROVED] == files else 1
+        unproved = self.counts[FILE_UNPROVED]
         if unproved and not self.accept:
             if status == 0:
                 self._told(f"{plural(unproved, 'file is', 'files are')} unproved: no digest is kept of what was written there", True, did="unproved", files=unproved)
             status = 1
-        words = ", ".join(f"{self.counts[state]:,} {'of earlier commits' if state == 'earlier' else state}" for state in STATES)
+        words = ", ".join(f"{self.counts[state]:,} {'of earlier commits' if state == 'earlier' else state}" for state in FILE_STATES)
         unfinished = self.counts[UNFINISHED]
         words += f", and {plural(unfinished, 'file', 'files')} of a commit that is not finished" if unfinished else ""
         name = f"volume {volume.label!r}" if volume.label is not None else "volume without a label"
         self.progress.result(
             f"{name}, commit {link.numbers}: {plural(files, 'file', 'files')}, {size(self.bytes)}: {words}; {plural(notes, 'structure is', 'structures are')} not as it must be",
             path=as_text(self.found.medium.path), label=volume.label, moment=volume.moment, capacity=volume.capacity, **said_of(link.numbers),
-            files=files, bytes=self.bytes, structures=notes, unfinished=unfinished, **{state: self.counts[state] for state in STATES},
+            files=files, bytes=self.bytes, structures=notes, unfinished=unfinished, **{state: self.counts[state] for state in FILE_STATES},
         )
         return status
 
 
-def line_of(outcome: "Outcome", path: str, writes: bool) -> str:
+def outcome_line(outcome: "SalvageOutcome", path: str, writes: bool) -> str:
     """A line for people: how a file was had, its path, its missing bytes, and where it was written."""
     words = [outcome.state, escaped(path), of_bytes(outcome.size)]
     if outcome.ranges:
@@ -205,7 +205,7 @@ def log(arguments: argparse.Namespace) -> int:
         if not chain.links:
             return progress.fail(f"{shown(arguments.image_path)}: no table of a volume can be read")
         broken = lost = 0
-        for group in groups_of(chain.links):
+        for group in link_groups(chain.links):
             for link in group:
                 broken += bool(link.broken)
                 tell_link(progress, link)
@@ -217,7 +217,7 @@ def log(arguments: argparse.Namespace) -> int:
     return 0
 
 
-def groups_of(links: "List[Link]") -> "Iterator[List[Link]]":
+def link_groups(links: "List[Link]") -> "Iterator[List[Link]]":
     """Each link whose commit is known, with those below it whose commits are not."""
     group: "List[Link]" = []
     for link in links:
@@ -264,4 +264,4 @@ def said_of(commits: "Optional[Span]") -> "Dict[str, object]":
     return {"commit": None, "between": [commits.low, commits.high]}
 
 
-__all__ = ["add", "log", "salvage"]
+__all__ = ["add_commands", "log", "salvage"]

@@ -13,7 +13,7 @@ if TYPE_CHECKING:
     from .arguments import Subs
 
 
-def add(subs: Subs) -> None:
+def add_commands(subs: Subs) -> None:
     """The words of this command."""
     words = command(
         subs, "seal", seal, "write the SHA-256 of all files of a directory next to them",
@@ -34,8 +34,7 @@ def add_manifest_only(words: argparse.ArgumentParser) -> None:
 
 def seal(arguments: argparse.Namespace) -> int:
     """Seals a directory."""
-    from ..trees.seal import seal as seal_directory
-    from ..trees.seal import seal_words
+    from ..trees.seal import seal_directory, seal_words
 
     progress = progress_of(arguments)
     path = path_of(arguments.path)
@@ -49,4 +48,4 @@ def seal(arguments: argparse.Namespace) -> int:
     return 0
 
 
-__all__ = ["add", "add_manifest_only", "seal"]
+__all__ = ["add_commands", "add_manifest_only", "seal"]

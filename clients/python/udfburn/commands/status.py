@@ -42,13 +42,13 @@ class Status(NamedTuple):
 
 def of_image(image: str) -> Status:
     """The state of an image, which is only read, also while a daemon writes it. Raises `Damaged` where it holds no volume."""
-    from ..reader import Kind, Medium, Volume
+    from ..reader import FileType, Medium, Volume
 
     with Medium(image) as medium:
         volume = Volume(medium)
         state = newest_state(image, volume)
         table = state.table
-        files = [node for node in state.walk() if node.kind is Kind.FILE]
+        files = [node for node in state.walk() if node.kind is FileType.FILE]
         total, left_over = sum(node.size for node in files), [show(node.path) for node in files if is_unfinished(node.path)]
         left = max(volume.capacity - medium.blocks, 0) if volume.capacity is not None else None
         return Status(

@@ -4,14 +4,13 @@ from __future__ import annotations
 
 import argparse
 import os
-import re
 import stat
 from typing import TYPE_CHECKING, Dict, List, Optional, Tuple
 
 from ..base.beneath import new_given, remove_empty
 from ..base.errors import ProgramFailed, SourceError, UsageError
 from ..base.progress import Progress, moment, plural, size
-from ..base.sizes import capacity
+from ..base.sizes import capacity, mode_of
 from ..protocol import as_text, limits, shown, spelled_size
 from ..protocol.units import Moment
 from ..wire.connection import check_word, find_program, run_program
@@ -23,10 +22,10 @@ if TYPE_CHECKING:
     from .arguments import Subs
     from .status import Status
 
-CAPACITY = 359_844
+DEFAULT_CAPACITY = 359_844
 """Blocks of a volume where none are said: those of a CD-R of 80 minutes."""
 
-def add(subs: Subs) -> None:
+def add_commands(subs: Subs) -> None:
     """The words of these commands."""
     new = command(
         subs, "format", format_image, "make a volume on an image",
@@ -37,8 +36,8 @@ def add(subs: Subs) -> None:
     new.add_argument("--device", metavar="PATH", help="in place of an image: the disc in a recorder, such as /dev/sr0, with the C library")
     new.add_argument("--label", metavar="TEXT", help="the volume's name, at most 30 characters (default: the file name without its extension)")
     new.add_argument("--capacity", metavar="N", type=capacity, help="blocks of 2,048 bytes, from 512 to 450,000, or a size such as 700MiB (default: 359,844 blocks, a CD-R of 80 minutes)")
-    new.add_argument("--moment", metavar="MOMENT", type=moment_of, help="the moment of the format: microseconds from 1970, or a time such as 2026-11-26T22:00:00Z (default: now)")
-    new.add_argument("--mode", metavar="MODE", type=mode_of, default=0o600, help="the permissions of a new file, in octal (default: 600, nobody's but the user's)")
+    new.add_argument("--moment", metavar="MOMENT", type=moment_given, help="the moment of the format: microseconds from 1970, or a time such as 2026-11-26T22:00:00Z (default: now)")
+    new.add_argument("--mode", metavar="MODE", type=mode_given, default=0o600, help="the permissions of a new file, in octal (default: 600, nobody's but the user's)")
     state = command(
         subs, "status", status, "show what a volume is, and what it has left",
         "For an image everything is known. Over a socket only the tree is known, and the rest is named as unknown.", volume=False,
@@ -49,14 +48,15 @@ def add(subs: Subs) -> None:
 
 # ---- format
 
-def mode_of(text: str) -> int:
-    """The permissions of a word, in octal: the user's own to read and write, and no others than these two."""
-    if not re.fullmatch("0?6[0246][0246]", text):
+def mode_given(text: str) -> int:
+    """The permissions of a word, in octal."""
+    mode = mode_of(text)
+    if mode is None:
         raise argparse.ArgumentTypeError(f"{text!r} is not a valid mode: give one from 600 to 666, such as 640")
-    return int(text, 8)
+    return mode
 
 
-def moment_of(text: str) -> Moment:
+def moment_given(text: str) -> Moment:
     """Microseconds of a word: a count from 1970 on, or a date with a time."""
     from datetime import datetime, timedelta, timezone
 
@@ -74,7 +74,7 @@ def moment_of(text: str) -> Moment:
     return Moment(found)
 
 
-def label_of(arguments: argparse.Namespace) -> str:
+def label_given(arguments: argparse.Namespace) -> str:
     """The label that is asked for, or the name of the image's file without its extension."""
     given: Optional[str] = arguments.label
     label: str = os.path.splitext(os.path.basename(arguments.image_path))[0] if given is None else given
@@ -102,9 +102,9 @@ def format_image(arguments: argparse.Namespace) -> int:
     if arguments.image_path is None:
         raise UsageError("name the image to make, or a recorder with --device")
     image: str = arguments.image_path
-    label = label_of(arguments)
+    label = label_given(arguments)
     when = now() if arguments.moment is None else arguments.moment
-    blocks: int = CAPACITY if arguments.capacity is None else arguments.capacity
+    blocks: int = DEFAULT_CAPACITY if arguments.capacity is None else arguments.capacity
     made = new_given(image, arguments.mode)
     try:
         if arguments.library:
@@ -132,7 +132,7 @@ def format_device(arguments: argparse.Namespace) -> int:
         raise UsageError("--device takes the place of IMAGE, --library and --capacity: the disc says how many blocks there are")
     if arguments.label is None:
         raise UsageError("name the volume with --label")
-    label = label_of(arguments)
+    label = label_given(arguments)
     when = now() if arguments.moment is None else arguments.moment
     format_disc(find_library(), device, label, when)
     progress_of(arguments).result(f"formatted the disc in {shown(device)}: {label}, {moment(when)}", path=device, label=label, moment=when)
@@ -151,11 +151,11 @@ def format_by_program(image: str, label: str, when: int, blocks: int, given: Opt
 
 def format_by_library(image: str, label: str, when: Moment, blocks: int) -> None:
     """Makes a volume with the C library."""
-    from ..wire.library import Refused, find_library
+    from ..wire.library import CallRefused, find_library
 
     try:
         find_library().format(os.path.realpath(image), label, when, blocks)
-    except Refused as refused:
+    except CallRefused as refused:
         raise SourceError(why_not_formatted(image, refused.name, refused.reason())) from refused
 
 
@@ -199,22 +199,22 @@ def status(arguments: argparse.Namespace) -> int:
     image, path = where_of(arguments)
     progress = progress_of(arguments)
     state = of_image(image) if image else of_socket(path or "", arguments)
-    tell(state, progress)
+    tell_status(state, progress)
     for note in state.notes:
         progress.fail(f"{state.where}: {note}")
     return 1 if state.notes else 0
 
 
-def tell(state: Status, progress: Progress) -> None:
+def tell_status(state: Status, progress: Progress) -> None:
     """Prints a state: a line for each thing that is known, and one for what is not."""
     if not progress.as_json:
-        for name, text in lines_of(state):
+        for name, text in status_lines(state):
             progress.say(f"{name:<9} {text}")
     fields: Dict[str, object] = dict(state._asdict())
     progress.outcome = fields
 
 
-def lines_of(state: Status) -> List[Tuple[str, str]]:
+def status_lines(state: Status) -> List[Tuple[str, str]]:
     """What is printed of a state: a word, and what is said of it."""
     lines = [("volume", state.where)]
     if state.label is not None:
@@ -253,4 +253,4 @@ def client_words(clients: int) -> str:
     return f"{clients} of {limits.CLIENTS}: {left} left; {linux}"
 
 
-__all__ = ["add", "format_image", "status"]
+__all__ = ["add_commands", "format_image", "status"]

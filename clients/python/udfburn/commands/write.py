@@ -8,14 +8,14 @@ from typing import TYPE_CHECKING, List, Set, Tuple
 
 from ..base.errors import Exists, IntoItself, IsRoot, NoParent, NotDirectory, NotEmpty, UsageError
 from ..base.escape import encode
-from ..base.manifest import MANIFEST, PAYLOAD
+from ..base.manifest import MANIFEST, PAYLOAD_FOLDER
 from ..base.progress import Progress, plural, size
 from ..local import not_kept
 from ..local.sources import Source, why_not
 from ..protocol import NodeKind, Path, path_of, printed, show, shown
 from ..trees.client import Client
 from ..trees.stored import find_file
-from ..trees.tree import Importer, Options, Summary
+from ..trees.tree import ImportOptions, ImportSummary, Importer
 from ..trees.walk import remove_paths, walk
 from .arguments import command
 from .common import NOT_STORED, progress_of, writer
@@ -25,7 +25,7 @@ if TYPE_CHECKING:
     from .arguments import Subs
 
 
-def add(subs: Subs) -> None:
+def add_commands(subs: Subs) -> None:
     """The words of these commands."""
     add_put(subs)
     mkdir_words = command(subs, "mkdir", mkdir, "make directories", "Each one is made once, however often the command is repeated.", ledger=True)
@@ -99,7 +99,7 @@ def put(arguments: argparse.Namespace) -> int:
     if arguments.rewrite and arguments.skip_same:
         raise UsageError("--rewrite stores again what --skip-same leaves alone")
     fields = ("recursive", "parents", "split", "rewrite", "skip_odd", "escape", "delete_source", "verify", "dry_run", "moment", "image")
-    options = Options(**{name: getattr(arguments, name) for name in fields}, delete_last=arguments.seal)
+    options = ImportOptions(**{name: getattr(arguments, name) for name in fields}, delete_last=arguments.seal)
     options = options._replace(parents=options.parents or arguments.seal)
     progress = progress_of(arguments)
     with writer(arguments) as client:
@@ -131,7 +131,7 @@ def payload_of(arguments: argparse.Namespace) -> str:
     path: str = arguments.path
     if not arguments.seal:
         return path
-    payload = show(path_of(path) if arguments.manifest_only else path_of(path) + (PAYLOAD,))
+    payload = show(path_of(path) if arguments.manifest_only else path_of(path) + (PAYLOAD_FOLDER,))
     folder = len(arguments.local) == 1 and os.path.isdir(arguments.local[0])
     return payload if folder else payload.rstrip("/") + "/"
 
@@ -145,7 +145,7 @@ def refuse_manifests(sources: List[Source]) -> None:
 
 def seal_stored(client: Client, importer: Importer, arguments: argparse.Namespace) -> str:
     """Seals what was stored, and then deletes the sources where that is asked for. What was done, in words."""
-    from ..trees.seal import seal, seal_words
+    from ..trees.seal import seal_directory, seal_words
 
     path, progress = path_of(arguments.path), progress_of(arguments)
     if arguments.dry_run:
@@ -154,12 +154,12 @@ def seal_stored(client: Client, importer: Importer, arguments: argparse.Namespac
     if importer.summary.failures:
         importer.summary.failures.append(f"{printed(path)}: is not sealed, because not everything was stored; no source was deleted")
         return ""
-    words = seal_words(seal(client, path, arguments.manifest_only, told=progress.told))
+    words = seal_words(seal_directory(client, path, arguments.manifest_only, told=progress.told))
     importer.delete_kept()
     return f"; {words}"
 
 
-def put_words(summary: Summary, options: Options) -> str:
+def put_words(summary: ImportSummary, options: ImportOptions) -> str:
     """What `put` did, in a line."""
     words = [f"{'would store' if options.dry_run else 'stored'} {plural(summary.files, 'file', 'files')}, {size(summary.bytes)}"]
     words += [f"made {plural(summary.folders, 'directory', 'directories')}"] if summary.folders else []
@@ -279,7 +279,7 @@ def resume(arguments: argparse.Namespace) -> int:
                 progress.say(f"would send number {waiting.number} again: {waiting.path}", did="would send", number=waiting.number, path=waiting.path)
             return 0
         if arguments.forget:
-            forget(client, progress)
+            drop_pending(client, progress)
             return 0
         done = client.resume()
         lost = client.take_not_stored()
@@ -290,7 +290,7 @@ def resume(arguments: argparse.Namespace) -> int:
     return 0
 
 
-def forget(client: Client, progress: Progress) -> None:
+def drop_pending(client: Client, progress: Progress) -> None:
     """Drops what is pending, and says which volume the next request goes to."""
     ledger = client.session().ledger
     before = {volume.id for volume in ledger.volumes()}
@@ -302,4 +302,4 @@ def forget(client: Client, progress: Progress) -> None:
     progress.note(line, did="goes on", number=volume.latest + 1, known=known)
 
 
-__all__ = ["add", "mkdir", "mv", "put", "resume", "rm"]
+__all__ = ["add_commands", "mkdir", "mv", "put", "resume", "rm"]

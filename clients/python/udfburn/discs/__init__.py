@@ -2,3 +2,6 @@
 
 Who may use it: `commands` and `archive`. What it may use: `reader`, `local` and all below.
 """
+
+DRIVE = "/dev/sr0"
+"""The drive that a command takes where none is named."""

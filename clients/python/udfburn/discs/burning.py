@@ -18,20 +18,19 @@ from hashlib import sha256
 from threading import Thread
 from typing import IO, TYPE_CHECKING, Callable, Iterator, List, NamedTuple, Optional
 
+from ..base.beneath import PIECE
 from ..base.errors import DiscFailed
 from ..protocol import limits, shown
 from ..protocol.units import Address
-from .finish import pieces
+from .finish import track_pieces
 
 if TYPE_CHECKING:
     from .finish import Track
 
-PIECE = 1 << 20
-
-FILE = "stdio:"
+FILE_DRIVE = "stdio:"
 """How libburn's word for a file in the place of a drive begins."""
 
-KINDS = (("CD", "cd"), ("DVD", "dvd"), ("BD", "bd"), ("HD", "bd"), (FILE[:-1], "bd"))
+MEDIUM_KINDS = (("CD", "cd"), ("DVD", "dvd"), ("BD", "bd"), ("HD", "bd"), (FILE_DRIVE[:-1], "bd"))
 """The kinds of medium by how xorriso's words for them begin. It fills a file up to units as large as those of a BD."""
 
 EJECT, CLOSE_TRAY, DRIVE_STATUS, CURRENT, DISC_OK = 0x5309, 0x5319, 0x5326, 0x7FFFFFFF, 4
@@ -53,7 +52,7 @@ class Disc(NamedTuple):
     writable: int
 
 
-class Check(NamedTuple):
+class LengthAndDigest(NamedTuple):
     """So many bytes and their SHA-256."""
 
     length: int
@@ -62,7 +61,7 @@ class Check(NamedTuple):
 
 def device_path(device: str) -> str:
     """The path of a drive, or of the file in its place."""
-    return device[len(FILE) :] if device.startswith(FILE) else device
+    return device[len(FILE_DRIVE) :] if device.startswith(FILE_DRIVE) else device
 
 
 def require_drive(device: str) -> None:
@@ -95,7 +94,7 @@ def look_at(device: str) -> Disc:
     words = re.search(r"^Media current: (.*)$", text, re.M)
     if words is None:
         raise DiscFailed(f"{shown(device)}: cannot be used as a recorder: {reason(said) or 'xorriso does not say why'}")
-    kind = next((kind for begin, kind in KINDS if words[1].startswith(begin)), None)
+    kind = next((kind for begin, kind in MEDIUM_KINDS if words[1].startswith(begin)), None)
     if kind is None:
         raise DiscFailed(f"{shown(device)}: there is no disc in it that can be used ({words[1]}): put a blank one in")
     blocks = re.search(r"^Media blocks : \d+ readable , (\d+) writable", text, re.M)
@@ -113,13 +112,13 @@ def is_empty(path: str) -> bool:
 
 def xorriso(*words: str) -> List[str]:
     """The lines that xorriso prints."""
-    with started(words, subprocess.DEVNULL) as process:
+    with started_xorriso(words, subprocess.DEVNULL) as process:
         assert process.stdout
-        return list(lines_of(process.stdout))
+        return list(stream_lines(process.stdout))
 
 
 @contextmanager
-def started(words: "tuple[str, ...]", source: int) -> "Iterator[subprocess.Popen[bytes]]":
+def started_xorriso(words: "tuple[str, ...]", source: int) -> "Iterator[subprocess.Popen[bytes]]":
     """The program xorriso while it runs, without the user's own settings for it."""
     try:
         process = subprocess.Popen(
@@ -131,7 +130,7 @@ def started(words: "tuple[str, ...]", source: int) -> "Iterator[subprocess.Popen
         yield process
 
 
-def lines_of(stream: IO[bytes]) -> Iterator[str]:
+def stream_lines(stream: IO[bytes]) -> Iterator[str]:
     """The lines of a stream, as they come. Those of progress end with a carriage return."""
     rest = b""
     while data := os.read(stream.fileno(), 4096):
@@ -148,22 +147,22 @@ def reason(said: List[str]) -> Optional[str]:
 
 # ---- burned
 
-class Sent(NamedTuple):
+class SentTrack(NamedTuple):
     """What was sent to a disc: the bytes of the image, and all bytes."""
 
-    image: Check
-    whole: Check
+    image: LengthAndDigest
+    whole: LengthAndDigest
 
 
-def burn(track: Track, device: str, disc: Disc, say: Say) -> Sent:
+def burn_track(track: Track, device: str, disc: Disc, say: Say) -> SentTrack:
     """Burns a track, and gives what was sent."""
     words = ("-as", "cdrecord", "-v", f"dev={device}", "-sao", "padsize=0", f"tsize={track.total}s", "-")
-    with started(words, subprocess.PIPE) as process:
+    with started_xorriso(words, subprocess.PIPE) as process:
         assert process.stdout
         feeder = Feeder(track, process.stdin)
         feeder.start()
         said = []
-        for line in lines_of(process.stdout):
+        for line in stream_lines(process.stdout):
             if "UPDATE" in line:
                 say(line.split(" : ")[-1].strip())
             else:
@@ -184,21 +183,21 @@ class Feeder(Thread):
         super().__init__(daemon=True)
         assert target
         self._track, self._target = track, target
-        self.sent: Optional[Sent] = None
+        self.sent: Optional[SentTrack] = None
         self.failure: Optional[Exception] = None
 
     def run(self) -> None:
         whole, count, size = sha256(), 0, self._track.blocks * limits.BLOCK
-        image = Check(0, b"")
+        image = LengthAndDigest(0, b"")
         try:
             with self._target as target:
-                for piece in pieces(self._track):
+                for piece in track_pieces(self._track):
                     target.write(piece)
                     whole.update(piece)
                     count += len(piece)
                     if count == size:
-                        image = Check(count, whole.digest())
-            self.sent = Sent(image, Check(count, whole.digest()))
+                        image = LengthAndDigest(count, whole.digest())
+            self.sent = SentTrack(image, LengthAndDigest(count, whole.digest()))
         except BrokenPipeError:
             # It says itself why it ended.
             pass
@@ -210,9 +209,9 @@ class Feeder(Thread):
 
 def take_in_again(device: str, say: Say) -> None:
     """Has a drive eject the disc and load it, so that what is read comes from the disc, and the system learns its new length."""
-    if device.startswith(FILE):
+    if device.startswith(FILE_DRIVE):
         return
-    with opened(device, os.O_NONBLOCK) as drive:
+    with open_drive(device, os.O_NONBLOCK) as drive:
         tried(drive, EJECT, device)
         with suppress(OSError):
             fcntl.ioctl(drive, CLOSE_TRAY)
@@ -237,7 +236,7 @@ def tried(drive: int, call: int, device: str) -> None:
 
 
 @contextmanager
-def opened(device: str, more: int = 0) -> Iterator[int]:
+def open_drive(device: str, more: int = 0) -> Iterator[int]:
     """The descriptor of a drive."""
     try:
         descriptor = os.open(device_path(device), os.O_RDONLY | os.O_CLOEXEC | more)
@@ -253,7 +252,7 @@ def opened(device: str, more: int = 0) -> Iterator[int]:
 
 def read_from(device: str, count: int) -> Iterator[bytes]:
     """The first bytes of a disc, as far as they can be had, from the disc and not from memory."""
-    with opened(device) as descriptor:
+    with open_drive(device) as descriptor:
         os.posix_fadvise(descriptor, 0, 0, os.POSIX_FADV_DONTNEED)
         while count:
             piece = os.read(descriptor, min(count, PIECE))
@@ -263,7 +262,7 @@ def read_from(device: str, count: int) -> Iterator[bytes]:
             count -= len(piece)
 
 
-def read_back(device: str, length: int, say: Say) -> Check:
+def read_disc(device: str, length: int, say: Say) -> LengthAndDigest:
     """The length and the digest of the first bytes of a disc. Raises where one of them cannot be read."""
     whole, count = sha256(), 0
     try:
@@ -273,16 +272,16 @@ def read_back(device: str, length: int, say: Say) -> Check:
             say(f"read back: {100 * count // max(length, 1)} %")
     except OSError as error:
         raise DiscFailed(f"{shown(device)}: byte {count} and those after it cannot be read: {error.strerror or error}") from error
-    return Check(count, whole.digest())
+    return LengthAndDigest(count, whole.digest())
 
 
-def burned(track: Track, device: str, disc: Disc, say: Say) -> Check:
+def burned(track: Track, device: str, disc: Disc, say: Say) -> LengthAndDigest:
     """Burns a track onto a blank disc, and compares every byte that it reads back. Gives what the image's own bytes are there."""
     if track.total > disc.writable:
         raise DiscFailed(f"{shown(device)}: is too small: {shown(track.image)} needs {track.total:,} blocks, and this {disc.words} has {disc.writable:,}")
-    sent = burn(track, device, disc, say)
+    sent = burn_track(track, device, disc, say)
     take_in_again(device, say)
-    if read_back(device, sent.whole.length, say) != sent.whole:
+    if read_disc(device, sent.whole.length, say) != sent.whole:
         raise DiscFailed(f"{shown(device)}: what was read back is not what was sent: mark this disc as spoiled, and take another one")
     return sent.image
 
@@ -298,6 +297,6 @@ def ends_well(device: str, blocks: int) -> bool:
 
 
 __all__ = [
-    "Check", "Disc", "FILE", "Say", "burned", "device_path", "ends_well", "look_at", "opened", "read_back", "read_from", "require_drive", "require_other",
+    "Disc", "FILE_DRIVE", "LengthAndDigest", "Say", "burned", "device_path", "ends_well", "look_at", "open_drive", "read_disc", "read_from", "require_drive", "require_other",
     "take_in_again",
 ]

@@ -17,7 +17,7 @@ from ..protocol.units import Address
 if TYPE_CHECKING:
     from ..reader import Medium
 
-UNITS = {"cd": 1, "dvd": 16, "bd": 32}
+WRITE_UNITS = {"cd": 1, "dvd": 16, "bd": 32}
 """The blocks that a recorder writes at once, by the kind of medium."""
 
 COPIES = 3
@@ -50,7 +50,7 @@ def track_of(image: str, kind: str) -> Track:
             )
         if capacity is None:
             raise Damaged(f"{shown(image)}: its volume header does not say how many blocks the volume has")
-        total = total_of(medium.blocks, first_like(medium, entry), UNITS[kind])
+        total = total_of(medium.blocks, first_like(medium, entry), WRITE_UNITS[kind])
         if total > capacity:
             # Linux takes no VAT ICB outside the partition (tried), and this package's own reader none after 450,000 blocks.
             raise DiscFailed(
@@ -79,12 +79,12 @@ def first_like(medium: Medium, entry: bytes) -> Address:
     first = last = Address(medium.blocks - 1)
     while True:
         before = entry_at(medium, Address(first - 1))
-        if before is None or moved(before, last) != entry:
+        if before is None or moved_icb(before, last) != entry:
             return first
         first = Address(first - 1)
 
 
-def moved(entry: bytes, address: Address) -> bytes:
+def moved_icb(entry: bytes, address: Address) -> bytes:
     """A VAT ICB at another address."""
     from ..reader.basics import number_of, read_tag, write_tag
 
@@ -92,7 +92,7 @@ def moved(entry: bytes, address: Address) -> bytes:
     return write_tag(tag.identifier, entry[16 : 16 + tag.length], number_of(address)) + entry[16:]
 
 
-def pieces(track: Track) -> Iterator[bytes]:
+def track_pieces(track: Track) -> Iterator[bytes]:
     """The bytes of a track."""
     from ..reader import Medium
 
@@ -104,7 +104,7 @@ def pieces(track: Track) -> Iterator[bytes]:
                 raise DiscFailed(f"{shown(track.image)}: changed while it was read")
             yield run.data
     for address in map(Address, range(track.blocks, track.total)):
-        yield moved(track.entry, address)
+        yield moved_icb(track.entry, address)
 
 
-__all__ = ["COPIES", "Track", "UNITS", "entry_at", "first_like", "moved", "pieces", "total_of", "track_of"]
+__all__ = ["COPIES", "Track", "WRITE_UNITS", "entry_at", "first_like", "moved_icb", "total_of", "track_of", "track_pieces"]

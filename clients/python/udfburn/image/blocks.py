@@ -10,19 +10,15 @@ from ..base.beneath import open_medium
 from ..base.errors import ProgramFailed
 from ..protocol import Path, limits, spelled_size
 from ..protocol.units import Address
+from ..reader.basics import INSIDE, PARTITION
+from ..reader.table import HEAD_SIZE
 from ..wire.connection import run_program
-
-PARTITION = Address(257)
-"""The address at which the partition begins."""
-
-INSIDE = 1872
-"""Bytes of a file that is inside its entry, at most."""
 
 PARENT = 40
 """Bytes of the identifier of the directory above."""
 
-HEAD, CLIENT, ENTRY = 196, 48, 4
-"""Bytes of a table's head, of each client in it, and of each entry (docs/FORMAT.md, "The table")."""
+CLIENT, ENTRY = 48, 4
+"""Bytes of each client in a table, and of each entry (docs/FORMAT.md, "The table")."""
 
 
 def blocks_for(size: int) -> int:
@@ -32,7 +28,7 @@ def blocks_for(size: int) -> int:
 
 def table_blocks(clients: int, entries: int) -> int:
     """The blocks of a table with so many clients and entries."""
-    return blocks_for(HEAD + CLIENT * clients + ENTRY * entries)
+    return blocks_for(HEAD_SIZE + CLIENT * clients + ENTRY * entries)
 
 
 def data_blocks(size: int) -> int:
@@ -169,7 +165,7 @@ def space_of(image: str, program: str, client: Optional[int]) -> Optional[Space]
     except (OSError, ValueError, struct.error, ProgramFailed):
         return None
     (count,) = struct.unpack_from("<H", table, 186)
-    clients = {struct.unpack_from("<Q", table, HEAD + CLIENT * index)[0] for index in range(count)}
+    clients = {struct.unpack_from("<Q", table, HEAD_SIZE + CLIENT * index)[0] for index in range(count)}
     if client is not None:
         clients.add(client)
     entries = (size - struct.unpack_from("<H", table, 0)[0]) // ENTRY

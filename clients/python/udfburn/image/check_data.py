@@ -8,10 +8,10 @@ from typing import Callable, Dict, Iterator, List, Optional
 from ..base.errors import NotFound
 from ..protocol import Path, show
 from ..protocol.units import Address, Commit
-from ..reader import Kind, Node
+from ..reader import FileType, StateNode
 from .coverage import Coverage
 
-Found = Callable[[str, str, Optional[Commit]], None]
+OnDifference = Callable[[str, str, Optional[Commit]], None]
 """Is called for each file that is not as it should be: its path, how it differs, and the commit that wrote it."""
 
 
@@ -23,7 +23,7 @@ class Result:
         self.by_ledger = self.by_manifest = 0
 
 
-def check_data(coverage: Coverage, path: Path, found: Found) -> Result:
+def check_data(coverage: Coverage, path: Path, found: OnDifference) -> Result:
     """Reads each file at or below a path, in the order of the medium, and compares it."""
     result = Result()
     if path not in coverage.nodes:
@@ -31,20 +31,20 @@ def check_data(coverage: Coverage, path: Path, found: Found) -> Result:
     coverage.look_at_manifests()
     for broken in coverage.broken:
         if is_below(broken, path):
-            tell(result, found, broken, "its entry cannot be read", None)
+            tell_difference(result, found, broken, "its entry cannot be read", None)
     for listed, source in coverage.missing:
         if is_below(listed, path) and listed not in coverage.broken:
-            tell(result, found, listed, f"is not there, and {source} lists it", None)
+            tell_difference(result, found, listed, f"is not there, and {source} lists it", None)
     for manifest, fault in coverage.faults:
         if is_below(manifest, path):
-            tell(result, found, manifest, fault, coverage.commit_of(coverage.nodes[manifest]))
+            tell_difference(result, found, manifest, fault, coverage.commit_of(coverage.nodes[manifest]))
     for known in coverage.unreached():
         if is_below(known.path, path):
-            tell(result, found, known.path, "the ledger has it, and no chain of tables reaches the commit that wrote it", known.commit)
+            tell_difference(result, found, known.path, "the ledger has it, and no chain of tables reaches the commit that wrote it", known.commit)
     for node in in_order(coverage, path):
         faults = faults_of(coverage, node, result)
         if faults:
-            tell(result, found, node.path, "; ".join(faults), coverage.commit_of(node))
+            tell_difference(result, found, node.path, "; ".join(faults), coverage.commit_of(node))
     return result
 
 
@@ -53,19 +53,19 @@ def is_below(path: Path, top: Path) -> bool:
     return path[: len(top)] == top
 
 
-def tell(result: Result, found: Found, path: Path, how: str, commit: Optional[Commit]) -> None:
+def tell_difference(result: Result, found: OnDifference, path: Path, how: str, commit: Optional[Commit]) -> None:
     """Counts what is not as it should be, and reports it."""
     result.damaged += 1
     found(show(path), how, commit)
 
 
-def in_order(coverage: Coverage, path: Path) -> Iterator[Node]:
+def in_order(coverage: Coverage, path: Path) -> Iterator[StateNode]:
     """The files at or below a path, in the order of their bytes on the medium: a disc is read once, from its beginning on."""
-    files = [node for node in coverage.nodes.values() if node.kind is Kind.FILE and is_below(node.path, path)]
+    files = [node for node in coverage.nodes.values() if node.kind is FileType.FILE and is_below(node.path, path)]
     yield from sorted(files, key=lambda node: node.data if node.data is not None else node.address)
 
 
-def faults_of(coverage: Coverage, node: Node, result: Result) -> List[str]:
+def faults_of(coverage: Coverage, node: StateNode, result: Result) -> List[str]:
     """What is wrong with a file. Counts it."""
     whole = sha256()
     missing: List[Address] = []
@@ -103,4 +103,4 @@ def faults_of(coverage: Coverage, node: Node, result: Result) -> List[str]:
     return faults
 
 
-__all__ = ["Found", "Result", "check_data"]
+__all__ = ["OnDifference", "Result", "check_data"]

@@ -19,17 +19,17 @@ from hashlib import sha256
 from typing import Dict, List, NamedTuple, Optional, Set, Tuple, Union
 
 from ..base import manifest as m
-from ..ledger.digests import Files, Known
+from ..ledger.digests import Files, SentFile
 from ..ledger.ledger import Ledger
-from ..ledger.records import Volume as KnownVolume
+from ..ledger.records import KnownVolume
 from ..protocol import Path, show
 from ..protocol.units import Address, Commit
-from ..reader import Kind, Node, State, Volume
+from ..reader import FileType, State, StateNode, Volume
 from ..reader.chain import Chain, Span
 from ..reader.survey import Survey
 
 
-class Wanted(NamedTuple):
+class ExpectedFile(NamedTuple):
     """What a file should be: its SHA-256, and where that is said. `address` is that of the manifest's entry; None where the ledger
     has it, and no manifest."""
 
@@ -43,7 +43,7 @@ class Coverage:
 
     def __init__(self, volume: Volume, state: State):
         self.volume = volume
-        self.nodes: Dict[Path, Node] = {node.path: node for node in state.walk()}
+        self.nodes: Dict[Path, StateNode] = {node.path: node for node in state.walk()}
         self.broken: List[Path] = [path for path, _ in state.broken]
         self.faults: List[Tuple[Path, str]] = []
         """What is wrong with manifests themselves, by their paths."""
@@ -52,23 +52,23 @@ class Coverage:
         """Manifests that have other bytes than were stored, by their paths as they are shown; known after `look_at_manifests`."""
         self.missing: List[Tuple[Path, str]] = []
         """What manifests list and the state does not have."""
-        self._wanted: Dict[Path, List[Wanted]] = {}
-        self._sent: Dict[Commit, Known] = {}
-        self._now: Dict[Path, Known] = {}
+        self._wanted: Dict[Path, List[ExpectedFile]] = {}
+        self._sent: Dict[Commit, SentFile] = {}
+        self._now: Dict[Path, SentFile] = {}
         self._chain: Optional[Chain] = None
         self._tables = sorted(volume.chain(), key=lambda table: table.address)
         self._last = volume.chain()[-1]
         """The oldest table that the newest one leads to."""
         self._ends = [table.address for table in self._tables]
         for path in sorted(self.nodes):
-            if path and path[-1] in (m.MANIFEST, m.TAG_MANIFEST) and self.nodes[path].kind is Kind.FILE:
+            if path and path[-1] in (m.MANIFEST, m.TAG_MANIFEST) and self.nodes[path].kind is FileType.FILE:
                 self._take_manifest(path)
 
-    def commit_of(self, node: Node) -> Optional[Commit]:
+    def commit_of(self, node: StateNode) -> Optional[Commit]:
         """The commit that wrote a node's entry; None where that is not known."""
         return self._commits_of(node).commit
 
-    def _commits_of(self, node: Node) -> Span:
+    def _commits_of(self, node: StateNode) -> Span:
         """The commits that may have written a node's entry. Where the chain of tables is broken, all tables are looked for."""
         if self._last.commit and self._chain is None:
             self._chain = Chain(self.volume, Survey(self.volume))
@@ -77,15 +77,15 @@ class Coverage:
         commit = self._tables[bisect_left(self._ends, node.address)].commit
         return Span(commit, commit)
 
-    def of(self, node: Node) -> List[Wanted]:
+    def of(self, node: StateNode) -> List[ExpectedFile]:
         """What a file should be, by each source that speaks of it."""
         wanted = list(self._wanted.get(node.path, ()))
         sent = self.sent(node)
         if sent is not None:
-            wanted.append(Wanted(sent.sha256, "the ledger", None))
+            wanted.append(ExpectedFile(sent.sha256, "the ledger", None))
         return wanted
 
-    def sent(self, node: Node) -> Optional[Known]:
+    def sent(self, node: StateNode) -> Optional[SentFile]:
         """What the ledger sent as this file. Where the commit that wrote it is not known, it is that with its path, its size and its moment."""
         if not self._sent:
             return None
@@ -96,7 +96,7 @@ class Coverage:
         is_it = now is not None and commits.low <= now.commit <= commits.high and (now.size, now.moment) == (node.size, node.moment)
         return now if is_it else None
 
-    def unreached(self) -> List[Known]:
+    def unreached(self) -> List[SentFile]:
         """The files that the ledger has and that are not known to be here or gone: no chain of tables reaches the commits that wrote
         them."""
         if not self._now or not self._last.commit:
@@ -121,9 +121,9 @@ class Coverage:
         self.faults += [(path, fault) for fault in faults]
         for line in lines:
             listed = above + line.path
-            if listed not in self.nodes or self.nodes[listed].kind is not Kind.FILE:
+            if listed not in self.nodes or self.nodes[listed].kind is not FileType.FILE:
                 self.missing.append((listed, show(path)))
-            self._wanted.setdefault(listed, []).append(Wanted(line.sha256, show(path), node.address))
+            self._wanted.setdefault(listed, []).append(ExpectedFile(line.sha256, show(path), node.address))
 
     def look_at_manifests(self) -> None:
         """Finds the manifests that are not as other manifests or the ledger have them: what they say of files is doubtful."""
@@ -163,4 +163,4 @@ class Coverage:
         return {}
 
 
-__all__ = ["Coverage", "Wanted"]
+__all__ = ["Coverage", "ExpectedFile"]

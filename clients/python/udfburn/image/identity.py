@@ -18,7 +18,7 @@ from ..wire.connection import Connection, Lost
 if TYPE_CHECKING:
     from ..reader import Table, Volume
 
-PIECE = 256
+BLOCKS_AT_ONCE = 256
 """Blocks of a commit that are read at once."""
 
 

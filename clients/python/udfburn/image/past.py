@@ -10,7 +10,7 @@ import tempfile
 from contextlib import contextmanager
 from typing import Iterator, List, NamedTuple, Optional
 
-from ..base.beneath import Root, mode_for, open_medium, status_given
+from ..base.beneath import PIECE, Root, mode_for, open_medium, status_given
 from ..base.errors import ProgramFailed, UsageError
 from ..base.scratch import own_folder, sweep
 from ..protocol import limits
@@ -20,9 +20,7 @@ from ..wire.connection import run_program
 CLONE = 0x40049409
 """The call of Linux by which a file shares the blocks of another (FICLONE)."""
 
-PIECE = 1 << 20
-
-PREFIX = ".udfburn-front-"
+FRONT_PREFIX = ".udfburn-front-"
 """How the names of folders with a copy begin. The next reader removes those that killed ones left."""
 
 
@@ -83,9 +81,9 @@ def front(image: str, program: str, commit: Optional[Commit]) -> Iterator[str]:
     """A copy of the image as it was after a commit, or as it is now; gone at the end."""
     size = length_of(image) if commit is None else Size((last_block_of(image, program, commit) + 1) * limits.BLOCK)
     require_synced(image)
-    above = room(image) or tempfile.gettempdir()
-    sweep(above, PREFIX)
-    folder, lock = own_folder(above, PREFIX)
+    above = copy_folder(image) or tempfile.gettempdir()
+    sweep(above, FRONT_PREFIX)
+    folder, lock = own_folder(above, FRONT_PREFIX)
     try:
         with Root.open(folder) as root:
             copy_front(image, root.new_file(("front.img",), mode_for(status_given(image))), size)
@@ -120,7 +118,7 @@ def require_synced(image: str) -> None:
         os.close(descriptor)
 
 
-def room(image: str) -> Optional[str]:
+def copy_folder(image: str) -> Optional[str]:
     """Where the copy is made: beside the image, where blocks can be shared, or where temporary files are."""
     beside = os.path.dirname(os.path.abspath(image))
     return beside if os.access(beside, os.W_OK) else None

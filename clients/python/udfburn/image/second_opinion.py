@@ -13,7 +13,7 @@ from .newest import newest_state
 if TYPE_CHECKING:
     from ..reader import Note
 
-MOST = 20
+NOTES_PRINTED = 20
 """Notes that are printed for people, at most."""
 
 
@@ -39,7 +39,7 @@ def opinion_of(image: str) -> Opinion:
         return Opinion(volume.notes.all(), state.table.commit, medium.blocks - state.table.address - 1)
 
 
-def tell(image: str, opinion: Opinion, known: str, progress: Progress) -> int:
+def tell_opinion(image: str, opinion: Opinion, known: str, progress: Progress) -> int:
     """Says what the reader found, but of a block that is known already, and gives the status."""
     if opinion.loose:
         progress.note(
@@ -47,11 +47,11 @@ def tell(image: str, opinion: Opinion, known: str, progress: Progress) -> int:
             " short, or to one whose last block is damaged (--expect and --ledger show which)", did="loose", blocks=opinion.loose,
         )
     new = [note for note in opinion.notes if f": block {note.block}:" not in known]
-    for note in new[:MOST]:
+    for note in new[:NOTES_PRINTED]:
         progress.fail(Damaged(f"{shown(image)}: {note}"))
-    if len(new) > MOST:
-        progress.fail(f"{shown(image)}: and {len(new) - MOST} more, which 'salvage --list' names")
+    if len(new) > NOTES_PRINTED:
+        progress.fail(f"{shown(image)}: and {len(new) - NOTES_PRINTED} more, which 'salvage --list' names")
     return 1 if opinion.notes else 0
 
 
-__all__ = ["Opinion", "opinion_of", "tell"]
+__all__ = ["Opinion", "opinion_of", "tell_opinion"]

@@ -11,12 +11,12 @@ from typing import Dict, NamedTuple, Optional, Tuple, Union
 from ..base.split import stored_paths
 from ..protocol import Code, Kind, Path, path_of
 from ..protocol.units import Commit, Moment, Size
-from ..wire.operations import below
+from ..wire.operations import known_below
 from .ledger import Ledger
-from .records import Sent, Volume
+from .records import KnownVolume, Sent
 
 
-class Known(NamedTuple):
+class SentFile(NamedTuple):
     """A file as this ledger sent it: its bytes, its moment in microseconds from 1970-01-01 UTC, the SHA-256 of its data, and the
     commit and the number of the request that stored it."""
 
@@ -48,9 +48,9 @@ class Files:
     of the request that stored it, and by no other.
     """
 
-    def __init__(self, ledger: Ledger, volume: Volume):
-        self.now: Dict[Path, Known] = {}
-        self.by_commit: Dict[Commit, Known] = {}
+    def __init__(self, ledger: Ledger, volume: KnownVolume):
+        self.now: Dict[Path, SentFile] = {}
+        self.by_commit: Dict[Commit, SentFile] = {}
         self._wholes: Dict[Path, KnownWhole] = {}
         for sent in ledger.sent(volume):
             if sent.code == Code.DONE and sent.confirmed:
@@ -77,7 +77,7 @@ class Files:
         if sent.facts is None or sent.facts.sha256 is None or sent.commit is None:
             raise ValueError(f"request {sent.number} stored a file, and its digest or commit is not known")
         deed, whole = sent.facts.deed, sent.facts.whole
-        known = Known(deed.path, deed.size, deed.moment, sent.facts.sha256, sent.commit, sent.number)
+        known = SentFile(deed.path, deed.size, deed.moment, sent.facts.sha256, sent.commit, sent.number)
         self.now[deed.path] = self.by_commit[sent.commit] = known
         if whole is not None:
             parts = tuple(stored_paths(whole.path, whole.size, True))
@@ -90,17 +90,17 @@ class Files:
         deed, whole = sent.facts.deed, sent.facts.whole
         self._drop(deed.path)
         if whole is not None and whole.size == deed.size:
-            known = Known(deed.path, deed.size, deed.moment, whole.sha256, sent.commit, sent.number)
+            known = SentFile(deed.path, deed.size, deed.moment, whole.sha256, sent.commit, sent.number)
             self.now[deed.path] = self.by_commit[sent.commit] = known
 
     def _move(self, old: Path, new: Path) -> None:
-        for path in below(self.now, old):
+        for path in known_below(self.now, old):
             known = self.now.pop(path)
-            self.now[moved(path, old, new)] = known._replace(path=moved(path, old, new))
-        for path in below(self._wholes, old):
+            self.now[moved_path(path, old, new)] = known._replace(path=moved_path(path, old, new))
+        for path in known_below(self._wholes, old):
             whole = self._wholes.pop(path)
-            parts = tuple([moved(part, old, new) for part in whole.parts])
-            self._wholes[moved(path, old, new)] = whole._replace(path=moved(path, old, new), parts=parts)
+            parts = tuple([moved_path(part, old, new) for part in whole.parts])
+            self._wholes[moved_path(path, old, new)] = whole._replace(path=moved_path(path, old, new), parts=parts)
 
     def _drop(self, path: Path) -> None:
         self.now.pop(path, None)
@@ -112,7 +112,7 @@ class Files:
         return sum(part.size for part in parts if part) == whole.size and all(part and part.number <= whole.number for part in parts)
 
 
-def moved(path: Path, old: Path, new: Path) -> Path:
+def moved_path(path: Path, old: Path, new: Path) -> Path:
     """The path that a node has once `old` became `new`."""
     return new + path[len(old) :] if path[: len(old)] == old else path
 
@@ -123,4 +123,4 @@ def known_files(ledger: Ledger, way: Union[str, bytes]) -> Optional[Files]:
     return Files(ledger, volume) if volume is not None else None
 
 
-__all__ = ["Files", "Known", "KnownWhole", "known_files"]
+__all__ = ["Files", "KnownWhole", "SentFile", "known_files"]

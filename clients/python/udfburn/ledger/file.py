@@ -32,7 +32,7 @@ def lengthen(path: str, size: int) -> None:
         os.close(descriptor)
 
 
-def remove(path: str) -> None:
+def remove_if_there(path: str) -> None:
     """Removes a file that may be there."""
     try:
         os.unlink(path)
@@ -43,7 +43,7 @@ def remove(path: str) -> None:
 MAGIC = b"SQLite format 3\0"
 
 
-def is_there(path: str) -> bool:
+def is_ledger(path: str) -> bool:
     """Whether there is a file that may be a ledger. One without a byte is none yet; what is surely no ledger is an error."""
     try:
         status = os.stat(path)
@@ -59,7 +59,7 @@ def is_there(path: str) -> bool:
     return True
 
 
-def connect(path: str) -> sqlite3.Connection:
+def open_private_base(path: str) -> sqlite3.Connection:
     """A base, which nobody else reads but its user. Each of its transactions is durable at its end."""
     old = os.umask(0o077)
     try:
@@ -111,8 +111,8 @@ class Lock:
     def close(self, needless: bool = False) -> None:
         """Gives the lock to others. Where it was needless its file goes, if it was made for it."""
         if needless and self.made:
-            remove(self.path)
+            remove_if_there(self.path)
         os.close(self.descriptor)
 
 
-__all__ = ["Lock", "await_lock", "connect", "default_path", "is_there", "lengthen", "remove"]
+__all__ = ["Lock", "await_lock", "default_path", "is_ledger", "lengthen", "open_private_base", "remove_if_there"]

@@ -17,23 +17,23 @@ from ..base.durable import make_folder, sync_file, sync_folder
 from ..base.errors import LedgerError
 from ..protocol import Kind, limits
 from ..protocol.units import Commit
-from .file import Lock, connect, default_path, is_there, lengthen, remove
+from .file import Lock, default_path, is_ledger, lengthen, open_private_base, remove_if_there
 from .records import (
-    FACTS, GIVEN_UP, ORIGIN, Identity, Mark, Pending, Reply, Sent, Volume, facts_row, origin_row, row_facts, row_origin,
+    FACTS, GIVEN_UP, ORIGIN, Identity, KnownVolume, Mark, Pending, Reply, Sent, facts_row, origin_row, row_facts, row_origin,
 )
-from .schema import APPENDED, SCHEMA, VERSION, statements, upgrade
+from .schema import APPENDED, LEDGER_VERSION, SCHEMA, statements, upgrade
 
-LAST = (1 << 63) - 1
+GREATEST_NUMBER = (1 << 63) - 1
 """The greatest number that the ledger's columns hold."""
 
-LATEST = """
+SELECT_LATEST = """
 SELECT max(latest, coalesce(
     (SELECT number FROM request WHERE volume = volume.id AND code IS NOT NULL ORDER BY number DESC LIMIT 1), 0))
 """
 """The latest number with a reply: that which was learnt, or a later one."""
 
-VOLUME = f"""
-SELECT id, volume.way, ({LATEST}), unsettled, label, formatted, capacity, mark_commit, mark_address, mark_check FROM volume
+SELECT_VOLUMES = f"""
+SELECT id, volume.way, ({SELECT_LATEST}), unsettled, label, formatted, capacity, mark_commit, mark_address, mark_check FROM volume
 """
 
 BOUND = "INSERT INTO way VALUES (?, ?) ON CONFLICT (way) DO UPDATE SET volume = excluded.volume"
@@ -56,13 +56,13 @@ SET payload = excluded.payload, {', '.join(f'{name} = excluded.{name}' for name 
 
 NO_ORIGIN = f"UPDATE frame SET {', '.join(f'{name} = ?' for name in ORIGIN)} WHERE id = ?"
 
-ASKED = f"INSERT INTO request (volume, number, path, {', '.join(FACTS)}) VALUES (?, ?, ?{', ?' * len(FACTS)})"
+INSERT_REQUEST = f"INSERT INTO request (volume, number, path, {', '.join(FACTS)}) VALUES (?, ?, ?{', ?' * len(FACTS)})"
 
 SENT_COLUMNS = ("number", "path", "code", "commit_number", "confirmed", *FACTS)
 
 NEWER = "UPDATE ledger SET version = ? WHERE version < ?"
 
-SENT = f"SELECT {', '.join(SENT_COLUMNS)} FROM request"
+SELECT_SENT = f"SELECT {', '.join(SENT_COLUMNS)} FROM request"
 
 LAST_COMMIT = """
 SELECT max(coalesce((SELECT commit_number FROM request WHERE volume = ? AND code IS NOT NULL ORDER BY number DESC LIMIT 1), 0),
@@ -81,17 +81,17 @@ class Ledger:
 
     def __init__(self, path: str, client: Optional[int] = None, wait: float = 10.0):
         self.path = os.path.realpath(path)
-        is_there(self.path)
+        is_ledger(self.path)
         make_folder(os.path.dirname(self.path))
         self._lock = Lock(self.path, wait)
         try:
-            if not is_there(self.path):
+            if not is_ledger(self.path):
                 self._make(client)
             self._base, self.client = self._open(client)
             # About the pages that the log has, and whether it has room for all that it gets.
             self._logged = 0
             self._roomy = False
-            self._foreseen: Optional[Tuple[Volume, Sequence[Reply], Sequence[Pending]]] = None
+            self._foreseen: Optional[Tuple[KnownVolume, Sequence[Reply], Sequence[Pending]]] = None
         except BaseException:
             # A ledger that was made is there, and one that is there has its lock.
             self._lock.close(needless=True)
@@ -115,7 +115,7 @@ class Ledger:
             raise self._unusable(error) from error
 
     def _begin(self, wanted: Optional[int]) -> Tuple[sqlite3.Connection, Optional[int]]:
-        base = connect(self.path)
+        base = open_private_base(self.path)
         try:
             client = self._client(base, wanted)
             if client is not None:
@@ -145,19 +145,19 @@ class Ledger:
             raise LedgerError(
                 f"{self.path}: is the ledger of client {client}, not {wanted}: leave --client out, or name another ledger"
             )
-        if version < VERSION:
+        if version < LEDGER_VERSION:
             upgrade(base, version)
         return number
 
     def _make(self, wanted: Optional[int]) -> None:
         """Makes the ledger under another name, and gives it its own once it is whole and durable."""
-        client = 1 + int.from_bytes(os.urandom(8), "little") % LAST if wanted is None else wanted
+        client = 1 + int.from_bytes(os.urandom(8), "little") % GREATEST_NUMBER if wanted is None else wanted
         if not 0 < client <= limits.U64:
             raise LedgerError(f"{client} is not a client number: give one from 1 to {limits.U64}")
         new = self.path + ".new"
         # What an earlier making left; and a log without its base, which SQLite would take for the new one's.
         for path in (new, new + "-journal", new + "-wal", self.path + "-journal", self.path + "-wal"):
-            remove(path)
+            remove_if_there(path)
         try:
             self._fill(new, client)
             sync_file(new)
@@ -165,19 +165,19 @@ class Ledger:
         except sqlite3.Error as error:
             raise self._unusable(error) from error
         finally:
-            remove(new)
+            remove_if_there(new)
         sync_folder(os.path.dirname(self.path))
 
     def _fill(self, new: str, client: int) -> None:
         """Writes a ledger that has no request yet."""
-        base = connect(new)
+        base = open_private_base(new)
         try:
             # A making that is cut short is thrown away, so nothing of it has to be undone.
             base.execute("PRAGMA journal_mode = MEMORY")
             base.execute("BEGIN IMMEDIATE")
             for statement in statements(SCHEMA):
                 base.execute(statement)
-            base.execute("INSERT INTO ledger VALUES (?, ?)", (VERSION, str(client)))
+            base.execute("INSERT INTO ledger VALUES (?, ?)", (LEDGER_VERSION, str(client)))
             base.execute("COMMIT")
             base.execute("PRAGMA journal_mode = WAL")
         finally:
@@ -202,17 +202,17 @@ class Ledger:
 
     # ---- volumes
 
-    def volume(self, way: Union[str, bytes]) -> Optional[Volume]:
+    def volume(self, way: Union[str, bytes]) -> Optional[KnownVolume]:
         """The volume that is at this way."""
         found = self._volumes("JOIN way ON way.volume = volume.id WHERE way.way = ?", way)
         return found[0] if found else None
 
-    def volumes(self) -> List[Volume]:
+    def volumes(self) -> List[KnownVolume]:
         """All volumes that were met, the first one first."""
         return self._volumes("ORDER BY id")
 
-    def _volumes(self, where: str, *values: object) -> List[Volume]:
-        return [volume_of(row) for row in self._rows(f"{VOLUME} {where}", *values)]
+    def _volumes(self, where: str, *values: object) -> List[KnownVolume]:
+        return [volume_of(row) for row in self._rows(f"{SELECT_VOLUMES} {where}", *values)]
 
     def _rows(self, statement: str, *values: object) -> List[Any]:
         """The rows that a statement gives."""
@@ -222,14 +222,14 @@ class Ledger:
         except sqlite3.Error as error:
             raise self._unusable(error) from error
 
-    def ways(self, volume: Volume) -> List[Union[str, bytes]]:
+    def ways(self, volume: KnownVolume) -> List[Union[str, bytes]]:
         """The ways that lead to a volume."""
         return [way for (way,) in self._rows("SELECT way FROM way WHERE volume = ? ORDER BY way", volume.id)]
 
-    def learn(self, way: Union[str, bytes], latest: int, replies: Mapping[int, Tuple[int, Commit]] = {}) -> Volume:
+    def learn(self, way: Union[str, bytes], latest: int, replies: Mapping[int, Tuple[int, Commit]] = {}) -> KnownVolume:
         """Keeps a volume that is met for the first time: the number that it knows of this client, and the codes and commits of the
         replies that it keeps, by their numbers."""
-        if latest >= LAST - limits.REPLIES:
+        if latest >= GREATEST_NUMBER - limits.REPLIES:
             raise LedgerError(f"client {self.client} has no numbers left: use a new ledger")
         with self._transaction():
             made = self._base.execute("INSERT INTO volume (way, latest, made) VALUES (?, ?, ?)", (way, latest, time.time())).lastrowid
@@ -240,13 +240,13 @@ class Ledger:
             raise RuntimeError("the volume that was just added is not in the ledger")
         return found
 
-    def bind(self, way: Union[str, bytes], volume: Volume) -> Volume:
+    def bind(self, way: Union[str, bytes], volume: KnownVolume) -> KnownVolume:
         """Keeps that a way leads to a volume that is known."""
         with self._transaction():
             self._base.execute(BOUND, (way, volume.id))
         return volume
 
-    def take_over(self, volume: Volume, latest: int, replies: Mapping[int, Tuple[int, Commit]]) -> Volume:
+    def take_over(self, volume: KnownVolume, latest: int, replies: Mapping[int, Tuple[int, Commit]]) -> KnownVolume:
         """Goes on at the number that a volume knows, where requests that this ledger has no reply of are given up."""
         with self._transaction():
             self._base.execute("DELETE FROM request WHERE volume = ? AND code IS NULL", (volume.id,))
@@ -256,7 +256,7 @@ class Ledger:
             self._base.executemany("INSERT OR REPLACE INTO found VALUES (?, ?, ?, ?)", rows)
         return self._volumes("WHERE id = ?", volume.id)[0]
 
-    def identify(self, volume: Volume, identity: Identity, mark: Mark) -> Volume:
+    def identify(self, volume: KnownVolume, identity: Identity, mark: Mark) -> KnownVolume:
         """Keeps what an image says of itself, and a commit by which it is known again."""
         if (volume.identity, volume.mark) == (identity, mark):
             return volume
@@ -264,30 +264,30 @@ class Ledger:
             self._base.execute(IDENTIFIED, (*identity, *mark, volume.id))
         return self._volumes("WHERE id = ?", volume.id)[0]
 
-    def begun(self, volume: Volume) -> int:
+    def begun(self, volume: KnownVolume) -> int:
         """The number that the volume knew of this client when it was first met."""
         return int(self._rows("SELECT latest FROM volume WHERE id = ?", volume.id)[0][0])
 
-    def found(self, volume: Volume) -> Dict[int, Tuple[int, Commit]]:
+    def found(self, volume: KnownVolume) -> Dict[int, Tuple[int, Commit]]:
         """Code and commit of each reply that the volume kept when it was first met, by number."""
         rows = self._rows("SELECT number, code, commit_number FROM found WHERE volume = ?", volume.id)
         return {number: (code, commit) for number, code, commit in rows}
 
     # ---- requests
 
-    def pending(self, volume: Volume) -> List[Pending]:
+    def pending(self, volume: KnownVolume) -> List[Pending]:
         """The requests without a reply, in order of their numbers."""
         return [pending_of(row) for row in self._rows(PENDING, volume.id)]
 
-    def latest(self, volume: Volume) -> int:
+    def latest(self, volume: KnownVolume) -> int:
         """The number of the last request with a reply."""
-        return int(self._rows(f"SELECT ({LATEST}) FROM volume WHERE id = ?", volume.id)[0][0])
+        return int(self._rows(f"SELECT ({SELECT_LATEST}) FROM volume WHERE id = ?", volume.id)[0][0])
 
-    def last_commit(self, volume: Volume) -> Commit:
+    def last_commit(self, volume: KnownVolume) -> Commit:
         """The greatest commit that was acknowledged."""
         return Commit(int(self._rows(LAST_COMMIT, volume.id, volume.id)[0][0] or 0))
 
-    def record(self, volume: Volume, replies: Sequence[Reply], requests: Sequence[Pending]) -> None:
+    def record(self, volume: KnownVolume, replies: Sequence[Reply], requests: Sequence[Pending]) -> None:
         """Keeps replies that came and requests that are to be sent, as one: durable when it returns."""
         if not replies and not requests:
             return
@@ -299,7 +299,7 @@ class Ledger:
         with self._transaction():
             self._write(volume, replies, requests)
 
-    def foresee(self, volume: Volume, replies: Sequence[Reply], requests: Sequence[Pending]) -> None:
+    def foresee(self, volume: KnownVolume, replies: Sequence[Reply], requests: Sequence[Pending]) -> None:
         """Begins what `record` is likely to be given next, while there is time. Nothing of it is kept before `record` is given the
         same; whatever else is done with the ledger first sets it back."""
         self.set_back()
@@ -334,12 +334,12 @@ class Ledger:
             if self._base.in_transaction:
                 self._base.execute("ROLLBACK")
 
-    def _write(self, volume: Volume, replies: Sequence[Reply], requests: Sequence[Pending]) -> None:
+    def _write(self, volume: KnownVolume, replies: Sequence[Reply], requests: Sequence[Pending]) -> None:
         self._base.executemany(
             "UPDATE request SET code = ?, commit_number = ?, confirmed = ? WHERE volume = ? AND number = ?",
             [(int(r.code), r.commit, r.confirmed, volume.id, r.number) for r in replies],
         )
-        self._base.executemany(ASKED, [(volume.id, r.number, r.path, *facts_row(r.facts)) for r in requests])
+        self._base.executemany(INSERT_REQUEST, [(volume.id, r.number, r.path, *facts_row(r.facts)) for r in requests])
         self._base.executemany(KEPT_FRAME, [(volume.id * 4 + r.number % 4, r.payload, *origin_row(r.origin)) for r in requests])
         if any(r.facts is not None and r.facts.deed.kind is Kind.APPEND for r in requests):
             self._base.execute(NEWER, (APPENDED, APPENDED))
@@ -366,26 +366,26 @@ class Ledger:
         except sqlite3.Error as error:
             raise self._unusable(error) from error
 
-    def confirm(self, volume: Volume, numbers: Iterable[int]) -> None:
+    def confirm(self, volume: KnownVolume, numbers: Iterable[int]) -> None:
         """Marks replies as those that the tree agrees with."""
         with self._transaction():
             self._base.executemany(
                 "UPDATE request SET confirmed = 1 WHERE volume = ? AND number = ?", [(volume.id, number) for number in numbers]
             )
 
-    def withdraw(self, volume: Volume) -> List[Pending]:
+    def withdraw(self, volume: KnownVolume) -> List[Pending]:
         """Takes out the requests without a reply, which are known to be committed never; gives them."""
         gone = self.pending(volume)
         with self._transaction():
             self._base.execute("DELETE FROM request WHERE volume = ? AND code IS NULL", (volume.id,))
         return gone
 
-    def give_up(self, volume: Volume, waiting: Iterable[Pending]) -> None:
+    def give_up(self, volume: KnownVolume, waiting: Iterable[Pending]) -> None:
         """Records that the data of pending requests is no longer looked for, whatever is found at its place later."""
         with self._transaction():
             self._base.executemany(NO_ORIGIN, [(*origin_row(GIVEN_UP), volume.id * 4 + pending.number % 4) for pending in waiting])
 
-    def take(self, volume: Volume, other: "MemoryLedger") -> None:
+    def take(self, volume: KnownVolume, other: "MemoryLedger") -> None:
         """Keeps all that a ledger in memory has of a volume, as one: requests, their replies, and the commit that it is known by."""
         theirs, *_ = other.volumes()
         columns = ", ".join(SENT_COLUMNS)
@@ -399,13 +399,13 @@ class Ledger:
             if theirs.identity is not None and theirs.mark is not None:
                 self._base.execute(IDENTIFIED, (*theirs.identity, *theirs.mark, volume.id))
 
-    def history(self, volume: Volume) -> List[Tuple[int, str, Optional[int], Optional[Commit], bool]]:
+    def history(self, volume: KnownVolume) -> List[Tuple[int, str, Optional[int], Optional[Commit], bool]]:
         """Each request that is kept: number, path, code, commit, and whether the tree agreed."""
         return [(sent.number, sent.path, sent.code, sent.commit, sent.confirmed) for sent in self.sent(volume)]
 
-    def sent(self, volume: Volume, after: int = 0) -> List[Sent]:
+    def sent(self, volume: KnownVolume, after: int = 0) -> List[Sent]:
         """Each request that is kept above a number, in order of the numbers."""
-        rows = self._rows(f"{SENT} WHERE volume = ? AND number > ? ORDER BY number", volume.id, after)
+        rows = self._rows(f"{SELECT_SENT} WHERE volume = ? AND number > ? ORDER BY number", volume.id, after)
         return [Sent(n, path, row_facts(path, facts), code, commit, bool(ok)) for n, path, code, commit, ok, *facts in rows]
 
 
@@ -418,7 +418,7 @@ class MemoryLedger(Ledger):
         self._base = sqlite3.connect(self.path, isolation_level=None)
         for statement in statements(SCHEMA):
             self._base.execute(statement)
-        self._base.execute("INSERT INTO ledger VALUES (?, ?)", (VERSION, str(client)))
+        self._base.execute("INSERT INTO ledger VALUES (?, ?)", (LEDGER_VERSION, str(client)))
         # There is no log to make room in, or to take over.
         self._logged, self._roomy = 0, True
         self._foreseen = None
@@ -432,12 +432,12 @@ class MemoryLedger(Ledger):
         self._base.close()
 
 
-def volume_of(row: Sequence[Any]) -> Volume:
+def volume_of(row: Sequence[Any]) -> KnownVolume:
     """The volume of a row."""
     number, way, latest, unsettled, label, formatted, capacity, commit, address, check = row
     identity = None if label is None else Identity(label, formatted, capacity)
     mark = None if check is None else Mark(commit, address, check)
-    return Volume(number, way, latest, bool(unsettled), identity, mark)
+    return KnownVolume(number, way, latest, bool(unsettled), identity, mark)
 
 
 def pending_of(row: Sequence[Any]) -> Pending:
@@ -446,4 +446,4 @@ def pending_of(row: Sequence[Any]) -> Pending:
     return Pending(number, payload, path, row_facts(path, tuple(rest[: len(FACTS)])), row_origin(tuple(rest[len(FACTS) :])))
 
 
-__all__ = ["LOG_BYTES", "Ledger", "Lock", "MemoryLedger", "Pending", "Reply", "Volume", "default_path"]
+__all__ = ["KnownVolume", "LOG_BYTES", "Ledger", "Lock", "MemoryLedger", "Pending", "Reply", "default_path"]

@@ -30,7 +30,7 @@ def ledger_to_read(path: str, wait: float) -> Iterator[Ledger]:
             if error.errno not in NOT_WRITABLE:
                 raise
             folder = stack.enter_context(TemporaryDirectory(prefix="udfburn-ledger-"))
-            with unchanged(path, wait):
+            with without_writers(path, wait):
                 copy = copied(path, folder)
             ledger = opened_copy(path, copy)
         stack.callback(ledger.close)
@@ -38,7 +38,7 @@ def ledger_to_read(path: str, wait: float) -> Iterator[Ledger]:
 
 
 @contextmanager
-def unchanged(path: str, wait: float) -> Iterator[None]:
+def without_writers(path: str, wait: float) -> Iterator[None]:
     """Keeps out processes that can write the ledger, as those outside of a container for which it is read-only."""
     try:
         descriptor = os.open(path + ".lock", os.O_RDONLY | os.O_CLOEXEC)

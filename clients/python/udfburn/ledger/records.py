@@ -35,7 +35,7 @@ class Mark(NamedTuple):
         return f"commit {self.commit} at block {self.address}, SHA-256 {self.check.hex()[:16]}.."
 
 
-class Volume(NamedTuple):
+class KnownVolume(NamedTuple):
     """A volume as the ledger knows it: the way by which it was first met, and `latest`, the number of the last request with a reply.
 
     `identity` and `mark` are known once it was met as an image. `unsettled` says that a ledger of version 1 had it, which kept one
@@ -110,7 +110,7 @@ def digest(data: bytes) -> bytes:
     return sha256(data).digest()
 
 
-LARGE = 1 << 14
+LARGE_DATA = 1 << 14
 """Bytes of data from which on a ledger keeps where the data can be read again, and its digest, in place of the data. To keep it would
 write it twice more, to the ledger's log and to the ledger, which have pages of 4 KiB: from four of them on an import takes a fifth to a
 half longer for that. Less is kept whole, since then a repeat needs no other file."""
@@ -168,6 +168,6 @@ def row_facts(path: str, row: "tuple[object, ...]") -> Optional[Facts]:
 
 
 __all__ = [
-    "FACTS", "Facts", "GIVEN_UP", "Identity", "LARGE", "Mark", "ORIGIN", "Pending", "Reply", "Sent", "Volume", "digest", "facts_of", "facts_row",
+    "FACTS", "Facts", "GIVEN_UP", "Identity", "KnownVolume", "LARGE_DATA", "Mark", "ORIGIN", "Pending", "Reply", "Sent", "digest", "facts_of", "facts_row",
     "origin_row", "row_facts", "row_origin",
 ]

@@ -7,7 +7,7 @@ import sqlite3
 from ..protocol import Fault, Request, decode_message, limits
 from .records import FACTS, facts_of, facts_row
 
-VERSION = 3
+LEDGER_VERSION = 3
 """The version of the tables that this program makes."""
 
 APPENDED = 4
@@ -119,7 +119,7 @@ def upgrade(base: sqlite3.Connection, version: int) -> None:
             keep_facts(base)
         for statement in statements(ORIGINS):
             base.execute(statement)
-        base.execute("UPDATE ledger SET version = ?", (VERSION,))
+        base.execute("UPDATE ledger SET version = ?", (LEDGER_VERSION,))
         base.execute("COMMIT")
     finally:
         if base.in_transaction:
@@ -138,4 +138,4 @@ def keep_facts(base: sqlite3.Connection) -> None:
             base.execute(f"UPDATE request SET {setting} WHERE volume = ? AND number = ?", (*facts_row(facts_of(message)), volume, number))
 
 
-__all__ = ["APPENDED", "SCHEMA", "VERSION", "statements", "upgrade"]
+__all__ = ["APPENDED", "LEDGER_VERSION", "SCHEMA", "statements", "upgrade"]

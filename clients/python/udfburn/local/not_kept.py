@@ -47,7 +47,7 @@ class NotKept:
         return {name: count for name, count in vars(self).items() if not name.startswith("_") and count}
 
 
-WORDS = {
+NOT_KEPT_WORDS = {
     "modes": "the modes of {}",
     "owners": "the owners of {}",
     "hard_links": "the hard links of {} (each name is a file of its own)",
@@ -65,7 +65,7 @@ def line(counts: Dict[str, int]) -> str:
     """What is not kept, in one line."""
     from ..base.progress import plural
 
-    return "not kept: " + ", ".join(WORDS[name].format(plural(count, *NOUNS[name])) for name, count in counts.items())
+    return "not kept: " + ", ".join(NOT_KEPT_WORDS[name].format(plural(count, *NOUNS[name])) for name, count in counts.items())
 
 
 __all__ = ["NotKept", "current_umask", "line"]

@@ -13,7 +13,7 @@ import stat
 from contextlib import contextmanager, suppress
 from typing import Callable, Dict, Iterable, Iterator, List, NamedTuple, Optional
 
-from ..base.beneath import Names, NotFollowed, Place, Root, folder_mode, place_of
+from ..base.beneath import NotFollowed, Place, RelativePath, Root, folder_mode, place_of
 from ..base.disk import is_full, sync_all
 from ..base.errors import DiskFull, SourceError
 from ..base.locks import lock_or_close, try_lock
@@ -22,24 +22,24 @@ from ..protocol import shown
 from ..protocol.units import Moment
 from .sources import odd
 
-FILES, BYTES = 128, 1 << 26
+SYNCED_FILES, SYNCED_BYTES = 128, 1 << 26
 """Files that are synchronised at once, and their bytes."""
 
 UNNAMED: int = getattr(os, "O_TMPFILE", 0)
 
-PREFIX = ".udfburn-"
+SAVING_PREFIX = ".udfburn-"
 """How the name of a file begins that is being written."""
 
 UNABLE = (errno.EOPNOTSUPP, errno.EISDIR, errno.EINVAL, errno.ENOENT)
 """The errors of a file system or a kernel that has no files without a name."""
 
 
-class Written(NamedTuple):
+class UnnamedFile(NamedTuple):
     """A file that is written and has not its name yet: its descriptor, the path that it has meanwhile, its own, and its bytes."""
 
     descriptor: int
-    temporary: Optional[Names]
-    names: Names
+    temporary: Optional[RelativePath]
+    names: RelativePath
     size: int
     named: Callable[[int], None]
 
@@ -51,9 +51,9 @@ class Saver:
     def __init__(self, root: Root, force: bool, mode: int = 0o666):
         self.root, self.force, self.mode = root, force, mode
         self.failures: List[str] = []
-        self._written: List[Written] = []
+        self._written: List[UnnamedFile] = []
         self._bytes = 0
-        self._folders: Dict[Names, None] = {}
+        self._folders: Dict[RelativePath, None] = {}
         self._above = False
 
     def __enter__(self) -> "Saver":
@@ -64,12 +64,12 @@ class Saver:
             self._drop(written)
         self._written = []
 
-    def save(self, names: Names, parts: Iterable[bytes], moment: Optional[Moment], named: Callable[[int], None]) -> None:
+    def save(self, names: RelativePath, parts: Iterable[bytes], moment: Optional[Moment], named: Callable[[int], None]) -> None:
         """Writes a file. `named` is called with its bytes once it has its name."""
         self._require_place(names)
         with full_disk(self.root.local(names)):
             descriptor, temporary = self._open_new(names)
-            written = Written(descriptor, temporary, names, 0, named)
+            written = UnnamedFile(descriptor, temporary, names, 0, named)
             try:
                 count = sum(write_all(descriptor, part) for part in parts)
                 if moment is not None:
@@ -79,17 +79,17 @@ class Saver:
                 raise
         self._written.append(written._replace(size=count))
         self._bytes += count
-        if len(self._written) >= FILES or self._bytes >= BYTES:
+        if len(self._written) >= SYNCED_FILES or self._bytes >= SYNCED_BYTES:
             self.flush()
 
-    def make_folder(self, names: Names) -> None:
+    def make_folder(self, names: RelativePath) -> None:
         """Makes a folder with those above it. All their names are durable at the end, and that of the root."""
         self._above = True
         with self.root.at(names, folder_mode(self.mode)):
             for depth in range(len(names) + 1):
                 self.folder(names[:depth])
 
-    def folder(self, names: Names) -> None:
+    def folder(self, names: RelativePath) -> None:
         """Has the names in a folder made durable at the end."""
         self._folders[names] = None
 
@@ -103,12 +103,12 @@ class Saver:
                 self._name(self._written[0])
         self._bytes = 0
 
-    def _name(self, written: Written) -> None:
+    def _name(self, written: UnnamedFile) -> None:
         """Gives the first of the files its name. One whose name another has by now is a failure."""
         try:
             self._give_name(written)
         except (SourceError, NotFollowed) as error:
-            self.failures.append(why_not_written(self.root, written.names, error))
+            self.failures.append(failure_line(self.root, written.names, error))
             self._drop(self._written.pop(0))
             return
         self._written.pop(0)
@@ -138,17 +138,17 @@ class Saver:
 
     # ---- one file
 
-    def _require_place(self, names: Names) -> None:
+    def _require_place(self, names: RelativePath) -> None:
         """Raises where a file may not have its name."""
         status, local = self.root.find(names), self.root.local(names)
         if status is None:
             return
         if not self.force:
-            raise taken(local)
+            raise name_taken(local)
         if not stat.S_ISREG(status.st_mode) and not stat.S_ISLNK(status.st_mode):
             raise SourceError(f"{shown(local)}: is {'a folder' if stat.S_ISDIR(status.st_mode) else odd(status)}, and is not replaced")
 
-    def _open_new(self, names: Names) -> "tuple[int, Optional[Names]]":
+    def _open_new(self, names: RelativePath) -> "tuple[int, Optional[RelativePath]]":
         """A new file without a name, or with one that follows from its own."""
         if UNNAMED and os.path.isdir("/proc/self/fd"):
             try:
@@ -164,14 +164,14 @@ class Saver:
             raise busy(self.root, temporary)
         return descriptor, temporary
 
-    def _give_name(self, written: Written) -> None:
+    def _give_name(self, written: UnnamedFile) -> None:
         """Gives a file its name; if asked to, in the place of an existing file."""
         names, temporary = written.names, written.temporary
         if temporary is None and not (self.force and self.root.find(names) is not None):
             try:
                 return self.root.link_open(written.descriptor, names)
             except FileExistsError:
-                raise taken(self.root.local(names)) from None
+                raise name_taken(self.root.local(names)) from None
         if temporary is None:
             # A file is replaced by a name alone.
             temporary = names[:-1] + (temporary_name(names[-1]),)
@@ -187,7 +187,7 @@ class Saver:
                 self.root.unlink(temporary)
             raise
 
-    def _name_new(self, made: Names, names: Names) -> None:
+    def _name_new(self, made: RelativePath, names: RelativePath) -> None:
         """Gives a file a name that nothing has yet."""
         try:
             try:
@@ -201,9 +201,9 @@ class Saver:
             else:
                 self.root.unlink(made)
         except FileExistsError:
-            raise taken(self.root.local(names)) from None
+            raise name_taken(self.root.local(names)) from None
 
-    def _drop(self, written: Written) -> None:
+    def _drop(self, written: UnnamedFile) -> None:
         """Closes a file, and removes the name that it had meanwhile."""
         if written.temporary is not None:
             with suppress(FileNotFoundError, NotFollowed):
@@ -224,12 +224,12 @@ def full_disk(local: str) -> Iterator[None]:
         ) from error
 
 
-def why_not_written(root: Root, names: Names, error: Exception) -> str:
+def failure_line(root: Root, names: RelativePath, error: Exception) -> str:
     """The line of a file that was not written."""
     return f"{shown(root.local(names))}: {error.strerror}" if isinstance(error, OSError) else str(error)
 
 
-def taken(local: str) -> SourceError:
+def name_taken(local: str) -> SourceError:
     """What is said where another file has the name."""
     return SourceError(f"{shown(local)}: already exists (--force replaces it)")
 
@@ -238,10 +238,10 @@ def temporary_name(name: str) -> str:
     """The name that a file has while it is written, where it has one: always the same one."""
     from hashlib import sha256
 
-    return PREFIX + sha256(os.fsencode(name)).hexdigest()[:16]
+    return SAVING_PREFIX + sha256(os.fsencode(name)).hexdigest()[:16]
 
 
-def remove_left(root: Root, temporary: Names) -> None:
+def remove_left(root: Root, temporary: RelativePath) -> None:
     """Removes what a killed run left under the name of a file that is being written. Raises where a run is at it."""
     try:
         descriptor = root.open_file(temporary)
@@ -261,7 +261,7 @@ def remove_left(root: Root, temporary: Names) -> None:
         os.close(descriptor)
 
 
-def busy(root: Root, temporary: Names) -> SourceError:
+def busy(root: Root, temporary: RelativePath) -> SourceError:
     """The name of a file that is being written is another process's."""
     return SourceError(f"{shown(root.local(temporary))}: another process is writing it")
 
@@ -274,11 +274,11 @@ def write_all(descriptor: int, data: bytes) -> int:
     return len(data)
 
 
-def remove_leftovers(root: Root, at: Names, names: Iterable[str]) -> None:
+def remove_leftovers(root: Root, at: RelativePath, names: Iterable[str]) -> None:
     """Removes what a killed run left of files of these names in a folder."""
     wanted = set(names)
     with suppress(FileNotFoundError):
-        there = [name for name in root.names_in(at) if name.startswith(PREFIX) and name not in wanted]
+        there = [name for name in root.names_in(at) if name.startswith(SAVING_PREFIX) and name not in wanted]
         if there:
             left = {temporary_name(name) for name in wanted}
             for name in there:
@@ -326,4 +326,4 @@ def require_own(local: str, begin: "tuple[bytes, ...]", what: str) -> None:
     raise SourceError(f"{shown(local)}: already exists, and is not {what} of this command")
 
 
-__all__ = ["Saver", "remove_leftovers", "require_own", "save", "save_at", "why_not_written", "write_all", "write_file"]
+__all__ = ["Saver", "failure_line", "remove_leftovers", "require_own", "save", "save_at", "write_all", "write_file"]

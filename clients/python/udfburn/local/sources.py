@@ -20,7 +20,7 @@ from ..wire.operations import Origin, clamped
 from .not_kept import NotKept
 
 
-class Identity(NamedTuple):
+class FileIdentity(NamedTuple):
     """What shows whether a file is the one that was seen, as it was then."""
 
     device: int
@@ -30,10 +30,10 @@ class Identity(NamedTuple):
     changed: Optional[int]
 
     @staticmethod
-    def of(status: os.stat_result) -> "Identity":
+    def of(status: os.stat_result) -> "FileIdentity":
         # A link of the same file that goes changes the time of the others, so it says nothing about them.
         changed = status.st_ctime_ns if status.st_nlink == 1 else None
-        return Identity(status.st_dev, status.st_ino, Size(status.st_size), status.st_mtime_ns, changed)
+        return FileIdentity(status.st_dev, status.st_ino, Size(status.st_size), status.st_mtime_ns, changed)
 
     def still(self, status: os.stat_result) -> bool:
         """Whether a file is the one that was seen, and did not change since."""
@@ -49,7 +49,7 @@ class Source(NamedTuple):
 
     place: Place
     path: Path
-    identity: Identity
+    identity: FileIdentity
 
     @property
     def local(self) -> str:
@@ -90,7 +90,7 @@ class Scan:
         self.not_kept = NotKept()
 
 
-KINDS = (
+ODD_KINDS = (
     (stat.S_ISLNK, "a symbolic link"), (stat.S_ISFIFO, "a named pipe"), (stat.S_ISSOCK, "a socket"),
     (stat.S_ISBLK, "a block device"), (stat.S_ISCHR, "a character device"),
 )
@@ -98,7 +98,7 @@ KINDS = (
 
 def odd(status: os.stat_result) -> str:
     """What a node is that is neither file nor folder."""
-    return next((text for test, text in KINDS if test(status.st_mode)), "no regular file")
+    return next((text for test, text in ODD_KINDS if test(status.st_mode)), "no regular file")
 
 
 def why_not(name: str) -> Optional[str]:
@@ -129,7 +129,7 @@ def scan_place(place: Place, path: Path, recursive: bool, skip_odd: bool, into: 
     """Adds what is at a place."""
     local = place.local()
     if stat.S_ISREG(status.st_mode):
-        into.files.append(Source(place, path, Identity.of(status)))
+        into.files.append(Source(place, path, FileIdentity.of(status)))
         into.not_kept.add_file(status)
     elif not stat.S_ISDIR(status.st_mode):
         leave(local, f"is {odd(status)}", "--skip-odd leaves it out", skip_odd, into)
@@ -194,7 +194,7 @@ def await_tick(status: os.stat_result) -> None:
         time.sleep((tick - age) / 1e9)
 
 
-def unchanged(source: Source, status: os.stat_result) -> None:
+def require_unchanged(source: Source, status: os.stat_result) -> None:
     """Raises where a file is not the one that was seen, or is not as it was."""
     if not stat.S_ISREG(status.st_mode) or not source.identity.still(status):
         raise SourceChanged(f"{shown(source.local)}: changed while it was read, or after it was first seen: store it again")
@@ -223,13 +223,13 @@ def read_parts(source: Source) -> Generator[bytes, None, None]:
         descriptor = open_source(source)
         try:
             status = os.fstat(descriptor)
-            unchanged(source, status)
+            require_unchanged(source, status)
             await_tick(status)
             while True:
                 part = exactly(descriptor, min(left, limits.FILE))
                 left -= len(part)
                 if not left or len(part) < limits.FILE:
-                    unchanged(source, os.fstat(descriptor))
+                    require_unchanged(source, os.fstat(descriptor))
                     if left or os.read(descriptor, 1):
                         raise SourceChanged(f"{shown(source.local)}: has another size than it says")
                     break
@@ -268,9 +268,9 @@ def data_again(origin: Origin, count: int, sha256: bytes) -> Optional[bytes]:
 def delete(source: Source) -> None:
     """Deletes a file, where it is the one that was read, as it was then."""
     try:
-        source.place.root.unlink(source.place.names, lambda status: unchanged(source, status))
+        source.place.root.unlink(source.place.names, lambda status: require_unchanged(source, status))
     except OSError as error:
         raise SourceError(f"{shown(source.local)}: {error.strerror}") from error
 
 
-__all__ = ["Folder", "Identity", "Scan", "Source", "data_again", "delete", "origin_of", "read_parts", "scan", "shown"]
+__all__ = ["FileIdentity", "Folder", "Scan", "Source", "data_again", "delete", "origin_of", "read_parts", "scan", "shown"]

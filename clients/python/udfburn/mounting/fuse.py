@@ -16,14 +16,14 @@ from typing import Any, Callable, Dict, List, NamedTuple, Optional, Set, Tuple
 from ..base.errors import MountFailed, UdfburnError
 from ..base.progress import Progress
 from ..protocol import limits
-from .shown_tree import File, Folder, Item, Memory, NoMedium, Reading
+from .shown_tree import Memory, NoMedium, OpenFile, ShownFile, ShownFolder, ShownItem
 
-DEVICE = "/dev/fuse"
+FUSE_DEVICE = "/dev/fuse"
 
-ENDING = (signal.SIGINT, signal.SIGTERM, signal.SIGHUP)
+ENDING_SIGNALS = (signal.SIGINT, signal.SIGTERM, signal.SIGHUP)
 """The signals that end a mount."""
 
-ROOT = 1
+TOP_NUMBER = 1
 """The number of the top folder."""
 
 LASTING = 86_400.0
@@ -33,12 +33,12 @@ TOLD = 1000
 """Failures that are told, at most."""
 
 
-class Record:
+class KernelNode:
     """What the kernel knows by a number: a folder or a file, its name in the folder of a number, and how often the kernel was given it."""
 
     __slots__ = ("item", "key", "given")
 
-    def __init__(self, item: Item, key: Tuple[int, bytes]):
+    def __init__(self, item: ShownItem, key: Tuple[int, bytes]):
         self.item, self.key, self.given = item, key, 0
 
 
@@ -46,25 +46,25 @@ class Listing(NamedTuple):
     """A folder that is being listed."""
 
     number: int
-    names: List[Tuple[bytes, Item]]
+    names: List[Tuple[bytes, ShownItem]]
     fault: Optional[str]
 
 
 class Numbers:
     """The numbers of what the kernel was given. It says when it forgets one."""
 
-    def __init__(self, top: Folder):
-        self.records: Dict[int, Record] = {ROOT: Record(top, (0, b""))}
+    def __init__(self, top: ShownFolder):
+        self.records: Dict[int, KernelNode] = {TOP_NUMBER: KernelNode(top, (0, b""))}
         self._numbers: Dict[Tuple[int, bytes], int] = {}
-        self._last = ROOT
+        self._last = TOP_NUMBER
 
-    def of(self, parent: int, name: bytes, item: Item) -> int:
+    def of(self, parent: int, name: bytes, item: ShownItem) -> int:
         """The number of a name in a folder: the one that the kernel has, or a new one."""
         key = parent, name
         number = self._numbers.get(key)
         if number is None:
             self._last = number = self._last + 1
-            self._numbers[key], self.records[number] = number, Record(item, key)
+            self._numbers[key], self.records[number] = number, KernelNode(item, key)
         return number
 
     def known(self, parent: int, name: bytes) -> Optional[int]:
@@ -74,7 +74,7 @@ class Numbers:
     def forget(self, number: int, given: int) -> None:
         """The kernel has forgotten a number so many times."""
         record = self.records.get(number)
-        if record is None or number == ROOT:
+        if record is None or number == TOP_NUMBER:
             return
         record.given -= given
         if record.given <= 0:
@@ -87,7 +87,7 @@ class Handlers:
 
     supports_dot_lookup = enable_writeback_cache = enable_acl = False
 
-    def __init__(self, top: Folder, mode: int, progress: Progress):
+    def __init__(self, top: ShownFolder, mode: int, progress: Progress):
         self.fuse: Any = import_module("pyfuse3")
         self._pause: Any = import_module("trio").lowlevel.checkpoint
         self.progress = progress
@@ -96,7 +96,7 @@ class Handlers:
         self._memory = Memory()
         self._mode = mode
         self._listings: Dict[int, Listing] = {}
-        self._readings: Dict[int, Reading] = {}
+        self._readings: Dict[int, OpenFile] = {}
         self._handle = 0
         self._told: Set[str] = set()
 
@@ -114,31 +114,31 @@ class Handlers:
 
     # ---- names
 
-    def attributes(self, number: int, item: Item) -> Any:
+    def attributes(self, number: int, item: ShownItem) -> Any:
         """What the kernel is told of a folder or a file."""
         entry = self.fuse.EntryAttributes()
-        is_file = isinstance(item, File)
+        is_file = isinstance(item, ShownFile)
         entry.st_ino, entry.st_nlink, entry.st_uid, entry.st_gid = number, 1 if is_file else 2, os.getuid(), os.getgid()
         entry.st_mode = stat.S_IFREG | self._mode if is_file else stat.S_IFDIR | self._mode | (self._mode & 0o444) >> 2
-        entry.st_size = item.size if isinstance(item, File) else 0
+        entry.st_size = item.size if isinstance(item, ShownFile) else 0
         entry.st_blksize, entry.st_blocks = 1 << 20, -(-entry.st_size // 512)
         entry.st_mtime_ns = entry.st_ctime_ns = entry.st_atime_ns = item.moment * 1000
         entry.attr_timeout = entry.entry_timeout = LASTING
         return entry
 
-    def _item(self, number: int) -> Item:
+    def _item(self, number: int) -> ShownItem:
         record = self._numbers.records.get(number)
         if record is None:
             raise self.fuse.FUSEError(errno.ESTALE)
         return record.item
 
-    def _folder(self, number: int) -> Folder:
+    def _folder(self, number: int) -> ShownFolder:
         item = self._item(number)
-        if not isinstance(item, Folder):
+        if not isinstance(item, ShownFolder):
             raise self.fuse.FUSEError(errno.ENOTDIR)
         return item
 
-    def _give(self, parent: int, name: bytes, item: Item) -> Tuple[int, Any]:
+    def _give(self, parent: int, name: bytes, item: ShownItem) -> Tuple[int, Any]:
         number = self._numbers.of(parent, name, item)
         return number, self.attributes(number, self._numbers.records[number].item)
 
@@ -164,7 +164,7 @@ class Handlers:
     async def opendir(self, number: int, ctx: Any) -> int:
         folder = self._folder(number)
         try:
-            names = [(name, item) for name, item in folder.names().items() if is_name(name)]
+            names = [(name, item) for name, item in folder.names().items() if is_kernel_name(name)]
         except Exception as error:
             raise self._error(error) from error
         self._handle += 1
@@ -199,10 +199,10 @@ class Handlers:
         if flags & os.O_ACCMODE != os.O_RDONLY or flags & os.O_TRUNC:
             raise self.fuse.FUSEError(errno.EROFS)
         item = self._item(number)
-        if not isinstance(item, File):
+        if not isinstance(item, ShownFile):
             raise self.fuse.FUSEError(errno.EISDIR)
         try:
-            reading = Reading(item, self._memory)
+            reading = OpenFile(item, self._memory)
             for _ in reading.check():
                 await self._pause()
                 if self.ended:
@@ -223,7 +223,7 @@ class Handlers:
         self._readings.pop(handle, None)
 
 
-def is_name(name: bytes) -> bool:
+def is_kernel_name(name: bytes) -> bool:
     """Whether the kernel takes a name. One that it does not take would hide the whole folder."""
     return name not in (b"", b".", b"..") and b"/" not in name and b"\0" not in name
 
@@ -238,8 +238,8 @@ def require_able(point: str) -> None:
         raise MountFailed("mounting needs pyfuse3 for this Python (Debian: python3-pyfuse3)") from error
     if os.geteuid() and which("fusermount3") is None:
         raise MountFailed("mounting needs the program fusermount3 (Debian: fuse3)")
-    if not os.path.exists(DEVICE):
-        raise MountFailed(f"mounting needs {DEVICE}: the kernel has no FUSE, or its module is not loaded ('modprobe fuse')")
+    if not os.path.exists(FUSE_DEVICE):
+        raise MountFailed(f"mounting needs {FUSE_DEVICE}: the kernel has no FUSE, or its module is not loaded ('modprobe fuse')")
     try:
         taken = os.listdir(point)
     except OSError as error:
@@ -249,13 +249,13 @@ def require_able(point: str) -> None:
         raise MountFailed(f"{point}: is not empty: what is in it would be hidden")
 
 
-def serve(top: Folder, point: str, name: str, mode: int, progress: Progress, ready: Callable[[], None]) -> None:
+def serve(top: ShownFolder, point: str, name: str, mode: int, progress: Progress, ready: Callable[[], None]) -> None:
     """Mounts a folder, and answers until it is unmounted or a signal ends it. `mode` is that of the files. `ready` is called once it is
     mounted."""
     fuse, trio = import_module("pyfuse3"), import_module("trio")
     handlers = type("Operations", (Handlers, fuse.Operations), {})(top, mode, progress)
     options = {"ro", "default_permissions", "subtype=udfburn", "fsname=" + name.replace("\\", "\\\\").replace(",", "\\,")}
-    for number in ENDING:
+    for number in ENDING_SIGNALS:
         # Until there is somebody who waits for them: what is mounted then is unmounted, as after Ctrl-C.
         signal.signal(number, signal.default_int_handler)
     try:
@@ -273,7 +273,7 @@ async def answered(handlers: Any, ready: Callable[[], None]) -> None:
     trio = import_module("trio")
 
     async def wait_for_signal(task_status: Any) -> None:
-        with trio.open_signal_receiver(*ENDING) as signals:
+        with trio.open_signal_receiver(*ENDING_SIGNALS) as signals:
             task_status.started()
             async for _ in signals:
                 handlers.ended = True
@@ -286,4 +286,4 @@ async def answered(handlers: Any, ready: Callable[[], None]) -> None:
         nursery.cancel_scope.cancel()
 
 
-__all__ = ["DEVICE", "Handlers", "Numbers", "require_able", "serve"]
+__all__ = ["FUSE_DEVICE", "Handlers", "Numbers", "require_able", "serve"]

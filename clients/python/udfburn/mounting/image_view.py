@@ -14,20 +14,20 @@ from ..base.errors import Damaged
 from ..base.escape import decode
 from ..base.manifest import BAG_DECLARATION, MANIFEST, TAG_MANIFEST, read_manifest
 from ..base.progress import Progress
-from ..base.split import SUFFIX, joined, joined_folder
+from ..base.split import SUFFIX, joined_folder, joined_parts
 from ..base.unfinished import is_unfinished
 from ..protocol import limits, printed, shown
 from ..protocol.units import Commit, Moment, Size, VirtualAddress
-from ..reader import Kind, Medium, Node, NoVolume, State, Volume
-from ..reader.basics import NODES, PATH_NAMES, address_of, blocks_of
+from ..reader import FileType, Medium, NoVolume, State, StateNode, Volume
+from ..reader.basics import DEPTH, NODES, address_of, blocks_of
 from ..reader.directory import Identifier
 from ..reader.entry import Entry, read_entry
 from ..reader.volume import Path
-from .shown_tree import Broken, BrokenFolder, File, Folder, Item, Sums
+from .shown_tree import Broken, BrokenFolder, ShownFile, ShownFolder, ShownItem, Sums
 
-LATEST, COMMITS = b"latest", b"commits"
+LATEST_FOLDER, COMMITS_FOLDER = b"latest", b"commits"
 
-STATES = 4
+STATES_KEPT = 4
 """The states that are kept in memory."""
 
 DIRECTORY_BLOCKS = 2 * NODES
@@ -37,7 +37,7 @@ MANIFEST_BYTES = 1 << 24
 """Bytes of the manifests of a state, at most."""
 
 
-class Tree:
+class StateTree:
     """A state: each directory's nodes by their names. Each node is reached once, and there are no more of them than a volume has."""
 
     def __init__(self, called: str, volume: Volume, commit: Commit, note: Callable[[str], None]):
@@ -49,7 +49,7 @@ class Tree:
         root = state.root()
         if root is None:
             raise Damaged(f"{called}: its root cannot be read")
-        self.below: Dict[Path, Dict[str, Node]] = {}
+        self.below: Dict[Path, Dict[str, StateNode]] = {}
         self.broken: Dict[Path, Dict[str, str]] = {}
         """Names of which nothing can be read, and why."""
         self.directories: Set[Path] = set()
@@ -62,7 +62,7 @@ class Tree:
         while waiting:
             waiting += self._take(state, waiting.pop())
 
-    def _take(self, state: State, node: Node) -> List[Node]:
+    def _take(self, state: State, node: StateNode) -> List[StateNode]:
         """Takes in a directory. Gives those in it."""
         self._blocks += node.blocks
         if self._blocks > DIRECTORY_BLOCKS:
@@ -82,25 +82,25 @@ class Tree:
                 self.directories.add(node.path + (name.name,))
         if not state.is_complete(node):
             self.incomplete.add(node.path)
-        return [child for child in names.values() if child.kind is Kind.DIRECTORY]
+        return [child for child in names.values() if child.kind is FileType.DIRECTORY]
 
-    def _fault(self, node: Node, name: Identifier) -> Optional[str]:
+    def _fault(self, node: StateNode, name: Identifier) -> Optional[str]:
         """Why a name is not followed."""
-        if len(node.path) == PATH_NAMES:
+        if len(node.path) == DEPTH:
             return "is too deep"
         if name.virtual in self._reached:
             return "another name leads to the same file or directory"
         self._reached.add(name.virtual)
         return None
 
-    def parts_of(self, base: Path) -> List[Node]:
+    def parts_of(self, base: Path) -> List[StateNode]:
         """The parts of a file that has a folder of its own for them; none where a directory is no such folder."""
-        folders = [base + (name,) for name, node in self.below[base].items() if node.kind is Kind.DIRECTORY]
+        folders = [base + (name,) for name, node in self.below[base].items() if node.kind is FileType.DIRECTORY]
         names: Dict[Path, List[str]] = {base: list(self.below[base])}
         sizes: Dict[Path, int] = {}
         for folder in folders:
             names[folder] = list(self.below[folder])
-            sizes.update({node.path: node.size for node in self.below[folder].values() if node.kind is Kind.FILE})
+            sizes.update({node.path: node.size for node in self.below[folder].values() if node.kind is FileType.FILE})
         return [self.below[part[:-1]][part[-1]] for part in joined_folder(base, names, sizes)]
 
     # ---- digests
@@ -119,7 +119,7 @@ class Tree:
             bag = BAG_DECLARATION in names
             for name in (MANIFEST, TAG_MANIFEST) if bag else (MANIFEST,):
                 node = names.get(name)
-                if node is not None and node.kind is Kind.FILE:
+                if node is not None and node.kind is FileType.FILE:
                     left -= node.size
                     why = self._take_manifest(wanted, node, bag) if node.size <= limits.FILE and left >= 0 else "is longer than a manifest may be"
                 else:
@@ -127,7 +127,7 @@ class Tree:
                 if why is not None:
                     self._note(f"{self.called}: {printed(above + (name,))} {why}: what it lists is not compared")
 
-    def _take_manifest(self, wanted: Dict[Path, List[Tuple[int, bytes]]], node: Node, bag: bool) -> Optional[str]:
+    def _take_manifest(self, wanted: Dict[Path, List[Tuple[int, bytes]]], node: StateNode, bag: bool) -> Optional[str]:
         """Takes the lines of a manifest, or gives why that cannot be done."""
         if exact_entry(self.volume.medium, node) is None:
             return "has a damaged entry"
@@ -139,7 +139,7 @@ class Tree:
         return None
 
 
-def exact_entry(medium: Medium, node: Node) -> Optional[Entry]:
+def exact_entry(medium: Medium, node: StateNode) -> Optional[Entry]:
     """The entry of a node as it is now; None where a byte of it is not as it must be. Its CRC covers where the bytes of the file are, or has
     them in it."""
     block = medium.block(node.address)
@@ -147,7 +147,7 @@ def exact_entry(medium: Medium, node: Node) -> Optional[Entry]:
     return entry if not faults else None
 
 
-class ImageView(Folder):
+class ImageView(ShownFolder):
     """The top folder of an image that is mounted, as it is now."""
 
     def __init__(self, image: str, progress: Progress):
@@ -162,15 +162,15 @@ class ImageView(Folder):
         self.newest = chain[0].commit
         self.commits = {table.commit: table.moment or Moment(0) for table in chain}
         self.moment = chain[0].moment or Moment(0)
-        self._trees: "OrderedDict[int, Tree]" = OrderedDict()
+        self._trees: "OrderedDict[int, StateTree]" = OrderedDict()
         self._bad: Dict[int, str] = {}
 
     def close(self) -> None:
         """Closes the image."""
         self.medium.close()
 
-    def names(self) -> Dict[bytes, Item]:
-        return {LATEST: Directory(self, self.newest, ()), COMMITS: Commits(self)}
+    def names(self) -> Dict[bytes, ShownItem]:
+        return {LATEST_FOLDER: ImageFolder(self, self.newest, ()), COMMITS_FOLDER: Commits(self)}
 
     def called(self, commit: Commit, path: Path = ()) -> str:
         """How a file is called in messages."""
@@ -179,15 +179,15 @@ class ImageView(Folder):
     def _note(self, line: str) -> None:
         self.progress.note(line, did="not compared", message=line)
 
-    def tree(self, commit: Commit) -> Tree:
+    def tree(self, commit: Commit) -> StateTree:
         """The tree after a commit. A few are kept."""
         if commit in self._bad:
             raise Damaged(self._bad[commit])
         if commit not in self._trees:
-            if len(self._trees) >= STATES:
+            if len(self._trees) >= STATES_KEPT:
                 self._trees.popitem(last=False)
             try:
-                self._trees[commit] = Tree(self.called(commit), self.volume, commit, self._note)
+                self._trees[commit] = StateTree(self.called(commit), self.volume, commit, self._note)
             except Damaged as error:
                 self._bad[commit] = str(error)
                 raise
@@ -195,35 +195,35 @@ class ImageView(Folder):
         return self._trees[commit]
 
 
-class Commits(Folder):
+class Commits(ShownFolder):
     """The folder of all commits."""
 
     def __init__(self, view: ImageView):
         self.view, self.moment = view, view.moment
 
-    def names(self) -> Dict[bytes, Item]:
+    def names(self) -> Dict[bytes, ShownItem]:
         return {b"%d" % commit: self._directory(commit) for commit in sorted(self.view.commits)}
 
-    def _directory(self, commit: Commit) -> "Directory":
-        found = Directory(self.view, commit, ())
+    def _directory(self, commit: Commit) -> "ImageFolder":
+        found = ImageFolder(self.view, commit, ())
         found.moment = self.view.commits[commit]
         return found
 
 
-class Directory(Folder):
+class ImageFolder(ShownFolder):
     """A directory after a commit."""
 
     def __init__(self, view: ImageView, commit: Commit, path: Path, moment: Moment = Moment(0)):
         self.view, self.commit, self.path = view, commit, path
         self.moment = moment or view.commits[commit]
 
-    def names(self) -> Dict[bytes, Item]:
+    def names(self) -> Dict[bytes, ShownItem]:
         return dict(self._names(False))
 
-    def find(self, name: bytes) -> Optional[Item]:
+    def find(self, name: bytes) -> Optional[ShownItem]:
         return dict(self._names(True)).get(name)
 
-    def _names(self, with_hidden: bool) -> Iterator[Tuple[bytes, Item]]:
+    def _names(self, with_hidden: bool) -> Iterator[Tuple[bytes, ShownItem]]:
         tree = self.view.tree(self.commit)
         # What a client has not finished is no file of the user's.
         below = {name: node for name, node in tree.below[self.path].items() if not is_unfinished(self.path + (name,))}
@@ -241,13 +241,13 @@ class Directory(Folder):
             is_folder = self.path + (name,) in tree.directories
             yield self._named(name), BrokenFolder(called, why) if is_folder else Broken(called, why)
 
-    def _joined(self, tree: Tree, below: Dict[str, Node]) -> Tuple[Dict[str, List[Node]], List[str]]:
+    def _joined(self, tree: StateTree, below: Dict[str, StateNode]) -> Tuple[Dict[str, List[StateNode]], List[str]]:
         """The files of which the directory has parts, and the names of all else."""
-        files, others = joined([(name, node.size if node.kind is Kind.FILE else None) for name, node in below.items()])
+        files, others = joined_parts([(name, node.size if node.kind is FileType.FILE else None) for name, node in below.items()])
         found = {name: [below[part] for part in parts] for name, parts in files.items()}
         left: List[str] = []
         for name in others:
-            whole = name[: -len(SUFFIX)] if name.endswith(SUFFIX) and below[name].kind is Kind.DIRECTORY else ""
+            whole = name[: -len(SUFFIX)] if name.endswith(SUFFIX) and below[name].kind is FileType.DIRECTORY else ""
             parts = tree.parts_of(self.path + (name,)) if whole and whole not in below and whole not in found else []
             if parts:
                 found[whole] = parts
@@ -258,16 +258,16 @@ class Directory(Folder):
     def _named(self, name: str) -> bytes:
         return os.fsencode(decode(name))
 
-    def _item(self, node: Node) -> Item:
-        if node.kind is Kind.DIRECTORY:
-            return Directory(self.view, self.commit, node.path, node.moment or Moment(0))
+    def _item(self, node: StateNode) -> ShownItem:
+        if node.kind is FileType.DIRECTORY:
+            return ImageFolder(self.view, self.commit, node.path, node.moment or Moment(0))
         return ImageFile(self.view, self.commit, [node])
 
 
-class ImageFile(File):
+class ImageFile(ShownFile):
     """A file after a commit: a node, or parts in order."""
 
-    def __init__(self, view: ImageView, commit: Commit, nodes: List[Node]):
+    def __init__(self, view: ImageView, commit: Commit, nodes: List[StateNode]):
         self.view, self.commit, self.nodes = view, commit, nodes
         self.size = Size(sum(node.size for node in nodes))
         self.moment = nodes[0].moment or Moment(0)
@@ -285,7 +285,7 @@ class ImageFile(File):
         found = tuple(tree.sums(node.path) for node in self.nodes)
         return Sums(found[0], ()) if len(found) == 1 else Sums((), found)
 
-    def _entry(self, node: Node) -> Entry:
+    def _entry(self, node: StateNode) -> Entry:
         entry = exact_entry(self.view.medium, node)
         if entry is None:
             raise Damaged(f"{self.view.called(self.commit, node.path)}: its entry in block {node.address} is damaged")
@@ -302,4 +302,4 @@ class ImageFile(File):
         return run.data[: extent.size]
 
 
-__all__ = ["Directory", "ImageFile", "ImageView", "Tree"]
+__all__ = ["ImageFile", "ImageFolder", "ImageView", "StateTree"]

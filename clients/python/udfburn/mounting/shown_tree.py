@@ -14,7 +14,7 @@ from typing import Any, Callable, Dict, Hashable, Iterator, List, NamedTuple, Op
 from ..base.errors import Damaged, UdfburnError
 from ..protocol.units import Moment, Size
 
-PIECE = 1 << 20
+SHOWN_PIECE = 1 << 20
 """The bytes of a piece; the last one of a file may have fewer."""
 
 PIECES_KEPT = 16
@@ -38,7 +38,7 @@ class Sums(NamedTuple):
     of_pieces: Tuple[Tuple[bytes, ...], ...] = ()
 
 
-class File:
+class ShownFile:
     """A file: its bytes, its moment in microseconds from 1970-01-01 UTC, and how it is called in messages."""
 
     size = Size(0)
@@ -68,29 +68,29 @@ class File:
 
     def count(self) -> int:
         """How many pieces it has."""
-        return -(-self.size // PIECE)
+        return -(-self.size // SHOWN_PIECE)
 
 
-class Folder:
+class ShownFolder:
     """A folder: its moment, and what could not be read of it."""
 
     moment = Moment(0)
     fault: Optional[str] = None
     """Why names may be missing; None where it is whole. Known once it was listed."""
 
-    def names(self) -> "Dict[bytes, Item]":
+    def names(self) -> "Dict[bytes, ShownItem]":
         """What is in it, by names as this system has them."""
         raise NotImplementedError
 
-    def find(self, name: bytes) -> "Optional[Item]":
+    def find(self, name: bytes) -> "Optional[ShownItem]":
         """What has a name, also one that is not listed."""
         return self.names().get(name)
 
 
-Item = Union[File, Folder]
+ShownItem = Union[ShownFile, ShownFolder]
 
 
-class Broken(File):
+class Broken(ShownFile):
     """What has a name and cannot be read."""
 
     def __init__(self, called: str, why: str):
@@ -106,13 +106,13 @@ class Broken(File):
         raise Damaged(f"{self._called}: {self._why}")
 
 
-class BrokenFolder(Folder):
+class BrokenFolder(ShownFolder):
     """A folder of which nothing can be read."""
 
     def __init__(self, called: str, why: str):
         self._text = f"{called}: {why}"
 
-    def names(self) -> Dict[bytes, Item]:
+    def names(self) -> Dict[bytes, ShownItem]:
         raise Damaged(self._text)
 
 
@@ -148,10 +148,10 @@ class Memory:
             self._count -= len(self._digests.popitem(last=False)[1]) // DIGEST
 
 
-class Reading:
+class OpenFile:
     """A file that is open."""
 
-    def __init__(self, file: File, memory: Memory):
+    def __init__(self, file: ShownFile, memory: Memory):
         self.file, self.memory = file, memory
         self.sums, self._ways = file.sums(), list(file.ways())
         # What is kept was compared with these sums, and not with those that another commit has of the same bytes.
@@ -189,7 +189,7 @@ class Reading:
         """Bytes from an offset on, each of which was compared."""
         parts, end = [], min(offset + size, self.file.size)
         while offset < end:
-            index, at = divmod(offset, PIECE)
+            index, at = divmod(offset, SHOWN_PIECE)
             part = self.memory.piece((self._key, index), lambda: self._compared(index))[at : at + end - offset]
             parts.append(part)
             offset += len(part)
@@ -225,7 +225,7 @@ class Reading:
 
     def _as_it_is(self, index: int, way: Any) -> bytes:
         data = self.file.piece(index, way)
-        if len(data) != min(PIECE, self.file.size - PIECE * index):
+        if len(data) != min(SHOWN_PIECE, self.file.size - SHOWN_PIECE * index):
             raise Damaged(f"{self.file.name()}: bytes are missing")
         return data
 
@@ -234,4 +234,4 @@ class Reading:
             raise Damaged(f"{self.file.name()}: is not as it was stored: its SHA-256 differs{self.file.cure}")
 
 
-__all__ = ["Broken", "BrokenFolder", "File", "Folder", "Item", "Memory", "NoMedium", "PIECE", "Reading", "Sums"]
+__all__ = ["Broken", "BrokenFolder", "Memory", "NoMedium", "OpenFile", "SHOWN_PIECE", "ShownFile", "ShownFolder", "ShownItem", "Sums"]

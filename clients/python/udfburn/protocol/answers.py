@@ -204,7 +204,7 @@ COMMITTED = struct.Struct("<HI")
 NODE = struct.Struct("<BQQ")
 
 
-def decode_data(fields: Fields) -> Data:
+def decode_data_answer(fields: Fields) -> Data:
     """The bytes of a file."""
     size = fields.number(4)
     if size > limits.FILE:
@@ -265,7 +265,7 @@ READERS: Dict[int, Callable[[Fields], Answer]] = {
     AnswerCode.STALE: lambda fields: Stale(fields.number(8)),
     AnswerCode.GAP: lambda fields: Gap(fields.number(8)),
     AnswerCode.MALFORMED: decode_cause,
-    AnswerCode.DATA: decode_data,
+    AnswerCode.DATA: decode_data_answer,
     AnswerCode.NAMES: decode_names,
     AnswerCode.NODE: decode_node,
 }

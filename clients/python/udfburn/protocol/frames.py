@@ -11,14 +11,14 @@ from .answers import BadAnswer
 LENGTH = 4
 """Bytes of a frame's length."""
 
-PREFIX = struct.Struct("<I")
+LENGTH_PREFIX = struct.Struct("<I")
 
 
 def prefix(payload: bytes) -> bytes:
     """What goes before a payload in its frame."""
     if len(payload) > limits.PAYLOAD:
         raise ValueError("a payload is above the limit")
-    return PREFIX.pack(len(payload))
+    return LENGTH_PREFIX.pack(len(payload))
 
 
 def frame(payload: bytes) -> bytes:
@@ -45,7 +45,7 @@ class Frames:
         begin = self.at + LENGTH
         if len(self.bytes) < begin:
             return None
-        (length,) = PREFIX.unpack_from(self.bytes, self.at)
+        (length,) = LENGTH_PREFIX.unpack_from(self.bytes, self.at)
         end = begin + length
         if length > limits.PAYLOAD:
             raise BadAnswer(f"a frame says that it has {length} bytes, which is above the limit")

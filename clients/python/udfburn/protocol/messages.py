@@ -177,14 +177,14 @@ REQUESTS: Dict[int, Type[AnyRequest]] = {
     Kind.CREATE: Create, Kind.REPLACE: Replace, Kind.MAKE_DIR: MakeDir, Kind.RENAME: Rename, Kind.REMOVE: Remove,
     Kind.APPEND: Append,
 }
-QUERIES: Dict[int, Type[Query]] = {Kind.GET: Get, Kind.LIST: List, Kind.STAT: Stat, Kind.READ: Read}
+QUERY_TYPES: Dict[int, Type[Query]] = {Kind.GET: Get, Kind.LIST: List, Kind.STAT: Stat, Kind.READ: Read}
 
 
 # ---- written
 
-HEAD = struct.Struct("<BQQQ")
-SIZE = struct.Struct("<I")
-PIECE = struct.Struct("<QI")
+REQUEST_HEAD = struct.Struct("<BQQQ")
+SIZE_FIELD = struct.Struct("<I")
+OFFSET_AND_COUNT = struct.Struct("<QI")
 
 
 def name_field(name: str) -> bytes:
@@ -208,16 +208,16 @@ def encode_message(message: Message) -> bytes:
     if isinstance(message, Read):
         if not 0 <= message.offset <= limits.U64 or not 0 <= message.count <= limits.FILE:
             raise Fault(Cause.EXTRA)
-        return bytes((message.kind,)) + encode_path(message.path) + PIECE.pack(message.offset, message.count)
+        return bytes((message.kind,)) + encode_path(message.path) + OFFSET_AND_COUNT.pack(message.offset, message.count)
     if not isinstance(message, Request):
         return bytes((message.kind,)) + encode_path(message.path)
     check_request(message)
-    head = HEAD.pack(message.kind, message.client, message.number, message.moment)
+    head = REQUEST_HEAD.pack(message.kind, message.client, message.number, message.moment)
     path = encode_path(message.path)
     if isinstance(message, (Create, Replace)):
-        return b"".join((head, path, SIZE.pack(len(message.data)), message.data))
+        return b"".join((head, path, SIZE_FIELD.pack(len(message.data)), message.data))
     if isinstance(message, Append):
-        return b"".join((head, path, PIECE.pack(message.offset, len(message.data)), message.data))
+        return b"".join((head, path, OFFSET_AND_COUNT.pack(message.offset, len(message.data)), message.data))
     if isinstance(message, Rename):
         return head + path + encode_path(message.to)
     return head + path
@@ -307,8 +307,8 @@ def decode_message(payload: bytes) -> Message:
         message: Message
         if kind in REQUESTS:
             message = decode_request(REQUESTS[kind], fields)
-        elif kind in QUERIES:
-            message = decode_query(QUERIES[kind], fields)
+        elif kind in QUERY_TYPES:
+            message = decode_query(QUERY_TYPES[kind], fields)
         else:
             raise Fault(Cause.KIND)
     except Short:

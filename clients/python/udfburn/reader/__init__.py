@@ -16,13 +16,13 @@ empty after `Volume.check`, the volume is as docs/FORMAT.md has it.
 Who may use it: `image`, and what is above. What it may use: `beneath` of `base`, and `units` of `protocol`.
 """
 
-from .entry import Entry, Extent, Kind
+from .entry import Entry, Extent, FileType
 from .medium import MapError, Medium, RescueMap, Run
-from .notes import Cause, Fault, Note, Notes
-from .volume import Node, NoVolume, State, Volume
-from .table import Client, Reply, Table
+from .notes import DamageCause, Note, Notes, StructureFault
+from .volume import NoVolume, State, StateNode, Volume
+from .table import ClientRecord, KeptReply, Table
 
 __all__ = [
-    "Cause", "Client", "Entry", "Extent", "Fault", "Kind", "MapError", "Medium", "NoVolume", "Node", "Note", "Notes", "Reply", "RescueMap",
-    "Run", "State", "Table", "Volume",
+    "ClientRecord", "DamageCause", "Entry", "Extent", "FileType", "KeptReply", "MapError", "Medium", "NoVolume", "Note", "Notes", "RescueMap", "Run", "State",
+    "StateNode", "StructureFault", "Table", "Volume",
 ]

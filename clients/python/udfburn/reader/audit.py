@@ -7,19 +7,19 @@ from typing import Dict, Iterator, List, Tuple
 
 from ..protocol.units import Address, BlockNumber, Commit, VirtualAddress
 from .basics import FIRST_UNIQUE, GREATEST_CAPACITY, NODES, PARTITION, UNUSED, address_of, blocks_of, is_label, number_of, read_dstring
-from .budget import Work, room_of
+from .budget import Work, block_budget
 from .chain import Chain, Link
-from .directory import Known, read_directory
-from .entry import Kind, read_entry, read_file_set
+from .directory import KnownIdentifiers, read_directory
+from .entry import FileType, read_entry, read_file_set
 from .front import note_front, read_front
-from .notes import Cause, Fault
+from .notes import DamageCause, StructureFault
 from .numbering import greatest_at
 from .table import (
-    HEAD, RECORD_SIZES, SESSIONS, Head, client_faults, lengths_agree, read_clients, read_entries, read_head,
+    HEAD_SIZE, RECORD_SIZES, SESSIONS, Head, client_faults, lengths_agree, read_clients, read_entries, read_head,
 )
 from .volume import State
 
-CHUNK = 256
+COMPARED_ENTRY_BYTES = 256
 """The bytes of entries that are compared at once."""
 
 
@@ -47,9 +47,9 @@ class Audit:
         self._records = b""
         self._is_next = False
         self._low = Address(PARTITION - 1)
-        self._room = room_of(min(chain.volume.medium.blocks, GREATEST_CAPACITY))
+        self._room = block_budget(min(chain.volume.medium.blocks, GREATEST_CAPACITY))
         self._last: Dict[VirtualAddress, BlockNumber] = {}
-        self._known = Known(None)
+        self._known = KnownIdentifiers(None)
 
     def look(self, place: int) -> None:
         """Looks at a table, and at the nodes that it changes."""
@@ -60,7 +60,7 @@ class Audit:
             return
         run = self.volume.data_of(table)
         for at in run.missing:
-            self.notes.add(at, Cause.MISSING, "a block of the table cannot be read")
+            self.notes.add(at, DamageCause.MISSING, "a block of the table cannot be read")
         data, number = run.data[: table.size], number_of(link.address)
         head = read_head(data)
         if head is None:
@@ -69,68 +69,68 @@ class Audit:
         self.notes.extend(link.start, list(self._head_faults(data, head, number)))
         if any(run.data[table.size :]):
             # `udfburn` does not look at these bytes; docs/FORMAT.md has zeros there.
-            self.notes.add(link.start, Cause.HEADER, "a byte after the table is not zero")
+            self.notes.add(link.start, DamageCause.HEADER, "a byte after the table is not zero")
         self._changes(link, read_entries(data, table.length), head)
         self._low = link.address
 
     def _entry_of(self, link: Link, is_linked: bool) -> None:
         block = self.medium.block(link.address)
         if block is None:
-            self.notes.add(link.address, Cause.MISSING, "the VAT ICB cannot be read")
+            self.notes.add(link.address, DamageCause.MISSING, "the VAT ICB cannot be read")
             return
         faults = read_entry(block, number_of(link.address))[1]
         self.notes.extend(link.address, faults)
         if faults and is_linked:
-            self.notes.add(link.address, Cause.CHAIN, "the table after it leads here, and its entry is not as it must be")
+            self.notes.add(link.address, DamageCause.CHAIN, "the table after it leads here, and its entry is not as it must be")
 
-    def _head_faults(self, data: bytes, head: Head, number: BlockNumber) -> Iterator[Fault]:
+    def _head_faults(self, data: bytes, head: Head, number: BlockNumber) -> Iterator[StructureFault]:
         agrees = lengths_agree(head, len(data))
         if not agrees or head.reserved:
-            yield Fault(Cause.HEADER, "the lengths of the table do not agree, or its reserved field is not zero")
+            yield StructureFault(DamageCause.HEADER, "the lengths of the table do not agree, or its reserved field is not zero")
         if head.previous != UNUSED if head.commits == 0 else head.previous >= number:
-            yield Fault(Cause.HEADER, f"the table before would have its entry at block number {head.previous}")
+            yield StructureFault(DamageCause.HEADER, f"the table before would have its entry at block number {head.previous}")
         label = read_dstring(head.label)
         if not is_label(label):
-            yield Fault(Cause.LABEL, "the label of the table is not valid")
+            yield StructureFault(DamageCause.LABEL, "the label of the table is not valid")
         elif self.volume.label is not None and label != self.volume.label:
-            yield Fault(Cause.LABELS, "the label of the table is not that of the volume header")
+            yield StructureFault(DamageCause.LABELS, "the label of the table is not that of the volume header")
         if (head.read_revision, head.write_revision, head.greatest_revision) != (0x201, 0x201, 0x201):
-            yield Fault(Cause.REVISION, "a revision of UDF is not 2.01")
+            yield StructureFault(DamageCause.REVISION, "a revision of UDF is not 2.01")
         yield from self._record_faults(data, head, agrees)
         if head.next_unique < FIRST_UNIQUE:
-            yield Fault(Cause.COUNT, f"the next unique ID is {head.next_unique}")
+            yield StructureFault(DamageCause.COUNT, f"the next unique ID is {head.next_unique}")
 
-    def _record_faults(self, data: bytes, head: Head, agrees: bool) -> Iterator[Fault]:
+    def _record_faults(self, data: bytes, head: Head, agrees: bool) -> Iterator[StructureFault]:
         if head.identifier != SESSIONS or head.version not in RECORD_SIZES:
-            yield Fault(Cause.SESSIONS, "the sessions' identifier or version is not as it must be")
+            yield StructureFault(DamageCause.SESSIONS, "the sessions' identifier or version is not as it must be")
         elif agrees:
             size = RECORD_SIZES[head.version]
-            records = data[HEAD : head.length]
-            old, new = (texts(found, size) for found in (self._records, records))
+            records = data[HEAD_SIZE : head.length]
+            old, new = (record_texts(found, size) for found in (self._records, records))
             changed = [index for index in range(max(len(old), len(new))) if old[index : index + 1] != new[index : index + 1]]
             if len(changed) == 1 and len(new) > 4:
                 # Records of other clients are those of the table before.
                 text = new[changed[0]] if changed[0] < len(new) else b""
-                yield from client_faults(data[:HEAD] + text, head._replace(clients=len(text) // size))
+                yield from client_faults(data[:HEAD_SIZE] + text, head._replace(clients=len(text) // size))
             else:
                 yield from client_faults(data, head)
-            if self._is_next and head.version == 2 and not is_step(old, new, changed, head.commits):
-                yield Fault(Cause.SESSIONS, "the records of clients are not those of the table before and one more reply")
+            if self._is_next and head.version == 2 and not is_next_reply(old, new, changed, head.commits):
+                yield StructureFault(DamageCause.SESSIONS, "the records of clients are not those of the table before and one more reply")
             self._records = records
 
     def _changes(self, link: Link, entries: "array[int]", head: Head) -> None:
         """Compares the entries with those of the table before, and looks at what they lead to anew."""
         number, said = number_of(link.address), len(entries)
         used = self._used
-        for virtual, old, new in differences(self._entries, entries):
+        for virtual, old, new in changed_addresses(self._entries, entries):
             used += (new != UNUSED) - (old != UNUSED)
             self._word(link, virtual, new)
         if not 2 <= said <= NODES + 1:
-            self.notes.add(link.start, Cause.COUNT, f"there are {said} virtual addresses")
+            self.notes.add(link.start, DamageCause.COUNT, f"there are {said} virtual addresses")
         if used != 1 + head.files + head.directories:
-            self.notes.add(link.start, Cause.COUNT, f"{used} virtual addresses are used, and the table counts {head.files} files and {head.directories} directories")
+            self.notes.add(link.start, DamageCause.COUNT, f"{used} virtual addresses are used, and the table counts {head.files} files and {head.directories} directories")
         if head.commits > greatest_at(link.address) or head.next_unique > FIRST_UNIQUE + link.numbers.high:
-            self.notes.add(link.start, Cause.COUNTS, f"the commit {head.commits} or the next unique ID is not one of block number {number}")
+            self.notes.add(link.start, DamageCause.COUNTS, f"the commit {head.commits} or the next unique ID is not one of block number {number}")
 
     def _word(self, link: Link, virtual: VirtualAddress, new: BlockNumber) -> None:
         """Looks at a word of a table that is not that of the table before."""
@@ -141,7 +141,7 @@ class Audit:
             self._last[virtual] = old
         elif not self._low < address_of(new) < link.start:
             if self._last.get(virtual) != new:
-                self.notes.add(link.start, Cause.ENTRY, f"virtual address {virtual} leads to block number {new}, which the commit did not write")
+                self.notes.add(link.start, DamageCause.ENTRY, f"virtual address {virtual} leads to block number {new}, which the commit did not write")
                 return
         else:
             self._node(virtual, new)
@@ -153,50 +153,50 @@ class Audit:
         at = address_of(number)
         self._room -= 1
         if self._room < 0:
-            self.notes.add(Address(0), Cause.COUNTS, Work.NODES.text)
+            self.notes.add(Address(0), DamageCause.COUNTS, Work.NODES.text)
             return
         block = self.medium.block(at)
         if block is None:
-            self.notes.add(at, Cause.MISSING, "an entry cannot be read")
+            self.notes.add(at, DamageCause.MISSING, "an entry cannot be read")
             return
         if virtual == 0:
             label, moment, faults = read_file_set(block)
             self.notes.extend(at, faults)
             differs = self.volume.label not in (None, label) or self.volume.moment not in (None, moment)
             if differs and not faults:
-                self.notes.add(at, Cause.LABELS, "the label or the moment of the file set is not that of the volume header")
+                self.notes.add(at, DamageCause.LABELS, "the label or the moment of the file set is not that of the volume header")
             return
         entry, faults = read_entry(block, virtual)
         self.notes.extend(at, faults)
-        if entry is not None and entry.kind is Kind.DIRECTORY and entry.first is not None and self._room >= blocks_of(entry.size):
+        if entry is not None and entry.kind is FileType.DIRECTORY and entry.first is not None and self._room >= blocks_of(entry.size):
             self._room -= blocks_of(entry.size)
             run = self.medium.run(address_of(entry.first), blocks_of(entry.size))
             for gone in run.missing:
-                self.notes.add(gone, Cause.MISSING, "a block of a directory cannot be read")
+                self.notes.add(gone, DamageCause.MISSING, "a block of a directory cannot be read")
             self.notes.extend(address_of(entry.first), read_directory(run.data, entry.size, entry.first, self._known)[1])
 
 
-def texts(records: bytes, size: int) -> List[bytes]:
+def record_texts(records: bytes, size: int) -> List[bytes]:
     """The records one by one."""
     return [records[at : at + size] for at in range(0, len(records), size)]
 
 
-def is_step(old: List[bytes], new: List[bytes], changed: List[int], commit: Commit) -> bool:
+def is_next_reply(old: List[bytes], new: List[bytes], changed: List[int], commit: Commit) -> bool:
     """Whether one client more had a reply: its number is the next, and its newest reply is that of this commit."""
     if len(changed) != 1 or len(new) < len(old):
         return False
-    client = read_clients(bytes(HEAD) + new[changed[0]], 2, 1)[0]
+    client = read_clients(bytes(HEAD_SIZE) + new[changed[0]], 2, 1)[0]
     if not client.replies or client.replies[0].commit != commit:
         return False
     if changed[0] >= len(old):
         return len(client.replies) == 1
-    before = read_clients(bytes(HEAD) + old[changed[0]], 2, 1)[0]
+    before = read_clients(bytes(HEAD_SIZE) + old[changed[0]], 2, 1)[0]
     return before.client == client.client and before.latest + 1 == client.latest and client.replies[1:] == before.replies[:3]
 
 
-def differences(old: "array[int]", new: "array[int]") -> "Iterator[Tuple[VirtualAddress, BlockNumber, BlockNumber]]":
+def changed_addresses(old: "array[int]", new: "array[int]") -> "Iterator[Tuple[VirtualAddress, BlockNumber, BlockNumber]]":
     """The virtual addresses at which two tables differ, with both words."""
-    step = CHUNK // 4
+    step = COMPARED_ENTRY_BYTES // 4
     for begin in range(0, max(len(old), len(new)), step):
         left, right = old[begin : begin + step], new[begin : begin + step]
         if left != right:

@@ -18,7 +18,7 @@ PARTITION = Address(257)
 LEAST_CAPACITY, GREATEST_CAPACITY = 512, 450_000
 """The blocks of a volume."""
 
-NUMBERS = GREATEST_CAPACITY - PARTITION
+BLOCK_NUMBERS = GREATEST_CAPACITY - PARTITION
 """The block numbers of the greatest partition are below this."""
 
 UNUSED = BlockNumber(0xFFFFFFFF)
@@ -26,14 +26,14 @@ UNUSED = BlockNumber(0xFFFFFFFF)
 
 NODES = 4_096
 DIRECTORY_NAMES = 512
-PATH_NAMES = 16
-FILE_BYTES = Size(1_048_576)
+DEPTH = 16
+EXTENT_BYTES = Size(1_048_576)
 """The bytes of an extent, at most: each of a file but its last has so many."""
 
 EXTENTS = 117
 """The extents of a file, at most."""
 
-GREATEST_FILE = Size(EXTENTS * FILE_BYTES)
+GREATEST_FILE = Size(EXTENTS * EXTENT_BYTES)
 INSIDE = Size(1_872)
 CLIENTS = 64
 FIRST_UNIQUE = 16
@@ -200,4 +200,4 @@ def entity(identifier: bytes, suffix: bytes = b"") -> bytes:
 
 DEVELOPER = entity(b"*udfburn")
 UDF_SUFFIX = b"\x01\x02"
-CHARACTERS = b"\0" + b"OSTA Compressed Unicode".ljust(63, b"\0")
+CHARACTER_SET = b"\0" + b"OSTA Compressed Unicode".ljust(63, b"\0")

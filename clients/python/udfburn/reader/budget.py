@@ -34,7 +34,7 @@ class Budget:
 
     def __init__(self, blocks: int):
         self._left: Dict[Work, int] = {
-            Work.MENDS: 500_000, Work.IDENTIFIERS: 20_000, Work.DIRECTORIES: 4 * blocks + 512, Work.NODES: room_of(blocks),
+            Work.MENDS: 500_000, Work.IDENTIFIERS: 20_000, Work.DIRECTORIES: 4 * blocks + 512, Work.NODES: block_budget(blocks),
             Work.NAMES: 16 * NODES, Work.VERSIONS: 20_000 + blocks, Work.HASHED: 1 << 31, Work.FLIPS: 200,
         }
 
@@ -45,9 +45,9 @@ class Budget:
         return left >= 0
 
 
-def room_of(blocks: int) -> int:
+def block_budget(blocks: int) -> int:
     """The blocks that the nodes of a state may say that they have, at most. Where none is wrong, no two have the same one."""
     return 2 * blocks + 1024
 
 
-__all__ = ["TABLE_BYTES", "Budget", "Work", "room_of"]
+__all__ = ["TABLE_BYTES", "Budget", "Work", "block_budget"]

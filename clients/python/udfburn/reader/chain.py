@@ -8,16 +8,16 @@ from typing import Dict, Iterator, List, Optional, Set, Tuple
 
 from ..protocol.units import Address, BlockNumber, Commit, VirtualAddress
 from .basics import BLOCK, PARTITION, UNUSED, address_of, blocks_of, number_of
-from .entry import Entry, Kind, is_entry_like, read_entry
+from .entry import Entry, FileType, is_entry_like, read_entry
 from .mend import Hint, mend_entry
-from .notes import Cause
-from .numbering import Link, Span, greatest_at, number
+from .notes import DamageCause
+from .numbering import Link, Span, greatest_at, number_links
 from .survey import Survey
 from .table import Table, entries_at, read_clients, read_entries, read_head, used_size
 from .volume import Volume
 
 
-KEPT = 16
+TABLES_KEPT = 16
 """The tables whose entries are kept, at most."""
 
 
@@ -35,7 +35,7 @@ class Chain:
             # Each commit takes two blocks, whatever VAT ICBs say.
             is_next = older is not None and older.address < link.address and len(found) <= greatest_at(found[0].address)
             link = older if is_next else None
-        self.links = number(found)
+        self.links = number_links(found)
         self._note()
         self._addresses = [link.address for link in reversed(self.links)]
         self._places = {link.commit: index for index, link in reversed(list(enumerate(self.links))) if link.commit is not None}
@@ -84,8 +84,8 @@ class Chain:
     def _mended(self, address: Address) -> Optional[Link]:
         """The link of a VAT ICB with wrong bytes."""
         block, number = self.volume.medium.block(address), number_of(address)
-        entry = mend_entry(block, Hint(number, number, 0, Kind.TABLE), self.volume.budget) if block is not None else None
-        if entry is None or entry.kind is not Kind.TABLE or entry.first is None or entry.location != number:
+        entry = mend_entry(block, Hint(number, number, 0, FileType.TABLE), self.volume.budget) if block is not None else None
+        if entry is None or entry.kind is not FileType.TABLE or entry.first is None or entry.location != number:
             return None
         if entry.first + blocks_of(entry.size) != number:
             return None
@@ -105,7 +105,7 @@ class Chain:
         at = Address(start + blocks_of(size))
         if entries_at(head, size) is None:
             return None
-        table = self.volume.table_of(at, Entry(Kind.TABLE, None, 0, 0, size, number_of(start), None, number_of(at), 0, False))
+        table = self.volume.table_of(at, Entry(FileType.TABLE, None, 0, 0, size, number_of(start), None, number_of(at), 0, False))
         return None if table is None else self._of(at, table, ("its entry is lost",))
 
     def _before(self, link: Link) -> Tuple[Optional[Link], Link]:
@@ -158,7 +158,7 @@ class Chain:
         at = Address(link.start - 1)
         block = self.volume.medium.block(at)
         entry = mend_entry(block, Hint(number_of(at)), self.volume.budget) if block is not None and is_entry_like(block) else None
-        if link.table is None or entry is None or not entry.proved or entry.kind is Kind.TABLE:
+        if link.table is None or entry is None or not entry.proved or entry.kind is FileType.TABLE:
             return False
         run = self.volume.data_of(link.table)
         words = read_entries(run.data[: link.table.size], link.table.length)
@@ -199,7 +199,7 @@ class Chain:
         for index, link in enumerate(self.links):
             texts = list(self._faults(index, link))
             for text in texts:
-                self.volume.notes.add(link.address, Cause.CHAIN, f"of the table with its VAT ICB here: {text}")
+                self.volume.notes.add(link.address, DamageCause.CHAIN, f"of the table with its VAT ICB here: {text}")
             self.links[index] = link._replace(broken=link.broken + tuple(texts))
 
     def _faults(self, index: int, link: Link) -> Iterator[str]:
@@ -246,7 +246,7 @@ class Chain:
     def entries(self, index: int) -> "Tuple[array[int], Set[VirtualAddress]]":
         """The block numbers of virtual addresses after a commit, and those that were not read but follow from other tables."""
         if index not in self._entries:
-            if len(self._entries) >= KEPT:
+            if len(self._entries) >= TABLES_KEPT:
                 self._entries.clear()
             entries, unknown = self._read_entries(index)
             if unknown or self.links[index].table is None:
@@ -264,7 +264,7 @@ class Chain:
         entries = read_entries(run.data[: link.table.size], link.table.length)
         unknown: Set[VirtualAddress] = set()
         for at in run.missing:
-            self.volume.notes.add(at, Cause.MISSING, "a block of the table cannot be read")
+            self.volume.notes.add(at, DamageCause.MISSING, "a block of the table cannot be read")
             begin = (at - link.start) * BLOCK - link.table.length
             unknown.update(map(VirtualAddress, range(max(begin // 4, 0), min((begin + BLOCK) // 4, len(entries)))))
         if entries.count(UNUSED) + sum(1 for entry in entries if entry < number) < len(entries) or UNUSED in entries[:2]:

@@ -9,16 +9,16 @@ from ..protocol.units import BlockNumber, Size, VirtualAddress
 from .basics import BLOCK, DEVELOPER, DIRECTORY_NAMES, NODES, crc, expand, is_name, read_tag, spell, tag_faults, write_tag
 from .budget import Budget, Work
 from .mend import mend_identifier
-from .notes import Cause, Fault, Faults
+from .notes import DamageCause, Faults, StructureFault
 
 FILE_IDENTIFIER = 257
-HEAD = 38
-IS_DIRECTORY, IS_PARENT = 0x02, 0x0A
+IDENTIFIER_HEAD = 38
+OF_DIRECTORY, OF_PARENT = 0x02, 0x0A
 FIELDS = struct.Struct("<HBBIIHHIH")
 BITS = 50
 """The identifiers of which each bit is tried, at most."""
 
-KEPT = 20_000
+IDENTIFIERS_KEPT = 20_000
 """The identifiers that are kept as known, at most."""
 
 
@@ -46,7 +46,7 @@ class Directory(NamedTuple):
     complete: bool
 
 
-class Piece(NamedTuple):
+class RawIdentifier(NamedTuple):
     """An identifier as it is: its place in the data, its bytes, its fields, its implementation use and its name's spelling."""
 
     at: int
@@ -69,7 +69,7 @@ def rounded(size: int) -> int:
 
 def plain_size(name_size: int) -> int:
     """The bytes of an identifier that is not lengthened."""
-    return rounded(HEAD + name_size)
+    return rounded(IDENTIFIER_HEAD + name_size)
 
 
 def fits(size: int, room: int) -> bool:
@@ -77,28 +77,28 @@ def fits(size: int, room: int) -> bool:
     return size == room or size + 32 <= room
 
 
-def piece_at(data: bytes, at: int, size: int) -> Optional[Piece]:
+def piece_at(data: bytes, at: int, size: int) -> Optional[RawIdentifier]:
     """The identifier at a place, by the lengths that it says; None where it passes the end of the directory or of its block."""
-    if size - at < HEAD:
+    if size - at < IDENTIFIER_HEAD:
         return None
     version, characteristics, name_size, length, virtual, partition, flags, unique, use_size = FIELDS.unpack_from(data, at + 16)
-    end = at + rounded(HEAD + use_size + name_size)
+    end = at + rounded(IDENTIFIER_HEAD + use_size + name_size)
     if end > size or (end - 1) // BLOCK != at // BLOCK:
         return None
-    name_at = at + HEAD + use_size
-    return Piece(
+    name_at = at + IDENTIFIER_HEAD + use_size
+    return RawIdentifier(
         at, data[at:end], version, characteristics, length, virtual, partition, flags, unique,
-        data[at + HEAD : name_at], data[name_at : name_at + name_size],
+        data[at + IDENTIFIER_HEAD : name_at], data[name_at : name_at + name_size],
     )
 
 
-def read_directory(data: bytes, size: Size, first: BlockNumber, known: Optional[Known] = None) -> Tuple[Directory, Faults]:
+def read_directory(data: bytes, size: Size, first: BlockNumber, known: Optional[KnownIdentifiers] = None) -> Tuple[Directory, Faults]:
     """The directory whose data begins at block number `first`, and all that is not as it must be.
 
     `data` has whole blocks. Identifiers with wrong bytes are mended where their CRC leaves one reading; what makes no sense is left
     out, and reading goes on at the next identifier whose CRC agrees.
     """
-    reading = Reading(data, size, first, known if known is not None else Known(Budget(0)))
+    reading = DirectoryReading(data, size, first, known if known is not None else KnownIdentifiers(Budget(0)))
     at = 0
     while at < size and len(reading.names) <= NODES:
         at = reading.step(at)
@@ -106,7 +106,7 @@ def read_directory(data: bytes, size: Size, first: BlockNumber, known: Optional[
     return reading.finish()
 
 
-class Known:
+class KnownIdentifiers:
     """Bodies of identifiers that were read and were as they must be, so that one that is copied is not read again; and how many more
     are mended: none without a budget."""
 
@@ -117,7 +117,7 @@ class Known:
     def run(self, data: bytes, at: int, size: Size, first: BlockNumber, names: Dict[str, Identifier]) -> int:
         """Takes the identifiers in a row whose bodies are known and whose tags are as they must be, and gives the place after them."""
         bodies, end_of_block, location, total = self.bodies, -1, b"", 0
-        while size - at >= HEAD:
+        while size - at >= IDENTIFIER_HEAD:
             if at >= end_of_block:
                 location = struct.pack("<I", first + at // BLOCK)
                 total, end_of_block = sum(location), (at // BLOCK + 1) * BLOCK
@@ -132,18 +132,18 @@ class Known:
             at = end
         return at
 
-    def keep(self, piece: Piece, name: Identifier) -> None:
+    def keep(self, piece: RawIdentifier, name: Identifier) -> None:
         """Keeps an identifier that is as it must be and is not lengthened."""
-        if len(self.bodies) >= KEPT:
+        if len(self.bodies) >= IDENTIFIERS_KEPT:
             self.bodies.clear()
         tag = piece.data[:16]
         self.bodies[piece.data[16:]] = (name, tag[5:12], sum(tag[:4]) + sum(tag[5:12]))
 
 
-class Reading:
+class DirectoryReading:
     """A directory as it is read, identifier by identifier."""
 
-    def __init__(self, data: bytes, size: Size, first: BlockNumber, known: Known):
+    def __init__(self, data: bytes, size: Size, first: BlockNumber, known: KnownIdentifiers):
         self.data, self.size, self.first, self.known = data, size, first, known
         self.faults: Faults = []
         self.parent: Optional[VirtualAddress] = None
@@ -168,8 +168,8 @@ class Reading:
             self.known.keep(piece, name)
         return self._take(piece, name)
 
-    def _take(self, piece: Piece, name: Identifier) -> int:
-        if piece.characteristics == IS_PARENT:
+    def _take(self, piece: RawIdentifier, name: Identifier) -> int:
+        if piece.characteristics == OF_PARENT:
             self.parent = piece.virtual if self.parent is None else self.parent
         else:
             self._add(name)
@@ -177,11 +177,11 @@ class Reading:
 
     def _add(self, name: Identifier) -> None:
         if name.name in self.names:
-            self.faults.append(Fault(Cause.TWICE, f"the name {name.name!r} is there twice"))
+            self.faults.append(StructureFault(DamageCause.TWICE, f"the name {name.name!r} is there twice"))
         else:
             self.names[name.name] = name
 
-    def _mend(self, at: int, piece: Optional[Piece]) -> int:
+    def _mend(self, at: int, piece: Optional[RawIdentifier]) -> int:
         """Goes on where an identifier is not as it must be."""
         name = said_by(piece, self.first) if piece is not None else None
         if piece is not None and name is not None and crc(piece.data[16:]) == read_tag(piece.data).crc:
@@ -211,25 +211,25 @@ class Reading:
         """The directory."""
         names = list(self.names.values())
         if len(names) > DIRECTORY_NAMES:
-            self.faults.append(Fault(Cause.END, f"there are {len(names)} names"))
+            self.faults.append(StructureFault(DamageCause.END, f"there are {len(names)} names"))
         if any(self.data[self.size :]):
-            self.faults.append(Fault(Cause.END, "a byte after the last identifier is not zero"))
+            self.faults.append(StructureFault(DamageCause.END, "a byte after the last identifier is not zero"))
         return Directory(self.parent, names, self.complete), self.faults
 
 
-def said_by(piece: Piece, first: BlockNumber) -> Optional[Identifier]:
+def said_by(piece: RawIdentifier, first: BlockNumber) -> Optional[Identifier]:
     """What the identifier says, where it makes sense."""
     tag = read_tag(piece.data)
     whole, here = tag.crc == crc(piece.data[16:]), tag.location == first + piece.at // BLOCK
     proved = whole and here
-    if not whole and (not here or tag.identifier != FILE_IDENTIFIER) or piece.characteristics not in (0, IS_DIRECTORY, IS_PARENT):
+    if not whole and (not here or tag.identifier != FILE_IDENTIFIER) or piece.characteristics not in (0, OF_DIRECTORY, OF_PARENT):
         return None
-    if piece.characteristics == IS_PARENT:
+    if piece.characteristics == OF_PARENT:
         return Identifier("", True, piece.virtual, piece.unique, proved) if not piece.name else None
     text = expand(piece.name)
     if text is None or not is_name(text):
         return None
-    return Identifier(text, piece.characteristics == IS_DIRECTORY, piece.virtual, piece.unique, proved)
+    return Identifier(text, piece.characteristics == OF_DIRECTORY, piece.virtual, piece.unique, proved)
 
 
 def next_proved(data: bytes, at: int, size: Size, first: BlockNumber) -> int:
@@ -243,44 +243,44 @@ def next_proved(data: bytes, at: int, size: Size, first: BlockNumber) -> int:
     return size
 
 
-def piece_faults(data: bytes, size: Size, piece: Optional[Piece], at: int, first: BlockNumber) -> Iterator[Fault]:
+def piece_faults(data: bytes, size: Size, piece: Optional[RawIdentifier], at: int, first: BlockNumber) -> Iterator[StructureFault]:
     """All that is not as it must be with the identifier at a place, in the order in which `udfburn` looks for it."""
     if piece is None:
-        crosses = size - at >= HEAD and at + rounded(HEAD + struct.unpack_from("<H", data, at + 36)[0] + data[at + 19]) <= size
+        crosses = size - at >= IDENTIFIER_HEAD and at + rounded(IDENTIFIER_HEAD + struct.unpack_from("<H", data, at + 36)[0] + data[at + 19]) <= size
         if crosses:
-            yield Fault(Cause.SPAN, f"the identifier at byte {at} crosses the end of its block")
+            yield StructureFault(DamageCause.SPAN, f"the identifier at byte {at} crosses the end of its block")
         else:
-            yield Fault(Cause.END, f"the data ends inside the identifier at byte {at}")
+            yield StructureFault(DamageCause.END, f"the data ends inside the identifier at byte {at}")
         return
     end = at + len(piece.data)
     left = -end % BLOCK
     if 0 < left < 32:
-        yield Fault(Cause.SPAN, f"the identifier at byte {at} leaves {left} bytes of its block")
+        yield StructureFault(DamageCause.SPAN, f"the identifier at byte {at} leaves {left} bytes of its block")
     for text in tag_faults(piece.data, FILE_IDENTIFIER, first + at // BLOCK):
-        yield Fault(Cause.IDENTIFIER, f"identifier at byte {at}: {text}")
+        yield StructureFault(DamageCause.IDENTIFIER, f"identifier at byte {at}: {text}")
     fixed = (piece.version, piece.length, piece.partition, piece.flags) == (1, BLOCK, 1, 0)
-    if not fixed or piece.characteristics not in (0, IS_DIRECTORY, IS_PARENT):
-        yield Fault(Cause.IDENTIFIER, f"identifier at byte {at}: a field with a fixed value has another one")
-    is_parent = piece.characteristics == IS_PARENT
+    if not fixed or piece.characteristics not in (0, OF_DIRECTORY, OF_PARENT):
+        yield StructureFault(DamageCause.IDENTIFIER, f"identifier at byte {at}: a field with a fixed value has another one")
+    is_parent = piece.characteristics == OF_PARENT
     if is_parent != (at == 0) or is_parent and (piece.name or piece.unique):
-        yield Fault(Cause.PARENT, f"the identifier at byte {at} is not in its place, or is not that of the directory above")
+        yield StructureFault(DamageCause.PARENT, f"the identifier at byte {at} is not in its place, or is not that of the directory above")
     if not is_padded(data, size, piece):
-        yield Fault(Cause.PADDING, f"the padding or the implementation use of the identifier at byte {at} is not as it must be")
+        yield StructureFault(DamageCause.PADDING, f"the padding or the implementation use of the identifier at byte {at} is not as it must be")
     if not is_parent and not is_name(expand(piece.name) or None):
-        yield Fault(Cause.NAME, f"the identifier at byte {at} has no name")
+        yield StructureFault(DamageCause.NAME, f"the identifier at byte {at} has no name")
 
 
-def is_padded(data: bytes, size: Size, piece: Piece) -> bool:
+def is_padded(data: bytes, size: Size, piece: RawIdentifier) -> bool:
     """Whether the bytes after the name are zeros, and the implementation use lengthens the identifier where it has to be."""
     use = piece.use
-    if any(piece.data[HEAD + len(use) + len(piece.name) :]):
+    if any(piece.data[IDENTIFIER_HEAD + len(use) + len(piece.name) :]):
         return False
     if not use:
         return True
     if len(use) < 32 or len(use) % 4 or use != DEVELOPER[: len(use)].ljust(len(use), b"\0"):
         return False
     end = piece.at + len(piece.data)
-    return end % BLOCK == 0 and size - end >= HEAD and not fits(plain_size(data[end + 19]), len(use))
+    return end % BLOCK == 0 and size - end >= IDENTIFIER_HEAD and not fits(plain_size(data[end + 19]), len(use))
 
 
 def write_identifier(name: str, characteristics: int, virtual: VirtualAddress, unique: int, more: int, number: BlockNumber) -> bytes:

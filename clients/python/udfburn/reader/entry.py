@@ -8,17 +8,17 @@ from typing import Iterator, List, NamedTuple, Optional, Tuple
 
 from ..protocol.units import BlockNumber, Moment, Size
 from .basics import (
-    BLOCK, CHARACTERS, DEVELOPER, EXTENTS, FILE_BYTES, GREATEST_FILE, INSIDE, NUMBERS, UDF_SUFFIX, blocks_of, crc, entity, is_label, read_dstring, read_tag,
+    BLOCK, BLOCK_NUMBERS, CHARACTER_SET, DEVELOPER, EXTENTS, EXTENT_BYTES, GREATEST_FILE, INSIDE, UDF_SUFFIX, blocks_of, crc, entity, is_label, read_dstring, read_tag,
     read_timestamp, tag_faults, write_dstring, write_tag, write_timestamp,
 )
-from .notes import Cause, Fault, Faults
+from .notes import DamageCause, Faults, StructureFault
 
 FILE_ENTRY, FILE_SET = 261, 256
 LONG, EMBEDDED = 1, 3
 """The flags of an entry: its allocation descriptors are long ones, or its bytes are in their place."""
 
 
-class Kind(IntEnum):
+class FileType(IntEnum):
     """The file type of an entry (ECMA-167 4/14.6.6; UDF 2.01 2.2.10 for the table)."""
 
     DIRECTORY = 4
@@ -26,8 +26,8 @@ class Kind(IntEnum):
     TABLE = 248
 
 
-PERMISSIONS = {Kind.DIRECTORY: 0x14A5, Kind.FILE: 0x1084, Kind.TABLE: 0x1084}
-KINDS = {int(kind): kind for kind in Kind}
+PERMISSIONS = {FileType.DIRECTORY: 0x14A5, FileType.FILE: 0x1084, FileType.TABLE: 0x1084}
+FILE_TYPES = {int(kind): kind for kind in FileType}
 
 
 class Extent(NamedTuple):
@@ -44,12 +44,12 @@ class Extent(NamedTuple):
 
 def extent_count(size: Size) -> int:
     """The extents that so many bytes are in."""
-    return -(-size // FILE_BYTES)
+    return -(-size // EXTENT_BYTES)
 
 
 def extent_size(size: Size, index: int) -> Size:
     """The bytes of an extent of a file of this size."""
-    return Size(min(size - FILE_BYTES * index, FILE_BYTES))
+    return Size(min(size - EXTENT_BYTES * index, EXTENT_BYTES))
 
 
 class Entry(NamedTuple):
@@ -61,7 +61,7 @@ class Entry(NamedTuple):
     further extents.
     """
 
-    kind: Kind
+    kind: FileType
     moment: Optional[Moment]
     links: int
     unique: int
@@ -92,7 +92,7 @@ class Entry(NamedTuple):
         return blocks_of(self.size) if self.first is not None else 0
 
 
-class Fields(NamedTuple):
+class EntryFields(NamedTuple):
     """The fields of an entry after its tag, as they are."""
 
     direct: int
@@ -123,12 +123,12 @@ class Fields(NamedTuple):
     allocation_length: int
 
 
-LAYOUT = struct.Struct("<IHHHBB6sHIIIHBBIQQ12s12s12sI16s32sQII")
+ENTRY_LAYOUT = struct.Struct("<IHHHBB6sHIIIHBBIQQ12s12s12sI16s32sQII")
 EXTENT = struct.Struct("<IIHIH")
-END = 16 + LAYOUT.size
+END = 16 + ENTRY_LAYOUT.size
 
 
-def end_of(fields: Fields) -> int:
+def descriptor_end(fields: EntryFields) -> int:
     """Where the descriptor ends, by its flags and the length of its allocation descriptors."""
     length = fields.allocation_length
     if fields.flags == EMBEDDED:
@@ -146,8 +146,8 @@ def read_entry(block: bytes, location: int) -> Tuple[Optional[Entry], Faults]:
 
     No entry where its fields make no sense together: its kind, its size, or the place of its bytes.
     """
-    fields = Fields(*LAYOUT.unpack_from(block, 16))
-    entry = sensible(block, fields) if fields.type in KINDS else None
+    fields = EntryFields(*ENTRY_LAYOUT.unpack_from(block, 16))
+    entry = sensible(block, fields) if fields.type in FILE_TYPES else None
     if entry is not None and is_exact(entry, block, location):
         return entry, []
     return entry, list(entry_faults(block, fields, location))
@@ -155,20 +155,20 @@ def read_entry(block: bytes, location: int) -> Tuple[Optional[Entry], Faults]:
 
 def is_exact(entry: Entry, block: bytes, location: int) -> bool:
     """Whether the block is that of the entry at a location, to the last byte."""
-    if entry.moment is None or entry.location != location or entry.kind is Kind.TABLE and (entry.links or entry.unique):
+    if entry.moment is None or entry.location != location or entry.kind is FileType.TABLE and (entry.links or entry.unique):
         return False
     return write_entry(entry) == block
 
 
-def sensible(block: bytes, fields: Fields) -> Optional[Entry]:
+def sensible(block: bytes, fields: EntryFields) -> Optional[Entry]:
     """The entry of these fields, where its size and the place of its bytes make sense."""
     size, inside = fields.size, None
     first: Optional[BlockNumber] = None
     others: Tuple[BlockNumber, ...] = ()
-    if size > greatest(KINDS[fields.type]):
+    if size > greatest(FILE_TYPES[fields.type]):
         return None
     if fields.flags == EMBEDDED:
-        if not 0 < size <= INSIDE or fields.type != Kind.FILE:
+        if not 0 < size <= INSIDE or fields.type != FileType.FILE:
             return None
         inside = block[END : END + size]
     elif size:
@@ -176,19 +176,19 @@ def sensible(block: bytes, fields: Fields) -> Optional[Entry]:
         if firsts is None:
             return None
         first, others = firsts[0], firsts[1:]
-    elif fields.type != Kind.FILE:
+    elif fields.type != FileType.FILE:
         return None
     tag = read_tag(block)
     stamps = (read_timestamp(stamp) for stamp in (fields.modified, fields.accessed, fields.changed))
     moment = next((stamp for stamp in stamps if stamp is not None), None)
-    body = block[16 : end_of(fields)]
+    body = block[16 : descriptor_end(fields)]
     proved = tag.crc == crc(body)
-    return Entry(KINDS[fields.type], moment, fields.links, fields.unique, size, first, inside, tag.location, tag.crc, proved, others)
+    return Entry(FILE_TYPES[fields.type], moment, fields.links, fields.unique, size, first, inside, tag.location, tag.crc, proved, others)
 
 
-def greatest(kind: Kind) -> Size:
+def greatest(kind: FileType) -> Size:
     """The bytes of what is of a kind, at most."""
-    return GREATEST_FILE if kind is Kind.FILE else FILE_BYTES
+    return GREATEST_FILE if kind is FileType.FILE else EXTENT_BYTES
 
 
 def firsts_at(block: bytes, size: Size) -> Optional[Tuple[BlockNumber, ...]]:
@@ -196,31 +196,31 @@ def firsts_at(block: bytes, size: Size) -> Optional[Tuple[BlockNumber, ...]]:
     size."""
     count = extent_count(size)
     found = [EXTENT.unpack_from(block, END + EXTENT.size * index)[:2] for index in range(count)]
-    if any(first + blocks_of(extent_size(size, index)) > NUMBERS for index, (_, first) in enumerate(found)):
+    if any(first + blocks_of(extent_size(size, index)) > BLOCK_NUMBERS for index, (_, first) in enumerate(found)):
         return None
     if count > 1 and any(length % 2**30 != extent_size(size, index) for index, (length, _) in enumerate(found)):
         return None
     return tuple(first for _, first in found)
 
 
-def entry_faults(block: bytes, fields: Fields, location: int) -> Iterator[Fault]:
+def entry_faults(block: bytes, fields: EntryFields, location: int) -> Iterator[StructureFault]:
     """All that is not as it must be, in the order in which `udfburn` looks for it."""
-    for text in tag_faults(block[: end_of(fields)], FILE_ENTRY, location):
-        yield Fault(Cause.TAG, text)
+    for text in tag_faults(block[: descriptor_end(fields)], FILE_ENTRY, location):
+        yield StructureFault(DamageCause.TAG, text)
     if (fields.strategy, fields.parameter, fields.maximum) != (4, 0, 1):
-        yield Fault(Cause.STRATEGY, "the strategy is not 4, with at most one entry")
-    if fields.type not in KINDS:
-        yield Fault(Cause.KIND, f"the file type is {fields.type}")
+        yield StructureFault(DamageCause.STRATEGY, "the strategy is not 4, with at most one entry")
+    if fields.type not in FILE_TYPES:
+        yield StructureFault(DamageCause.KIND, f"the file type is {fields.type}")
         return
-    kind = KINDS[fields.type]
+    kind = FILE_TYPES[fields.type]
     for text in fixed_faults(fields, kind):
-        yield Fault(Cause.FIXED, text)
+        yield StructureFault(DamageCause.FIXED, text)
     yield from place_faults(block, fields, kind)
-    if any(block[end_of(fields) :]):
-        yield Fault(Cause.TAIL, "a byte after the descriptor is not zero")
+    if any(block[descriptor_end(fields) :]):
+        yield StructureFault(DamageCause.TAIL, "a byte after the descriptor is not zero")
 
 
-def fixed_faults(fields: Fields, kind: Kind) -> List[str]:
+def fixed_faults(fields: EntryFields, kind: FileType) -> List[str]:
     """Fields that always say the same, or that follow from others, and say something else."""
     checks = (
         (fields.direct == 0 and fields.reserved == 0 and not any(fields.parent), "a field of the ICB tag is not zero"),
@@ -232,30 +232,30 @@ def fixed_faults(fields: Fields, kind: Kind) -> List[str]:
         (fields.checkpoint == 1, f"the checkpoint is {fields.checkpoint}, and not 1"),
         (not any(fields.attributes) and fields.attributes_length == 0, "there are extended attributes"),
         (fields.implementation == DEVELOPER, "the implementation is not *udfburn"),
-        (fields.flags == LONG or (fields.flags == EMBEDDED and kind is Kind.FILE), f"the flags are {fields.flags}"),
-        (kind is not Kind.TABLE or fields.links == 0 and fields.unique == 0, "a table has links or a unique ID"),
+        (fields.flags == LONG or (fields.flags == EMBEDDED and kind is FileType.FILE), f"the flags are {fields.flags}"),
+        (kind is not FileType.TABLE or fields.links == 0 and fields.unique == 0, "a table has links or a unique ID"),
     )
     return [text for holds, text in checks if not holds]
 
 
-def place_faults(block: bytes, fields: Fields, kind: Kind) -> Iterator[Fault]:
+def place_faults(block: bytes, fields: EntryFields, kind: FileType) -> Iterator[StructureFault]:
     """What is wrong with the lengths, and with the extents."""
     size, length = fields.size, fields.allocation_length
     if fields.flags == EMBEDDED:
         if not 0 < size <= INSIDE or fields.blocks or length != size:
-            yield Fault(Cause.LENGTHS, f"the size {size}, the blocks {fields.blocks} and the length {length} do not agree")
+            yield StructureFault(DamageCause.LENGTHS, f"the size {size}, the blocks {fields.blocks} and the length {length} do not agree")
         return
     count = extent_count(size)
     agree = size <= greatest(kind) and fields.blocks == blocks_of(size) and length == EXTENT.size * count
-    agree = agree and (struct.unpack_from("<I", block, END)[0] % 2**30 == extent_size(size, 0) if size else kind is Kind.FILE)
+    agree = agree and (struct.unpack_from("<I", block, END)[0] % 2**30 == extent_size(size, 0) if size else kind is FileType.FILE)
     if not agree:
-        yield Fault(Cause.LENGTHS, f"the size {size}, the blocks {fields.blocks}, the length {length} and the extents do not agree")
+        yield StructureFault(DamageCause.LENGTHS, f"the size {size}, the blocks {fields.blocks}, the length {length} and the extents do not agree")
     for index in range(count if count <= EXTENTS else 0):
         extent, first, partition, used, last = EXTENT.unpack_from(block, END + EXTENT.size * index)
         if extent != extent_size(size, index) or partition or used or last:
-            yield Fault(Cause.EXTENT, "an extent's kind, length, partition or implementation use is not as it must be")
-        if first + blocks_of(extent_size(size, index)) > NUMBERS:
-            yield Fault(Cause.EXTENT, f"the extent from block number {first} on ends past the greatest partition")
+            yield StructureFault(DamageCause.EXTENT, "an extent's kind, length, partition or implementation use is not as it must be")
+        if first + blocks_of(extent_size(size, index)) > BLOCK_NUMBERS:
+            yield StructureFault(DamageCause.EXTENT, f"the extent from block number {first} on ends past the greatest partition")
 
 
 def write_entry(entry: Entry) -> bytes:
@@ -268,11 +268,11 @@ def write_entry(entry: Entry) -> bytes:
     else:
         flags, blocks = LONG, blocks_of(entry.size)
         allocation = b"".join(EXTENT.pack(extent.size, extent.first, 0, 0, 0) for extent in entry.extents)
-    fields = Fields(
+    fields = EntryFields(
         0, 4, 0, 1, 0, entry.kind, bytes(6), flags, 0xFFFFFFFF, 0xFFFFFFFF, PERMISSIONS[entry.kind], entry.links, 0, 0, 0, entry.size,
         blocks, stamp, stamp, stamp, 1, bytes(16), DEVELOPER, entry.unique, 0, len(allocation),
     )
-    body = LAYOUT.pack(*fields) + allocation
+    body = ENTRY_LAYOUT.pack(*fields) + allocation
     return (write_tag(FILE_ENTRY, body, entry.location) + body).ljust(BLOCK, b"\0")
 
 
@@ -281,7 +281,7 @@ def write_entry(entry: Entry) -> bytes:
 def write_file_set(label: str, moment: Moment) -> bytes:
     """The block of the file set descriptor, at virtual address 0."""
     body = b"".join((
-        write_timestamp(moment), struct.pack("<HHIIII", 3, 3, 1, 1, 0, 0), CHARACTERS, write_dstring(label, 128), CHARACTERS,
+        write_timestamp(moment), struct.pack("<HHIIII", 3, 3, 1, 1, 0, 0), CHARACTER_SET, write_dstring(label, 128), CHARACTER_SET,
         write_dstring(label, 32), bytes(64), struct.pack("<IIHIH", 2048, 1, 1, 0, 0), entity(b"*OSTA UDF Compliant", UDF_SUFFIX), bytes(64),
     ))
     return (write_tag(FILE_SET, body, 0) + body).ljust(BLOCK, b"\0")
@@ -292,9 +292,9 @@ def read_file_set(block: bytes) -> Tuple[Optional[str], Optional[Moment], Faults
     label, moment = read_dstring(block[304:336]), read_timestamp(block[16:28])
     if not is_label(label):
         label = None
-    faults = [Fault(Cause.TAG, text) for text in tag_faults(block[:512], FILE_SET, 0)]
+    faults = [StructureFault(DamageCause.TAG, text) for text in tag_faults(block[:512], FILE_SET, 0)]
     if label is None or moment is None or write_file_set(label, moment)[16:512] != block[16:512]:
-        faults.append(Fault(Cause.FIXED, "a field of the file set descriptor is not as it must be"))
+        faults.append(StructureFault(DamageCause.FIXED, "a field of the file set descriptor is not as it must be"))
     if any(block[512:]):
-        faults.append(Fault(Cause.TAIL, "a byte after the descriptor is not zero"))
+        faults.append(StructureFault(DamageCause.TAIL, "a byte after the descriptor is not zero"))
     return label, moment, faults

@@ -7,11 +7,11 @@ from typing import Callable, Dict, Iterator, List, NamedTuple, Optional, Tuple, 
 
 from ..protocol.units import Address, Moment
 from .basics import (
-    BLOCK, CHARACTERS, DEVELOPER, GREATEST_CAPACITY, LEAST_CAPACITY, PARTITION, UDF_SUFFIX, UNUSED, crc, descriptor, entity, is_label,
+    BLOCK, CHARACTER_SET, DEVELOPER, GREATEST_CAPACITY, LEAST_CAPACITY, PARTITION, UDF_SUFFIX, UNUSED, crc, descriptor, entity, is_label,
     read_dstring, read_tag, read_timestamp, write_dstring, write_timestamp,
 )
 from .medium import Medium
-from .notes import Cause, Notes
+from .notes import DamageCause, Notes
 
 MAIN, RESERVE = Address(32), Address(48)
 """The addresses of the two volume descriptor sequences."""
@@ -34,14 +34,14 @@ def primary(label: str, moment: Moment, location: int) -> bytes:
     """The primary volume descriptor (ECMA-167 3/10.1)."""
     return descriptor(1, b"".join((
         struct.pack("<II", 1, 0), write_dstring(label, 32), struct.pack("<HHHHII", 1, 1, 2, 3, 1, 1),
-        write_dstring(f"{moment:016x}{label}", 128), CHARACTERS, CHARACTERS, bytes(48), write_timestamp(moment), DEVELOPER, bytes(92),
+        write_dstring(f"{moment:016x}{label}", 128), CHARACTER_SET, CHARACTER_SET, bytes(48), write_timestamp(moment), DEVELOPER, bytes(92),
     )), location)
 
 
 def implementation(label: str, location: int) -> bytes:
     """The implementation use volume descriptor (ECMA-167 3/10.4; UDF 2.01 2.2.7)."""
     return descriptor(4, b"".join((
-        struct.pack("<I", 2), entity(b"*UDF LV Info", UDF_SUFFIX), CHARACTERS, write_dstring(label, 128), bytes(108), DEVELOPER, bytes(128),
+        struct.pack("<I", 2), entity(b"*UDF LV Info", UDF_SUFFIX), CHARACTER_SET, write_dstring(label, 128), bytes(108), DEVELOPER, bytes(128),
     )), location)
 
 
@@ -53,12 +53,12 @@ def partition(capacity: int, location: int) -> bytes:
     )), location)
 
 
-def logical(label: str, location: int) -> bytes:
+def logical_volume(label: str, location: int) -> bytes:
     """The logical volume descriptor (ECMA-167 3/10.6), with a type 1 map and a virtual partition (UDF 2.01 2.2.8)."""
     maps = struct.pack("<BBHH", 1, 6, 1, 0)
     maps += struct.pack("<BBH", 2, 64, 0) + entity(b"*UDF Virtual Partition", UDF_SUFFIX) + struct.pack("<HH", 1, 0) + bytes(24)
     return descriptor(6, b"".join((
-        struct.pack("<I", 4), CHARACTERS, write_dstring(label, 128), struct.pack("<I", BLOCK), entity(b"*OSTA UDF Compliant", UDF_SUFFIX),
+        struct.pack("<I", 4), CHARACTER_SET, write_dstring(label, 128), struct.pack("<I", BLOCK), entity(b"*OSTA UDF Compliant", UDF_SUFFIX),
         struct.pack("<IIH6x", BLOCK, 0, 1), struct.pack("<II", len(maps), 2), DEVELOPER, bytes(128), struct.pack("<II", 8192, INTEGRITY), maps,
     )), location)
 
@@ -78,7 +78,7 @@ def blocks_of_front(label: str, moment: Moment, capacity: int) -> Dict[int, byte
         blocks[at] = primary(label, moment, at)
         blocks[at + 1] = implementation(label, at + 1)
         blocks[at + 2] = partition(capacity, at + 2)
-        blocks[at + 3] = logical(label, at + 3)
+        blocks[at + 3] = logical_volume(label, at + 3)
         blocks[at + 4] = descriptor(7, struct.pack("<II", 5, 0), at + 4)
         blocks[at + 5] = descriptor(8, bytes(496), at + 5)
     blocks[INTEGRITY] = integrity(moment, capacity)
@@ -89,7 +89,7 @@ def blocks_of_front(label: str, moment: Moment, capacity: int) -> Dict[int, byte
 
 # ---- reading it
 
-def is_whole(block: bytes, identifier: int) -> bool:
+def is_descriptor(block: bytes, identifier: int) -> bool:
     """Whether the block has a descriptor of this kind, whose CRC agrees."""
     tag = read_tag(block)
     return tag.identifier == identifier and 0 < tag.length <= BLOCK - 16 and tag.crc == crc(block[16 : 16 + tag.length])
@@ -130,7 +130,7 @@ def said_at(medium: Medium, places: List[Tuple[Address, int, Callable[[bytes], O
         value = read(block) if block is not None else None
         if value is None or block is None:
             continue
-        if is_whole(block, identifier):
+        if is_descriptor(block, identifier):
             return value
         loose.append(value)
     return loose[0] if loose else None
@@ -148,10 +148,10 @@ def read_front(medium: Medium) -> Front:
 def note_front(medium: Medium, front: Front, notes: Notes) -> None:
     """Notes each block of the volume header that is not as the three values have it. What is unknown is not compared."""
     if front.label is None or front.moment is None or front.capacity is None:
-        notes.add(MAIN if front.capacity is not None else Address(MAIN + 2), Cause.FRONT, "the volume header does not give label, moment and capacity")
+        notes.add(MAIN if front.capacity is not None else Address(MAIN + 2), DamageCause.FRONT, "the volume header does not give label, moment and capacity")
     expected = blocks_of_front(front.label or "?", front.moment or Moment(0), front.capacity or LEAST_CAPACITY)
-    for at, text in differences(medium, expected, set(unknown_blocks(front))):
-        notes.add(at, Cause.MISSING if not text else Cause.FRONT, text or "the block cannot be read")
+    for at, text in differing_blocks(medium, expected, set(unknown_blocks(front))):
+        notes.add(at, DamageCause.MISSING if not text else DamageCause.FRONT, text or "the block cannot be read")
 
 
 def unknown_blocks(front: Front) -> Iterator[int]:
@@ -167,7 +167,7 @@ def unknown_blocks(front: Front) -> Iterator[int]:
         yield INTEGRITY
 
 
-def differences(medium: Medium, expected: Dict[int, bytes], unknown: "set[int]") -> Iterator[Tuple[Address, str]]:
+def differing_blocks(medium: Medium, expected: Dict[int, bytes], unknown: "set[int]") -> Iterator[Tuple[Address, str]]:
     """The blocks that differ, with the first byte that does; an empty text where a block is missing."""
     zeros = bytes(BLOCK)
     for at in map(Address, range(PARTITION)):

@@ -10,7 +10,7 @@ from ..base.beneath import open_given, open_medium
 from ..protocol.units import Address
 from .basics import BLOCK
 
-PIECE = 512
+RUN_BLOCKS = 512
 """The blocks of one read, at most."""
 
 STATUSES = "?*/-+"
@@ -124,8 +124,8 @@ class Medium:
 
     def pieces(self, start: Address, end: Address) -> Iterator[Tuple[Address, Run]]:
         """All blocks from one address to another, in pieces."""
-        for address in map(Address, range(start, end, PIECE)):
-            yield address, self.run(address, min(PIECE, end - address))
+        for address in map(Address, range(start, end, RUN_BLOCKS)):
+            yield address, self.run(address, min(RUN_BLOCKS, end - address))
 
     def _read(self, address: Address, count: int) -> Optional[bytes]:
         """Whole blocks as the system has them; None where it does not give them all."""

@@ -7,9 +7,9 @@ from itertools import product
 from typing import Iterable, Iterator, List, NamedTuple, Optional, Sequence, Tuple, TypeVar
 
 from ..protocol.units import BlockNumber, Size, VirtualAddress
-from .basics import BLOCK, EXTENTS, FILE_BYTES, GREATEST_CAPACITY, INSIDE, NODES, NUMBERS, blocks_of, crc, expand, is_name, read_tag, read_timestamp, write_tag
+from .basics import BLOCK, BLOCK_NUMBERS, EXTENTS, EXTENT_BYTES, GREATEST_CAPACITY, INSIDE, NODES, blocks_of, crc, expand, is_name, read_tag, read_timestamp, write_tag
 from .budget import Budget, Work
-from .entry import EMBEDDED, END, EXTENT, KINDS, LAYOUT, LONG, PERMISSIONS, Entry, Fields, Kind, extent_count, extent_size, read_entry, write_entry
+from .entry import EMBEDDED, END, ENTRY_LAYOUT, EXTENT, FILE_TYPES, LONG, PERMISSIONS, Entry, EntryFields, FileType, extent_count, extent_size, read_entry, write_entry
 
 T = TypeVar("T")
 
@@ -20,7 +20,7 @@ class Hint(NamedTuple):
     number: BlockNumber
     location: Optional[int] = None
     unique: Optional[int] = None
-    kind: Optional[Kind] = None
+    kind: Optional[FileType] = None
 
 
 def unlike(values: Iterable[Optional[T]]) -> List[T]:
@@ -42,7 +42,7 @@ def mend_entry(block: bytes, hint: Hint, budget: Budget) -> Optional[Entry]:
     plain, faults = read_entry(block, location)
     if plain is not None and not faults:
         return plain
-    for candidate in candidates(block, hint, location):
+    for candidate in possible_entries(block, hint, location):
         if not budget.take(Work.MENDS):
             break
         if confirms(block, write_entry(candidate)):
@@ -63,24 +63,24 @@ def confirms_location(block: bytes, entry: Entry, location: int) -> bool:
     return tag.location == location or block[4] == write_entry(entry._replace(location=location))[4] and not tag.agrees
 
 
-def candidates(block: bytes, hint: Hint, location: int) -> Iterator[Entry]:
+def possible_entries(block: bytes, hint: Hint, location: int) -> Iterator[Entry]:
     """The entries that the block may have been, by each place that says a value."""
-    fields = Fields(*LAYOUT.unpack_from(block, 16))
+    fields = EntryFields(*ENTRY_LAYOUT.unpack_from(block, 16))
     extent, first = EXTENT.unpack_from(block, END)[:2]
     moments = unlike(read_timestamp(stamp) for stamp in (fields.modified, fields.accessed, fields.changed))
-    kinds = unlike((KINDS.get(fields.type), hint.kind, Kind.DIRECTORY if fields.permissions == PERMISSIONS[Kind.DIRECTORY] else Kind.FILE))
+    kinds = unlike((FILE_TYPES.get(fields.type), hint.kind, FileType.DIRECTORY if fields.permissions == PERMISSIONS[FileType.DIRECTORY] else FileType.FILE))
     uniques = unlike((fields.unique, hint.unique, 0))
     for kind, moment, unique in product(kinds, moments, uniques):
         for size, place, inside in places(block, fields, hint, extent, first):
             for links in links_of(kind, fields.links):
                 yield Entry(kind, moment, links, unique, size, place, inside, location, read_tag(block).crc, True)
-        if kind is Kind.FILE:
+        if kind is FileType.FILE:
             for size, firsts in lists(block, fields):
                 yield Entry(kind, moment, 1, unique, size, firsts[0], None, location, read_tag(block).crc, True, firsts[1:])
 
 
 def places(
-    block: bytes, fields: Fields, hint: Hint, extent: int, first: BlockNumber,
+    block: bytes, fields: EntryFields, hint: Hint, extent: int, first: BlockNumber,
 ) -> Iterator[Tuple[Size, Optional[BlockNumber], Optional[bytes]]]:
     """The sizes, and the places of the bytes, that an entry may say. Data ends where its entry is."""
     if fields.flags != LONG or fields.blocks == 0:
@@ -92,26 +92,26 @@ def places(
             yield Size(0), None, None
         for size in unlike((fields.size, Size(extent % 2**30), Size(fields.blocks * BLOCK))):
             for place in unlike((first, BlockNumber(hint.number - blocks_of(size)))):
-                if 0 < size <= FILE_BYTES and 0 <= place <= NUMBERS - blocks_of(size):
+                if 0 < size <= EXTENT_BYTES and 0 <= place <= BLOCK_NUMBERS - blocks_of(size):
                     yield size, place, None
 
 
-def lists(block: bytes, fields: Fields) -> Iterator[Tuple[Size, Tuple[BlockNumber, ...]]]:
+def lists(block: bytes, fields: EntryFields) -> Iterator[Tuple[Size, Tuple[BlockNumber, ...]]]:
     """The sizes and the first blocks of several extents that a file's entry may say."""
     for count in unlike((extent_count(fields.size), fields.allocation_length // EXTENT.size)):
         if not 1 < count <= EXTENTS:
             continue
         found = [EXTENT.unpack_from(block, END + EXTENT.size * index)[:2] for index in range(count)]
-        for size in unlike((fields.size, (count - 1) * FILE_BYTES + found[-1][0] % 2**30)):
-            if extent_count(size) == count and all(first + blocks_of(extent_size(size, index)) <= NUMBERS for index, (_, first) in enumerate(found)):
+        for size in unlike((fields.size, (count - 1) * EXTENT_BYTES + found[-1][0] % 2**30)):
+            if extent_count(size) == count and all(first + blocks_of(extent_size(size, index)) <= BLOCK_NUMBERS for index, (_, first) in enumerate(found)):
                 yield size, tuple(first for _, first in found)
 
 
-def links_of(kind: Kind, said: int) -> Sequence[int]:
+def links_of(kind: FileType, said: int) -> Sequence[int]:
     """The counts of links that an entry may have."""
-    if kind is Kind.DIRECTORY:
+    if kind is FileType.DIRECTORY:
         return unlike((said, *(said ^ (1 << bit) for bit in range(10)), 1))
-    return unlike((said, 1 if kind is Kind.FILE else 0))
+    return unlike((said, 1 if kind is FileType.FILE else 0))
 
 
 # ---- identifiers
@@ -160,7 +160,7 @@ def restored(data: bytes, number: BlockNumber, is_first: bool) -> Iterator[bytes
         if size < 256 and 0 <= more and (38 + more + size + 3) // 4 * 4 == len(data):
             name = data[38 + more : 38 + more + size]
             if kind == 10 and not name or kind in (0, 2) and is_name(expand(name) or None):
-                yield spelled(Words(kind, virtual, unique, more, name), number)
+                yield identifier_bytes(Words(kind, virtual, unique, more, name), number)
 
 
 def flipped(data: bytes, number: BlockNumber) -> Iterator[bytes]:
@@ -178,7 +178,7 @@ def with_other_bytes(data: bytes, number: BlockNumber) -> Iterator[bytes]:
             yield from restored(data[:at] + bytes([byte]) + data[at + 1 :], number, data[18] == 10)
 
 
-def spelled(words: Words, number: BlockNumber) -> bytes:
+def identifier_bytes(words: Words, number: BlockNumber) -> bytes:
     """The bytes of an identifier."""
     use = (b"\0*udfburn" + bytes(23))[: words.use].ljust(words.use, b"\0")
     body = struct.pack("<HBBIIHHIH", 1, words.characteristics, len(words.name), BLOCK, words.virtual, 1, 0, words.unique, words.use) + use + words.name

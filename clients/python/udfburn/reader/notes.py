@@ -8,7 +8,7 @@ from typing import List, NamedTuple, Tuple
 from ..protocol.units import Address
 
 
-class Cause(IntEnum):
+class DamageCause(IntEnum):
     """Why a structure is not as docs/FORMAT.md has it. The numbers are those of `67 Damaged block B cause C`."""
 
     MISSING = 0
@@ -44,28 +44,28 @@ class Cause(IntEnum):
     CHAIN = 78
 
 
-class Fault(NamedTuple):
+class StructureFault(NamedTuple):
     """What is wrong with one structure, seen alone."""
 
-    cause: Cause
+    cause: DamageCause
     text: str
 
 
-Faults = List[Fault]
+Faults = List[StructureFault]
 
 
 class Note(NamedTuple):
     """What is wrong on a medium. `block` is the address of the structure's first block."""
 
     block: Address
-    cause: Cause
+    cause: DamageCause
     text: str
 
     def __str__(self) -> str:
         return f"block {self.block} cause {int(self.cause)}: {self.text}"
 
 
-MOST, CHARACTERS = 100_000, 16 << 20
+NOTES_KEPT, NOTE_CHARACTERS = 100_000, 16 << 20
 """Notes that are kept, at most, and their characters."""
 
 
@@ -76,10 +76,10 @@ class Notes:
         self._seen: "dict[Tuple[Address, int, str], Note]" = {}
         self._characters = 0
 
-    def add(self, block: Address, cause: Cause, text: str) -> None:
+    def add(self, block: Address, cause: DamageCause, text: str) -> None:
         """Adds one. Where there are too many, the last one says so."""
-        if len(self._seen) >= MOST or self._characters > CHARACTERS:
-            block, cause, text = Address(0), Cause.COUNTS, "more than this is not as it must be, and is not named"
+        if len(self._seen) >= NOTES_KEPT or self._characters > NOTE_CHARACTERS:
+            block, cause, text = Address(0), DamageCause.COUNTS, "more than this is not as it must be, and is not named"
         key = (block, int(cause), text)
         if key not in self._seen:
             self._seen[key] = Note(block, cause, text)

@@ -59,7 +59,7 @@ def greatest_at(address: Address) -> Commit:
     return Commit(max((address - 261) // 2, 0))
 
 
-class Row(NamedTuple):
+class LinkRow(NamedTuple):
     """Links in a row of which each table names the next one: the place of the newest, that after the oldest, the commit of the newest
     and how many tables say it."""
 
@@ -69,15 +69,15 @@ class Row(NamedTuple):
     votes: int
 
 
-def number(links: List[Link]) -> List[Link]:
+def number_links(links: List[Link]) -> List[Link]:
     """The links with their commits. A commit is known by a table that says it, by the links that lead to such a table or from one, and
     where as many are between two that are known as there can be; else by its limits."""
-    known = numbered(rows_of(links))
+    known = numbered(link_rows(links))
     spans = limits(links, known)
     return [link._replace(numbers=spans[index], adjacent=is_adjacent(links, spans, index)) for index, link in enumerate(links)]
 
 
-def rows_of(links: List[Link]) -> List[Row]:
+def link_rows(links: List[Link]) -> List[LinkRow]:
     """The rows in which something says a commit, where most of what is said agrees."""
     rows = []
     begin = 0
@@ -88,14 +88,14 @@ def rows_of(links: List[Link]) -> List[Row]:
         if said and (len(said) == 1 or said[0][1] > said[1][1]):
             newest, votes = said[0]
             if all(0 <= newest - index <= greatest_at(links[begin + index].address) for index in range(end - begin)):
-                rows.append(Row(begin, end, Commit(newest), votes))
+                rows.append(LinkRow(begin, end, Commit(newest), votes))
         begin = end
     return rows
 
 
-def numbered(rows: List[Row]) -> Dict[int, Commit]:
+def numbered(rows: List[LinkRow]) -> Dict[int, Commit]:
     """The commits of the links in rows. Commits go up with addresses: of two rows that do not, that counts which more tables say."""
-    kept: List[Row] = []
+    kept: List[LinkRow] = []
     for row in rows:
         dropped = False
         while kept and oldest_of(kept[-1]) <= row.newest:
@@ -108,7 +108,7 @@ def numbered(rows: List[Row]) -> Dict[int, Commit]:
     return {index: Commit(row.newest - (index - row.begin)) for row in kept for index in range(row.begin, row.end)}
 
 
-def oldest_of(row: Row) -> Commit:
+def oldest_of(row: LinkRow) -> Commit:
     """The commit of the oldest link of a row."""
     return Commit(row.newest - (row.end - row.begin - 1))
 
@@ -145,4 +145,4 @@ def is_adjacent(links: List[Link], spans: List[Span], index: int) -> bool:
     return links[index].follows if one is None or other is None else one == other + 1
 
 
-__all__ = ["Link", "Span", "greatest_at", "number"]
+__all__ = ["Link", "Span", "greatest_at", "number_links"]

@@ -8,17 +8,17 @@ from typing import Dict, Iterator, List, Optional
 
 from ..protocol.units import Address, VirtualAddress
 from .basics import BLOCK, GREATEST_CAPACITY, PARTITION, number_of
-from .entry import Kind
+from .entry import FileType
 from .medium import Run
 from .mend import Hint, mend_entry
 from .table import SESSIONS
 from .volume import Volume, is_table_entry
 
-ENTRY = b"\x05\x01\x03\0"
+ENTRY_TAG = b"\x05\x01\x03\0"
 ICB_TAG = bytes(4) + b"\4\0\0\0\1\0\0"
 """The bytes from 16 on of each entry: no direct entries, strategy 4, one entry at most."""
 
-HEAD_AT, TABLE_TYPE = 152, int(Kind.TABLE)
+HEAD_AT, TABLE_TYPE = 152, int(FileType.TABLE)
 
 
 class Survey:
@@ -44,7 +44,7 @@ class Survey:
         data = run.data
         self.missing += run.missing
         for offset in range(0, len(data), BLOCK):
-            if data[offset : offset + 4] == ENTRY or data[offset + 16 : offset + 27] == ICB_TAG:
+            if data[offset : offset + 4] == ENTRY_TAG or data[offset + 16 : offset + 27] == ICB_TAG:
                 self._entry(Address(start + offset // BLOCK), data[offset : offset + BLOCK])
             elif data[offset + HEAD_AT : offset + HEAD_AT + 32] == SESSIONS:
                 self.heads.append(Address(start + offset // BLOCK))
@@ -54,7 +54,7 @@ class Survey:
             self.tables.append(at)
             return
         entry = mend_entry(block, Hint(number_of(at)), self._budget)
-        if entry is None or not entry.proved or entry.kind is Kind.TABLE:
+        if entry is None or not entry.proved or entry.kind is FileType.TABLE:
             self.hurt.append(at)
         else:
             self._nodes.setdefault(entry.location, array("I")).append(at)

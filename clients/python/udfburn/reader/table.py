@@ -9,31 +9,31 @@ from typing import Iterator, List, NamedTuple, Optional, Tuple
 
 from ..protocol.units import Address, BlockNumber, Commit, Moment, Size
 from .basics import BLOCK, CLIENTS, FIRST_UNIQUE, NODES, UNUSED, address_of, entity, is_label, read_dstring
-from .notes import Cause, Fault
+from .notes import DamageCause, StructureFault
 
 SESSIONS = entity(b"*udfburn sessions")
-HEAD = 196
+HEAD_SIZE = 196
 """The bytes of a table's head, before the records of clients."""
 
 RECORD_SIZES = {1: 24, 2: 48}
 """The bytes of a client's record, by the version of the sessions."""
 
-LAYOUT = struct.Struct("<HH128sIII3HH32sHHII")
+TABLE_LAYOUT = struct.Struct("<HH128sIII3HH32sHHII")
 
 
-class Reply(NamedTuple):
+class KeptReply(NamedTuple):
     """A reply that is kept: its code, and the number of its commit."""
 
     code: int
     commit: Commit
 
 
-class Client(NamedTuple):
+class ClientRecord(NamedTuple):
     """A client's record: its number, the number of its latest request, and the replies kept, the newest first."""
 
     client: int
     latest: int
-    replies: Tuple[Reply, ...]
+    replies: Tuple[KeptReply, ...]
 
 
 class Head(NamedTuple):
@@ -82,7 +82,7 @@ class Table(NamedTuple):
 
 def read_head(data: bytes) -> Optional[Head]:
     """The head of a table's data; None where it is too short."""
-    return Head(*LAYOUT.unpack_from(data)) if len(data) >= HEAD else None
+    return Head(*TABLE_LAYOUT.unpack_from(data)) if len(data) >= HEAD_SIZE else None
 
 
 def is_sensible(head: Head, size: Size, number: BlockNumber) -> bool:
@@ -97,28 +97,28 @@ def is_sensible(head: Head, size: Size, number: BlockNumber) -> bool:
 def lengths_agree(head: Head, size: int) -> bool:
     """Whether the lengths of the head agree with one another and with the size."""
     record = RECORD_SIZES.get(head.version, RECORD_SIZES[1])
-    return head.length == 152 + head.use_length == HEAD + record * head.clients and head.length <= size and (size - head.length) % 4 == 0
+    return head.length == 152 + head.use_length == HEAD_SIZE + record * head.clients and head.length <= size and (size - head.length) % 4 == 0
 
 
 def entries_at(head: Head, size: int) -> Optional[Size]:
     """Where the entries begin: by two of the three that say it, where they agree; None where no two do."""
     record = RECORD_SIZES.get(head.version, RECORD_SIZES[2])
-    said = (head.length, 152 + head.use_length, HEAD + record * head.clients)
+    said = (head.length, 152 + head.use_length, HEAD_SIZE + record * head.clients)
     for at in said:
-        if said.count(at) >= 2 and HEAD <= at <= size - 8 and (size - at) % 4 == 0:
+        if said.count(at) >= 2 and HEAD_SIZE <= at <= size - 8 and (size - at) % 4 == 0:
             return Size(at)
     return None
 
 
-def read_clients(data: bytes, version: int, count: int) -> List[Client]:
+def read_clients(data: bytes, version: int, count: int) -> List[ClientRecord]:
     """The records of clients, as far as the data has them."""
     size = RECORD_SIZES.get(version, RECORD_SIZES[2])
     found = []
-    for at in range(HEAD, min(HEAD + size * count, len(data) - size + 1), size):
+    for at in range(HEAD_SIZE, min(HEAD_SIZE + size * count, len(data) - size + 1), size):
         client, latest = struct.unpack_from("<QQ", data, at)
         places = (struct.unpack_from("<HHI", data, at + 16 + 8 * index) for index in range((size - 16) // 8))
-        replies = tuple(Reply(code, commit) for code, _, commit in places if commit)
-        found.append(Client(client, latest, replies))
+        replies = tuple(KeptReply(code, commit) for code, _, commit in places if commit)
+        found.append(ClientRecord(client, latest, replies))
     return found
 
 
@@ -130,50 +130,50 @@ def read_entries(data: bytes, at: int) -> "array[int]":
     return entries
 
 
-def table_faults(data: bytes, number: BlockNumber) -> Iterator[Fault]:
+def table_faults(data: bytes, number: BlockNumber) -> Iterator[StructureFault]:
     """All that is not as it must be with the data of a table, in the order in which `udfburn` looks for it.
 
     `number` is the block number of the VAT ICB.
     """
     head = read_head(data)
     if head is None:
-        yield Fault(Cause.HEADER, f"the table has {len(data)} bytes, fewer than its head")
+        yield StructureFault(DamageCause.HEADER, f"the table has {len(data)} bytes, fewer than its head")
         return
     agrees = lengths_agree(head, len(data))
     if not agrees:
-        yield Fault(Cause.HEADER, "the lengths of the table do not agree")
+        yield StructureFault(DamageCause.HEADER, "the lengths of the table do not agree")
     if head.reserved:
-        yield Fault(Cause.HEADER, "the reserved field of the table is not zero")
+        yield StructureFault(DamageCause.HEADER, "the reserved field of the table is not zero")
     if head.previous != UNUSED if head.commits == 0 else head.previous >= number:
-        yield Fault(Cause.HEADER, f"the table before would have its entry at block number {head.previous}")
+        yield StructureFault(DamageCause.HEADER, f"the table before would have its entry at block number {head.previous}")
     if not is_label(read_dstring(head.label)):
-        yield Fault(Cause.LABEL, "the label of the table is none")
+        yield StructureFault(DamageCause.LABEL, "the label of the table is none")
     if (head.read_revision, head.write_revision, head.greatest_revision) != (0x201, 0x201, 0x201):
-        yield Fault(Cause.REVISION, "a revision of UDF is not 2.01")
+        yield StructureFault(DamageCause.REVISION, "a revision of UDF is not 2.01")
     if head.identifier != SESSIONS or head.version not in RECORD_SIZES or head.clients > CLIENTS:
-        yield Fault(Cause.SESSIONS, "the sessions' identifier, version or count is not as it must be")
+        yield StructureFault(DamageCause.SESSIONS, "the sessions' identifier, version or count is not as it must be")
     elif agrees:
         yield from client_faults(data, head)
     at = head.length if agrees else entries_at(head, len(data))
     if at is not None:
         yield from entries_faults(read_entries(data, at), head, number)
     if head.next_unique < FIRST_UNIQUE:
-        yield Fault(Cause.COUNT, f"the next unique ID is {head.next_unique}")
+        yield StructureFault(DamageCause.COUNT, f"the next unique ID is {head.next_unique}")
 
 
-def client_faults(data: bytes, head: Head) -> Iterator[Fault]:
+def client_faults(data: bytes, head: Head) -> Iterator[StructureFault]:
     """What is wrong with the records of clients."""
     size = RECORD_SIZES[head.version]
     clients = read_clients(data, head.version, head.clients)
     for index, client in enumerate(clients):
-        text = data[HEAD + size * index : HEAD + size * (index + 1)]
+        text = data[HEAD_SIZE + size * index : HEAD_SIZE + size * (index + 1)]
         if not is_kept(client, head.commits) or write_client(client, size) != text:
-            yield Fault(Cause.SESSIONS, f"the record of client {client.client} is not as it must be")
+            yield StructureFault(DamageCause.SESSIONS, f"the record of client {client.client} is not as it must be")
     if len({client.client for client in clients}) < len(clients):
-        yield Fault(Cause.CLIENT_TWICE, "a client has two records")
+        yield StructureFault(DamageCause.CLIENT_TWICE, "a client has two records")
 
 
-def is_kept(client: Client, commits: Commit) -> bool:
+def is_kept(client: ClientRecord, commits: Commit) -> bool:
     """Whether a client can have this record after so many commits."""
     limit = commits
     for reply in client.replies:
@@ -183,21 +183,21 @@ def is_kept(client: Client, commits: Commit) -> bool:
     return client.client > 0 and client.latest > 0 and 0 < len(client.replies) <= client.latest
 
 
-def write_client(client: Client, size: int) -> bytes:
+def write_client(client: ClientRecord, size: int) -> bytes:
     """A record of so many bytes."""
     replies = b"".join(struct.pack("<HHI", reply.code, 0, reply.commit) for reply in client.replies)
     return (struct.pack("<QQ", client.client, client.latest) + replies).ljust(size, b"\0")
 
 
-def entries_faults(entries: "array[int]", head: Head, number: BlockNumber) -> Iterator[Fault]:
+def entries_faults(entries: "array[int]", head: Head, number: BlockNumber) -> Iterator[StructureFault]:
     """What is wrong with the entries of virtual addresses."""
     used = [entry for entry in entries if entry != UNUSED]
     if used and max(used) >= number or UNUSED in entries[:2]:
-        yield Fault(Cause.ENTRY, "a block number is not below that of the VAT ICB, or there is no file set or no root")
+        yield StructureFault(DamageCause.ENTRY, "a block number is not below that of the VAT ICB, or there is no file set or no root")
     if not 2 <= len(entries) <= NODES + 1:
-        yield Fault(Cause.COUNT, f"there are {len(entries)} virtual addresses")
+        yield StructureFault(DamageCause.COUNT, f"there are {len(entries)} virtual addresses")
     if len(used) != 1 + head.files + head.directories:
-        yield Fault(Cause.COUNT, f"{len(used)} virtual addresses are used, and the table counts {head.files} files and {head.directories} directories")
+        yield StructureFault(DamageCause.COUNT, f"{len(used)} virtual addresses are used, and the table counts {head.files} files and {head.directories} directories")
 
 
 def previous_of(head: Head, number: BlockNumber) -> Optional[Address]:

@@ -5,14 +5,14 @@ from __future__ import annotations
 from typing import Dict, Iterator, List, NamedTuple, Optional, Set, Tuple
 
 from ..protocol.units import Address, BlockNumber, Commit, Moment, Size, VirtualAddress
-from .basics import BLOCK, FIRST_UNIQUE, GREATEST_CAPACITY, PARTITION, PATH_NAMES, UNUSED, address_of, blocks_of, number_of, read_dstring
-from .budget import TABLE_BYTES, Budget, Work, room_of
-from .directory import Directory, Identifier, Known, read_directory
-from .entry import Entry, Extent, Kind, is_entry_like, read_entry, read_file_set
+from .basics import BLOCK, DEPTH, FIRST_UNIQUE, GREATEST_CAPACITY, PARTITION, UNUSED, address_of, blocks_of, number_of, read_dstring
+from .budget import TABLE_BYTES, Budget, Work, block_budget
+from .directory import Directory, Identifier, KnownIdentifiers, read_directory
+from .entry import Entry, Extent, FileType, is_entry_like, read_entry, read_file_set
 from .front import Front, note_front, read_front
 from .medium import Medium, Run
-from .notes import Cause, Notes
-from .table import Client, Table, entries_at, is_sensible, previous_of, read_clients, read_entries, read_head, table_faults
+from .notes import DamageCause, Notes
+from .table import ClientRecord, Table, entries_at, is_sensible, previous_of, read_clients, read_entries, read_head, table_faults
 
 Path = Tuple[str, ...]
 """The names from the root on. The root has none."""
@@ -25,7 +25,7 @@ class NoVolume(Exception):
     """No VAT ICB is on the medium, or none of the commit that was asked for."""
 
 
-class Node(NamedTuple):
+class StateNode(NamedTuple):
     """A file or a directory of a state.
 
     `path` has its names, `unique` and `virtual` are its unique ID and its virtual address, `address` is that of its entry and
@@ -35,7 +35,7 @@ class Node(NamedTuple):
     """
 
     path: Path
-    kind: Kind
+    kind: FileType
     unique: int
     virtual: VirtualAddress
     address: Address
@@ -62,7 +62,7 @@ class Volume:
         self.medium = medium
         self.notes = Notes()
         self.budget = Budget(min(medium.blocks, GREATEST_CAPACITY))
-        self.known = Known(self.budget)
+        self.known = KnownIdentifiers(self.budget)
         front: Front = read_front(medium)
         self.label, self.moment, self.capacity = front
         self._front = front
@@ -104,16 +104,16 @@ class Volume:
         """The table whose entry is at an address; None where there is none that can be used. What is wrong is noted."""
         block = self.medium.block(address)
         if block is None:
-            self.notes.add(address, Cause.MISSING, "the VAT ICB cannot be read")
+            self.notes.add(address, DamageCause.MISSING, "the VAT ICB cannot be read")
             return None
         number = number_of(address)
         entry, faults = read_entry(block, number)
         self.notes.extend(address, faults)
-        if entry is None or entry.kind is not Kind.TABLE or entry.first is None:
-            self.notes.add(address, Cause.CHAIN, "there is no VAT ICB")
+        if entry is None or entry.kind is not FileType.TABLE or entry.first is None:
+            self.notes.add(address, DamageCause.CHAIN, "there is no VAT ICB")
             return None
         if entry.first + blocks_of(entry.size) > number:
-            self.notes.add(address, Cause.RANGE, "the table's data does not lie below its entry")
+            self.notes.add(address, DamageCause.RANGE, "the table's data does not lie below its entry")
             return None
         return self.table_of(address, entry)
 
@@ -123,12 +123,12 @@ class Volume:
             raise ValueError("the entry has no extent")
         start, number = address_of(entry.first), number_of(address)
         if entry.size > TABLE_BYTES:
-            self.notes.add(start, Cause.COUNT, f"a table of {entry.size} bytes has more clients or virtual addresses than a volume can have")
+            self.notes.add(start, DamageCause.COUNT, f"a table of {entry.size} bytes has more clients or virtual addresses than a volume can have")
             return None
         run = self.medium.run(start, 1)
         head = read_head(run.data)
         if run.missing or head is None or not is_sensible(head, entry.size, number):
-            self.notes.add(start, Cause.MISSING if run.missing else Cause.HEADER, "the head of the table cannot be used")
+            self.notes.add(start, DamageCause.MISSING if run.missing else DamageCause.HEADER, "the head of the table cannot be used")
             return None
         label = read_dstring(head.label)
         length = entries_at(head, entry.size)
@@ -149,18 +149,18 @@ class Volume:
                 break
             table = self.table_at(newer.previous)
             if table is not None and table.commit + 1 != newer.commit:
-                self.notes.add(newer.previous, Cause.CHAIN, f"the table before commit {newer.commit} is of commit {table.commit}")
+                self.notes.add(newer.previous, DamageCause.CHAIN, f"the table before commit {newer.commit} is of commit {table.commit}")
                 break
         else:
             return
         if newer.previous is None and newer.commit:
-            self.notes.add(newer.address, Cause.CHAIN, f"commit {newer.commit} has no table before it")
+            self.notes.add(newer.address, DamageCause.CHAIN, f"commit {newer.commit} has no table before it")
 
     def data_of(self, table: Table) -> Run:
         """The data of a table, in whole blocks."""
         return self.medium.run(address_of(table.first), blocks_of(table.size))
 
-    def clients(self, table: Table) -> List[Client]:
+    def clients(self, table: Table) -> List[ClientRecord]:
         """The records of clients that a table has, in order of their first commits."""
         return read_clients(self.data_of(table).data[: table.size], table.version, table.clients)
 
@@ -170,7 +170,7 @@ class Volume:
         """The state after a commit, or the newest; NoVolume where the chain has none of it."""
         return State(self, self.table(commit))
 
-    def read(self, node: Node) -> Run:
+    def read(self, node: StateNode) -> Run:
         """The bytes of a file, with zeros where a block is missing."""
         if node.data is None:
             block = self.medium.block(node.address) or bytes(BLOCK)
@@ -178,7 +178,7 @@ class Volume:
         runs = list(self.pieces(node))
         return Run(b"".join(run.data for run in runs), tuple(at for run in runs for at in run.missing))
 
-    def pieces(self, node: Node) -> Iterator[Run]:
+    def pieces(self, node: StateNode) -> Iterator[Run]:
         """The bytes of a file, extent by extent, with zeros where a block is missing."""
         if node.data is None:
             yield self.read(node)
@@ -189,7 +189,7 @@ class Volume:
     def check(self) -> Notes:
         """Looks at the volume header, every table, and every node of every state. The notes, which are empty where all is as it must be."""
         note_front(self.medium, self._front, self.notes)
-        seen = Seen()
+        seen = AlreadyRead()
         for table in self.chain():
             State(self, table, seen).check()
         return self.notes
@@ -197,7 +197,7 @@ class Volume:
 
 def is_table_entry(block: bytes, address: Address) -> bool:
     """Whether the block is a VAT ICB at this address, by its whole descriptor."""
-    if not is_entry_like(block) or block[27] != Kind.TABLE:
+    if not is_entry_like(block) or block[27] != FileType.TABLE:
         return False
     entry, faults = read_entry(block, number_of(address))
     return entry is not None and not faults
@@ -207,7 +207,7 @@ EntryKey = Tuple[Address, VirtualAddress]
 DirectoryKey = Tuple[Address, Size]
 
 
-class Seen:
+class AlreadyRead:
     """What was read already: entries by their addresses and virtual addresses, and directories by their data."""
 
     def __init__(self) -> None:
@@ -236,23 +236,23 @@ class Seen:
 class State:
     """The tree after a commit."""
 
-    def __init__(self, volume: Volume, table: Table, seen: Optional[Seen] = None):
+    def __init__(self, volume: Volume, table: Table, seen: Optional[AlreadyRead] = None):
         self.volume = volume
         self.table = table
-        self._seen = seen or Seen()
+        self._seen = seen or AlreadyRead()
         self._seen.begin()
         run = volume.data_of(table)
         self._data = run.data[: table.size]
         self.entries = read_entries(self._data, table.length)
         for at in run.missing:
-            volume.notes.add(at, Cause.MISSING, "a block of the table cannot be read")
+            volume.notes.add(at, DamageCause.MISSING, "a block of the table cannot be read")
         volume.notes.extend(address_of(table.first), list(table_faults(self._data, number_of(table.address))))
         self._room = 0
         self.broken: List[Tuple[Path, Identifier]] = []
         """Names whose nodes could not be read in the last walk."""
 
     @property
-    def clients(self) -> List[Client]:
+    def clients(self) -> List[ClientRecord]:
         """The records of clients, in order of their first commits."""
         return read_clients(self._data, self.table.version, self.table.clients)
 
@@ -261,40 +261,40 @@ class State:
         number = BlockNumber(self.entries[virtual]) if 0 <= virtual < len(self.entries) else UNUSED
         return address_of(number) if number < number_of(self.table.address) else None
 
-    def root(self) -> Optional[Node]:
+    def root(self) -> Optional[StateNode]:
         """The root; None where its entry cannot be read."""
         return self._node((), Identifier("", True, ROOT, 0, True), ROOT, address_of(self.table.first))
 
-    def names(self, node: Node) -> List[Identifier]:
+    def names(self, node: StateNode) -> List[Identifier]:
         """The names of a directory, in stored order, as far as they can be read."""
         directory = self._directory(node)
         return directory.names if directory is not None else []
 
-    def is_complete(self, node: Node) -> bool:
+    def is_complete(self, node: StateNode) -> bool:
         """Whether each name of a directory could be read."""
         directory = self._directory(node)
         return directory is not None and directory.complete
 
-    def child(self, node: Node, name: Identifier) -> Optional[Node]:
+    def child(self, node: StateNode, name: Identifier) -> Optional[StateNode]:
         """The node that a directory names; None where its entry cannot be read."""
         return self._node(node.path + (name.name,), name, node.virtual, node.data or node.address)
 
-    def walk(self, top: Optional[Node] = None) -> Iterator[Node]:
+    def walk(self, top: Optional[StateNode] = None) -> Iterator[StateNode]:
         """A directory (the root where none is given) and all below it, depth first and in stored order."""
         self.broken = []
-        self._room = room_of(min(self.volume.medium.blocks, GREATEST_CAPACITY))
+        self._room = block_budget(min(self.volume.medium.blocks, GREATEST_CAPACITY))
         root = top if top is not None else self.root()
         if root is not None:
             reached: Set[VirtualAddress] = {root.virtual}
             yield from self._below(root, reached)
 
-    def _below(self, node: Node, reached: Set[VirtualAddress]) -> Iterator[Node]:
+    def _below(self, node: StateNode, reached: Set[VirtualAddress]) -> Iterator[StateNode]:
         yield node
-        if node.kind is not Kind.DIRECTORY:
+        if node.kind is not FileType.DIRECTORY:
             return
         for name in self.names(node):
-            if len(node.path) == PATH_NAMES or name.virtual in reached:
-                cause = Cause.TOO_DEEP if len(node.path) == PATH_NAMES else Cause.REACHED_TWICE
+            if len(node.path) == DEPTH or name.virtual in reached:
+                cause = DamageCause.TOO_DEEP if len(node.path) == DEPTH else DamageCause.REACHED_TWICE
                 self.volume.notes.add(self.address(name.virtual) or node.address, cause, f"{show(node.path + (name.name,))} is reached a second time or too deep")
                 self.broken.append((node.path + (name.name,), name))
                 continue
@@ -307,43 +307,43 @@ class State:
             else:
                 yield from self._below(child, reached)
 
-    def _fits(self, node: Node) -> bool:
+    def _fits(self, node: StateNode) -> bool:
         """Whether all nodes that were met have blocks of their own, as far as their number shows it."""
         self._room -= 1 + node.blocks
         if self._room < 0:
-            self.volume.notes.add(node.address, Cause.COUNTS, Work.NODES.text)
+            self.volume.notes.add(node.address, DamageCause.COUNTS, Work.NODES.text)
         return self._room >= 0
 
-    def find(self, path: Path) -> Optional[Node]:
+    def find(self, path: Path) -> Optional[StateNode]:
         """The node at a path; None where there is none that can be read."""
         node = self.root()
         for part in path:
-            if node is None or node.kind is not Kind.DIRECTORY:
+            if node is None or node.kind is not FileType.DIRECTORY:
                 return None
             name = next((name for name in self.names(node) if name.name == part), None)
             node = self.child(node, name) if name is not None else None
         return node
 
-    def _node(self, path: Path, name: Identifier, above: VirtualAddress, named_at: Address) -> Optional[Node]:
+    def _node(self, path: Path, name: Identifier, above: VirtualAddress, named_at: Address) -> Optional[StateNode]:
         notes = self.volume.notes
         at = self.address(name.virtual)
         if at is None:
-            notes.add(named_at, Cause.RANGE, f"{show(path)} leads to virtual address {name.virtual}, which leads to no block below the table")
+            notes.add(named_at, DamageCause.RANGE, f"{show(path)} leads to virtual address {name.virtual}, which leads to no block below the table")
             return None
         entry = self._entry(at, name.virtual)
         if entry is None:
             return None
-        kind = Kind.DIRECTORY if name.is_directory else Kind.FILE
+        kind = FileType.DIRECTORY if name.is_directory else FileType.FILE
         if entry.kind is not kind or entry.unique != name.unique:
-            notes.add(at, Cause.IDENTITY, f"the entry is not that of {show(path)}, by its kind or its unique ID")
+            notes.add(at, DamageCause.IDENTITY, f"the entry is not that of {show(path)}, by its kind or its unique ID")
             return None
-        if kind is Kind.FILE and entry.links != 1:
-            notes.add(at, Cause.IDENTITY, f"{show(path)} has {entry.links} links, and not 1")
+        if kind is FileType.FILE and entry.links != 1:
+            notes.add(at, DamageCause.IDENTITY, f"{show(path)} has {entry.links} links, and not 1")
         if entry.end > number_of(self.table.address):
-            notes.add(at, Cause.RANGE, f"the bytes of {show(path)} do not lie below the VAT ICB")
+            notes.add(at, DamageCause.RANGE, f"the bytes of {show(path)} do not lie below the VAT ICB")
             return None
         data = address_of(entry.first) if entry.first is not None else None
-        return Node(
+        return StateNode(
             path, kind, entry.unique, name.virtual, at, entry.moment, entry.size, data, entry.blocks, entry.links, above, entry.check, entry.extents,
         )
 
@@ -353,31 +353,31 @@ class State:
             return entry
         block = self.volume.medium.block(at)
         if block is None:
-            self.volume.notes.add(at, Cause.MISSING, "the entry cannot be read")
+            self.volume.notes.add(at, DamageCause.MISSING, "the entry cannot be read")
         else:
             entry, faults = read_entry(block, virtual)
             self.volume.notes.extend(at, faults)
         self._seen.entries[at, virtual] = entry
         return entry
 
-    def _directory(self, node: Node) -> Optional[Directory]:
+    def _directory(self, node: StateNode) -> Optional[Directory]:
         if node.data is None:
-            self.volume.notes.add(node.address, Cause.LENGTHS, f"the directory {show(node.path)} has no bytes")
+            self.volume.notes.add(node.address, DamageCause.LENGTHS, f"the directory {show(node.path)} has no bytes")
             return None
         known, directory = self._seen.directory((node.data, node.size))
         if not known:
             run = self.volume.medium.run(node.data, node.blocks)
             for at in run.missing:
-                self.volume.notes.add(at, Cause.MISSING, f"a block of the directory {show(node.path)} cannot be read")
+                self.volume.notes.add(at, DamageCause.MISSING, f"a block of the directory {show(node.path)} cannot be read")
             directory, faults = read_directory(run.data, node.size, number_of(node.data), self.volume.known)
             self.volume.notes.extend(node.data, faults)
             self._seen.directories[node.data, node.size] = directory
         if directory is None:
             raise RuntimeError("a directory that was seen before has no names")
         if directory.parent != node.above:
-            self.volume.notes.add(node.data, Cause.IDENTITY, f"the directory above {show(node.path)} is another than it says")
+            self.volume.notes.add(node.data, DamageCause.IDENTITY, f"the directory above {show(node.path)} is another than it says")
         if node.links != 1 + sum(name.is_directory for name in directory.names):
-            self.volume.notes.add(node.address, Cause.IDENTITY, f"the links of {show(node.path)} are not those of its directories")
+            self.volume.notes.add(node.address, DamageCause.IDENTITY, f"the links of {show(node.path)} are not those of its directories")
         return directory
 
     # ---- what structures say of one another
@@ -390,29 +390,29 @@ class State:
         files = directories = 0
         uniques: Set[int] = set()
         for node in self.walk():
-            files, directories = files + (node.kind is Kind.FILE), directories + (node.kind is Kind.DIRECTORY)
+            files, directories = files + (node.kind is FileType.FILE), directories + (node.kind is FileType.DIRECTORY)
             fresh = node.unique not in uniques and (FIRST_UNIQUE <= node.unique < table.next_unique if node.path else node.unique == 0)
             uniques.add(node.unique)
             if not fresh:
-                notes.add(node.address, Cause.IDENTITY, f"the unique ID {node.unique} of {show(node.path)} is not its own")
+                notes.add(node.address, DamageCause.IDENTITY, f"the unique ID {node.unique} of {show(node.path)} is not its own")
         if (files, directories) != (table.files, table.directories):
-            notes.add(start, Cause.COUNTS, f"the table counts {table.files} files and {table.directories} directories, the tree has {files} and {directories}")
+            notes.add(start, DamageCause.COUNTS, f"the table counts {table.files} files and {table.directories} directories, the tree has {files} and {directories}")
         if 2 * table.commit + 261 > table.address or table.next_unique > FIRST_UNIQUE + table.commit:
-            notes.add(start, Cause.COUNTS, "the count of commits is not that of the table's place")
+            notes.add(start, DamageCause.COUNTS, "the count of commits is not that of the table's place")
 
     def _check_file_set(self) -> None:
         volume, notes, start = self.volume, self.volume.notes, address_of(self.table.first)
         at = self.address(VirtualAddress(0))
         block = volume.medium.block(at) if at is not None else None
         if at is None or block is None:
-            notes.add(at or start, Cause.RANGE if at is None else Cause.MISSING, "there is no file set descriptor that can be read")
+            notes.add(at or start, DamageCause.RANGE if at is None else DamageCause.MISSING, "there is no file set descriptor that can be read")
             return
         label, moment, faults = read_file_set(block)
         notes.extend(at, faults)
         if volume.label is not None and self.table.label != volume.label:
-            notes.add(start, Cause.LABELS, "the label of the table is not that of the volume header")
+            notes.add(start, DamageCause.LABELS, "the label of the table is not that of the volume header")
         if volume.label is not None and label != volume.label or volume.moment is not None and moment != volume.moment:
-            notes.add(at, Cause.LABELS, "the label or the moment of the file set is not that of the volume header")
+            notes.add(at, DamageCause.LABELS, "the label or the moment of the file set is not that of the volume header")
 
 
 def show(path: Path) -> str:

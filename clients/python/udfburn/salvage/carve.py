@@ -6,10 +6,10 @@ import hashlib
 from typing import Callable, Optional
 
 from ..protocol.units import Address
-from ..reader.basics import BLOCK, FILE_BYTES, blocks_of
+from ..reader.basics import BLOCK, EXTENT_BYTES, blocks_of
 from ..reader.budget import Work
 from ..reader.chain import Chain
-from ..reader.notes import Cause
+from ..reader.notes import DamageCause
 
 STARTS = 20_000
 """How many beginnings of files are tried in all."""
@@ -30,7 +30,7 @@ class Carver:
         those of its earlier extents."""
         earlier = hashlib.sha256(before)
         volume = self.chain.volume
-        low = max(self.chain.floor(address), Address(address - blocks_of(FILE_BYTES)))
+        low = max(self.chain.floor(address), Address(address - blocks_of(EXTENT_BYTES)))
         run = volume.medium.run(low, max(address - low, 0))
         # What is missing is not hashed, so the file begins after it.
         begin = run.missing[-1] + 1 - low if run.missing else 0
@@ -41,7 +41,7 @@ class Carver:
                 return None
             self._left -= 1
             if not volume.budget.take(Work.HASHED, len(run.data) - start * BLOCK + ends):
-                volume.notes.add(address, Cause.COUNTS, Work.HASHED.text)
+                volume.notes.add(address, DamageCause.COUNTS, Work.HASHED.text)
                 return None
             found = with_digest(run.data[start * BLOCK :], is_kept, earlier)
             if found is not None:

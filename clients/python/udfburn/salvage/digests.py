@@ -5,14 +5,14 @@ from __future__ import annotations
 import re
 from typing import Collection, Dict, FrozenSet, Iterator, List, NamedTuple, Optional, Set
 
+from ..base.manifest import MANIFEST, TAG_MANIFEST
 from ..protocol.units import Address
 from ..reader.volume import Path
 
-MANIFEST, TAG_MANIFEST, DECLARATION = "manifest-sha256.txt", "tagmanifest-sha256.txt", "bagit.txt"
 TRIED = 1_000_000
 """How often it is asked, at most, whether a line of a manifest without a name is that of a file."""
 
-LINE = re.compile(r"(\\?)([0-9A-Fa-f]{64})[ \t]+\*?(.+)", re.DOTALL)
+SUM_LINE = re.compile(r"(\\?)([0-9A-Fa-f]{64})[ \t]+\*?(.+)", re.DOTALL)
 ESCAPES = {"n": "\n", "r": "\r", "\\": "\\"}
 
 
@@ -23,10 +23,10 @@ class Listed(NamedTuple):
     digest: str
 
 
-def lines_of(folder: Path, data: bytes, is_bag: bool) -> Iterator[Listed]:
+def listed_lines(folder: Path, data: bytes, is_bag: bool) -> Iterator[Listed]:
     """The valid lines of a manifest in a folder."""
     for line in split_lines(data, is_bag):
-        found = LINE.fullmatch(line)
+        found = SUM_LINE.fullmatch(line)
         if found is None:
             continue
         name = found[3]
@@ -42,7 +42,7 @@ def split_lines(data: bytes, is_bag: bool) -> List[str]:
     return [line for line in re.split("\r\n|\r|\n" if is_bag else "\r?\n", data.decode("utf-8", "replace")) if line]
 
 
-class Kept(NamedTuple):
+class ManifestDigest(NamedTuple):
     """A digest of a file, and the address of the entry of the manifest that has it. Where it is doubted, that a file has another says
     nothing."""
 
@@ -55,10 +55,10 @@ class Digests:
     """What the manifests on a volume say of files' digests."""
 
     def __init__(self) -> None:
-        self._known: Dict[Path, List[Kept]] = {}
+        self._known: Dict[Path, List[ManifestDigest]] = {}
         self._paths: Dict[str, Path] = {}
 
-    def add(self, path: Path, kept: Kept) -> None:
+    def add(self, path: Path, kept: ManifestDigest) -> None:
         """Adds a file's digest."""
         self._known.setdefault(path, []).append(kept)
         self._paths.setdefault(kept.digest, path)
@@ -114,7 +114,7 @@ def add_manifests(digests: Digests, found: List[Manifest], bags: Set[Path]) -> D
 
     `bags` are the folders with a `bagit.txt`. A manifest that is not as another has it is doubted.
     """
-    lines = [(manifest, list(lines_of(manifest.folder, manifest.data, manifest.folder in bags))) for manifest in found]
+    lines = [(manifest, list(listed_lines(manifest.folder, manifest.data, manifest.folder in bags))) for manifest in found]
     own: Dict[Path, Set[str]] = {}
     for _, listed in lines:
         for path, digest in listed:
@@ -124,7 +124,7 @@ def add_manifests(digests: Digests, found: List[Manifest], bags: Set[Path]) -> D
         known = own.get(manifest.path)
         doubted = manifest.hurt or known is not None and manifest.digest not in known
         for path, digest in listed:
-            digests.add(path, Kept(digest, manifest.address, doubted))
+            digests.add(path, ManifestDigest(digest, manifest.address, doubted))
         count = len(split_lines(manifest.data, manifest.folder in bags))
         is_read = len(listed) == count and not manifest.hurt
         paths[manifest.path] = frozenset([path for path, _ in listed] + ([] if is_read and listed else [None]))
@@ -138,7 +138,7 @@ def is_manifest(name: str) -> bool:
 
 def folder_of(data: bytes, paths: Collection[Path]) -> Optional[Path]:
     """The folder of a manifest whose name is lost: the one in which most of its files are. None where the bytes are no manifest."""
-    listed = list(lines_of((), data, False))
+    listed = list(listed_lines((), data, False))
     if not listed or len(listed) < len(split_lines(data, False)):
         return None
     first = [line.path for line in listed[:20]]

@@ -6,26 +6,27 @@ import hashlib
 from typing import Dict, FrozenSet, Iterator, List, NamedTuple, Optional, Set, Tuple
 
 from ..base.errors import UdfburnError
+from ..base.manifest import BAG_DECLARATION
 from ..protocol import escaped
 from ..protocol.units import Address, Commit, Size
-from ..reader import Kind, Medium, Note, Volume
+from ..reader import FileType, Medium, Note, Volume
 from ..reader.audit import audit
-from ..reader.basics import BLOCK, FILE_BYTES, address_of, blocks_of, crc
+from ..reader.basics import BLOCK, EXTENT_BYTES, address_of, blocks_of, crc
 from ..reader.budget import Work
 from ..reader.chain import Chain, Link, Span
 from ..reader.entry import Entry
-from ..reader.notes import Cause
+from ..reader.notes import DamageCause
 from ..reader.survey import Survey
 from ..reader.volume import Path
 from .carve import Carver, IsKept
-from .digests import DECLARATION, Digests, Manifest, add_manifests, folder_of, is_manifest
-from .ledger import NOTHING, Kept, Seen, Stored, commits_of
-from .tree import LOST_AND_FOUND, Item, Tree
-from .write import InTheWay, Output, Written
+from .digests import Digests, Manifest, add_manifests, folder_of, is_manifest
+from .ledger import NOTHING_KEPT, FoundFile, LedgerFile, LedgerRecords, commits_of
+from .tree import LOST_AND_FOUND, Item, SalvageTree
+from .write import InTheWay, Output, WrittenFile
 
-WHOLE, UNPROVED, EARLIER, NAMELESS, DAMAGED, LOST = "whole", "unproved", "earlier", "nameless", "damaged", "lost"
+FILE_WHOLE, FILE_UNPROVED, FILE_EARLIER, FILE_NAMELESS, FILE_DAMAGED, FILE_LOST = "whole", "unproved", "earlier", "nameless", "damaged", "lost"
 UNFINISHED = "unfinished"
-STATES = (WHOLE, UNPROVED, EARLIER, NAMELESS, DAMAGED, LOST)
+FILE_STATES = (FILE_WHOLE, FILE_UNPROVED, FILE_EARLIER, FILE_NAMELESS, FILE_DAMAGED, FILE_LOST)
 """How a file was obtained.
 
 `whole`: its bytes have the digest that the volume or the ledger keeps of them. `unproved`: all its blocks could be read, and no digest
@@ -41,7 +42,7 @@ class NothingToSalvage(UdfburnError):
     """There is no table on the medium that can be read, or none of the commit that was asked for."""
 
 
-class Outcome(NamedTuple):
+class SalvageOutcome(NamedTuple):
     """What was had of a file or a directory.
 
     `path` has its names on the volume, `written` is its path below the folder (None where nothing was written), `ranges` are the
@@ -49,7 +50,7 @@ class Outcome(NamedTuple):
     """
 
     path: Path
-    kind: Optional[Kind]
+    kind: Optional[FileType]
     state: str
     size: int
     commit: Optional[Span]
@@ -58,7 +59,7 @@ class Outcome(NamedTuple):
     written: Optional[str]
 
 
-class Bytes(NamedTuple):
+class RecoveredBytes(NamedTuple):
     """The bytes of a file, with zeros where they are missing, and why they are not certain."""
 
     data: bytes
@@ -76,8 +77,8 @@ class Salvage:
         self.index = self._index(commit)
         self.digests = Digests()
         audit(self.chain, self.index)
-        self.tree = Tree(self.chain, self.index)
-        self._stored: Kept = NOTHING
+        self.tree = SalvageTree(self.chain, self.index)
+        self._stored: LedgerRecords = NOTHING_KEPT
         self._carver = Carver(self.chain)
         self._digests_met: Set[str] = set()
         self._manifests: Dict[Path, FrozenSet[Optional[Path]]] = {}
@@ -105,7 +106,7 @@ class Salvage:
         """The commits that were acknowledged to the ledger and that come after the newest table."""
         return sorted(commit for commit in self._stored.commits if self.index == 0 and commit > self.link.numbers.high)
 
-    def stored(self, commit: Commit) -> Optional[Stored]:
+    def stored(self, commit: Commit) -> Optional[LedgerFile]:
         """What the ledger stored by a commit."""
         return self._stored.files.get(commit)
 
@@ -124,8 +125,8 @@ class Salvage:
 
     def _add_manifests(self) -> None:
         found: List[Manifest] = []
-        files = {item.path: item for item in self.tree.items if item.kind is Kind.FILE and item.version is not None}
-        bags = {path[:-1] for path in files if path[-1] == DECLARATION}
+        files = {item.path: item for item in self.tree.items if item.kind is FileType.FILE and item.version is not None}
+        bags = {path[:-1] for path in files if path[-1] == BAG_DECLARATION}
         for path, item in files.items():
             is_nameless = path[0] == LOST_AND_FOUND and bool(item.why)
             if (is_nameless or is_manifest(path[-1])) and item.version is not None:
@@ -135,20 +136,20 @@ class Salvage:
                     found.append(Manifest(path, folder, read.data, digest(read.data).hexdigest(), bool(read.why), item.version.address))
         self._manifests = add_manifests(self.digests, found, bags)
 
-    def _seen(self) -> Iterator[Seen]:
+    def _seen(self) -> Iterator[FoundFile]:
         """Each file that was found."""
         for item in self.tree.items:
             seen = self._seen_as(item, item.version.address if item.version is not None else None)
-            if item.entry is not None and seen is not None and item.kind is Kind.FILE:
+            if item.entry is not None and seen is not None and item.kind is FileType.FILE:
                 yield seen
 
-    def _seen_as(self, item: Item, address: Optional[Address]) -> Optional[Seen]:
+    def _seen_as(self, item: Item, address: Optional[Address]) -> Optional[FoundFile]:
         """What is known of the file whose entry is at an address; None where it is of no commit."""
         commits = self.chain.commit_of(address) if address is not None else None
         entry = item.entry
         if commits is None:
             return None
-        return Seen(commits, entry.size if entry is not None else Size(-1), entry.moment if entry is not None else None)
+        return FoundFile(commits, entry.size if entry is not None else Size(-1), entry.moment if entry is not None else None)
 
     # ---- digests
 
@@ -186,82 +187,82 @@ class Salvage:
     def _appended(self, item: Item, address: Address, is_kept: IsKept) -> Optional[bytes]:
         """The bytes of a file whose newest entry is lost, where the one before it has all of its extents but the last."""
         entry = item.entry
-        if entry is None or item.version is None or item.version.commit is None or not entry.size or entry.size % FILE_BYTES:
+        if entry is None or item.version is None or item.version.commit is None or not entry.size or entry.size % EXTENT_BYTES:
             return None
         before = self.bytes_of(entry)
         return self._carver.find(address, is_kept, before.data) if not before.why else None
 
     # ---- files
 
-    def bytes_of(self, entry: Entry) -> Bytes:
+    def bytes_of(self, entry: Entry) -> RecoveredBytes:
         """The bytes of a file."""
         doubt = "" if entry.proved else "its entry has a wrong byte, which may be one of its own"
         if is_carved(entry):
             doubt = "its entry is lost, and how many bytes it has is not known"
         if entry.inside is not None:
-            return Bytes(entry.inside, (), doubt)
+            return RecoveredBytes(entry.inside, (), doubt)
         if entry.first is None:
-            return Bytes(b"", (), doubt)
+            return RecoveredBytes(b"", (), doubt)
         ranges, pieces = [], []
         for index, extent in enumerate(entry.extents):
             start = address_of(extent.first)
             run = self.medium.run(start, blocks_of(extent.size))
             for at in run.missing:
                 begin = (at - start) * BLOCK
-                ranges.append((FILE_BYTES * index + begin, min(BLOCK, extent.size - begin)))
-                self.volume.notes.add(at, Cause.MISSING, "a block of a file cannot be read")
+                ranges.append((EXTENT_BYTES * index + begin, min(BLOCK, extent.size - begin)))
+                self.volume.notes.add(at, DamageCause.MISSING, "a block of a file cannot be read")
             if not run.missing and any(run.data[extent.size :]):
-                self.volume.notes.add(Address(address_of(extent.end) - 1), Cause.TAIL, "a byte after the bytes of a file is not zero")
+                self.volume.notes.add(Address(address_of(extent.end) - 1), DamageCause.TAIL, "a byte after the bytes of a file is not zero")
             pieces.append(run.data[: extent.size])
         data = pieces[0] if len(pieces) == 1 else b"".join(pieces)
-        return Bytes(data, joined(ranges), "blocks of it cannot be read" if ranges else doubt)
+        return RecoveredBytes(data, joined_ranges(ranges), "blocks of it cannot be read" if ranges else doubt)
 
-    def judged(self, item: Item) -> Tuple[Outcome, bytes]:
+    def judged(self, item: Item) -> Tuple[SalvageOutcome, bytes]:
         """What was had of a file, and its bytes."""
         carved = self._carved(item)
         if carved is not None:
             return self._found(item, carved), carved
         entry = item.entry
         if entry is None:
-            return Outcome(item.path, item.kind, LOST, 0, None, (), item.why, None), b""
+            return SalvageOutcome(item.path, item.kind, FILE_LOST, 0, None, (), item.why, None), b""
         read = self.bytes_of(entry)
         data = self._mended(item, entry, read.data)
         agrees, digest = self.agrees(item, data)
         state, why = self._state(item, read, agrees)
-        if state == NAMELESS:
+        if state == FILE_NAMELESS:
             why += self._called(digest)
         self._digests_met.add(digest)
-        ranges = read.ranges if state == DAMAGED else ()
-        return Outcome(item.path, item.kind, state, len(data), item.commit, ranges, why, None), data
+        ranges = read.ranges if state == FILE_DAMAGED else ()
+        return SalvageOutcome(item.path, item.kind, state, len(data), item.commit, ranges, why, None), data
 
-    def _found(self, item: Item, data: bytes) -> Outcome:
+    def _found(self, item: Item, data: bytes) -> SalvageOutcome:
         """A file whose entry is lost, and whose bytes have the digest that is kept of it."""
         digest = hashlib.sha256(data).hexdigest()
         self._digests_met.add(digest)
         if item.kind is None:
-            return Outcome(item.path, Kind.FILE, NAMELESS, len(data), None, (), "no name leads to it, and its entry is lost" + self._called(digest), None)
+            return SalvageOutcome(item.path, FileType.FILE, FILE_NAMELESS, len(data), None, (), "no name leads to it, and its entry is lost" + self._called(digest), None)
         is_listed = item.version is not None and item.commit == item.version.commit or item.commit is None
-        state = WHOLE if is_listed else EARLIER
-        return Outcome(item.path, Kind.FILE, state, len(data), item.commit if state == EARLIER else None, (), "", None)
+        state = FILE_WHOLE if is_listed else FILE_EARLIER
+        return SalvageOutcome(item.path, FileType.FILE, state, len(data), item.commit if state == FILE_EARLIER else None, (), "", None)
 
     def _called(self, digest: str) -> str:
         """What a manifest says of the path of a file without a name."""
         known = self.digests.path_of(digest) if digest else None
         return f"; it has the digest that is kept of /{'/'.join(known)}" if known is not None else ""
 
-    def _state(self, item: Item, read: Bytes, agrees: Optional[bool]) -> Tuple[str, str]:
+    def _state(self, item: Item, read: RecoveredBytes, agrees: Optional[bool]) -> Tuple[str, str]:
         """How a file was had, and why it is not whole."""
         if read.why and not agrees:
-            return DAMAGED, read.why
+            return FILE_DAMAGED, read.why
         if item.is_unfinished:
             return UNFINISHED, item.why
         if item.commit is not None:
-            return EARLIER, item.why or f"as of commit {item.commit}"
+            return FILE_EARLIER, item.why or f"as of commit {item.commit}"
         if item.why:
-            return NAMELESS, item.why
+            return FILE_NAMELESS, item.why
         if agrees is False:
-            return DAMAGED, "its bytes do not have the digest that is kept of them"
-        return WHOLE if agrees else UNPROVED, item.why
+            return FILE_DAMAGED, "its bytes do not have the digest that is kept of them"
+        return FILE_WHOLE if agrees else FILE_UNPROVED, item.why
 
     def _mended(self, item: Item, entry: Entry, data: bytes) -> bytes:
         """The bytes of a file inside an entry with a wrong byte, where one bit leads to the digest that is kept; else as read."""
@@ -274,13 +275,13 @@ class Salvage:
                 return other
         return data
 
-    def outcomes(self, output: Optional[Output]) -> Iterator[Outcome]:
+    def outcomes(self, output: Optional[Output]) -> Iterator[SalvageOutcome]:
         """Each file, and each directory that is not whole. With an output each is written there."""
-        waiting: Dict[int, Outcome] = {}
+        waiting: Dict[int, SalvageOutcome] = {}
         last: List[int] = []
-        nameless: List[Outcome] = []
+        nameless: List[SalvageOutcome] = []
         for key, item in enumerate(self.tree.items):
-            if item.kind is Kind.DIRECTORY:
+            if item.kind is FileType.DIRECTORY:
                 yield from self._directory(item, output, tail_of(item))
             elif item.path in self._manifests:
                 # Whether it is whole is known once the files are that it lists.
@@ -293,49 +294,49 @@ class Salvage:
         for key in last:
             yield from self._file(key, self.tree.items[key], output, waiting)
         if output is not None:
-            yield from settled(waiting, output.finish())
+            yield from written_outcomes(waiting, output.finish())
         unmet = list(self._unmet()) if self._is_hurt else []
-        lost = [outcome for outcome in nameless if outcome.state == LOST]
-        yield from (outcome for outcome in nameless if outcome.state != LOST)
+        lost = [outcome for outcome in nameless if outcome.state == FILE_LOST]
+        yield from (outcome for outcome in nameless if outcome.state != FILE_LOST)
         yield from unmet
         # Those that a manifest has are counted once.
         yield from lost[len(unmet) :]
 
-    def _file(self, key: int, item: Item, output: Optional[Output], waiting: Dict[int, Outcome]) -> Iterator[Outcome]:
+    def _file(self, key: int, item: Item, output: Optional[Output], waiting: Dict[int, SalvageOutcome]) -> Iterator[SalvageOutcome]:
         """A file, and those that got their names meanwhile."""
         outcome, data = self.judged(item)
-        if outcome.state == WHOLE:
+        if outcome.state == FILE_WHOLE:
             self._whole.add(item.path)
-        elif outcome.state == UNPROVED and self._manifests.get(item.path, frozenset([None])) <= self._whole:
-            outcome = outcome._replace(state=WHOLE)
-        self._is_hurt |= outcome.state in (LOST, NAMELESS)
-        if output is None or outcome.state == LOST:
+        elif outcome.state == FILE_UNPROVED and self._manifests.get(item.path, frozenset([None])) <= self._whole:
+            outcome = outcome._replace(state=FILE_WHOLE)
+        self._is_hurt |= outcome.state in (FILE_LOST, FILE_NAMELESS)
+        if output is None or outcome.state == FILE_LOST:
             yield outcome
             return
         waiting[key] = outcome
         moment = item.entry.moment if item.entry is not None else None
-        yield from settled(waiting, output.write(key, target_of(item, outcome), data, moment, tail_of(item)))
+        yield from written_outcomes(waiting, output.write(key, target_of(item, outcome), data, moment, tail_of(item)))
 
-    def _unmet(self) -> Iterator[Outcome]:
+    def _unmet(self) -> Iterator[SalvageOutcome]:
         """Files that a manifest has and that were not met, where nodes without a name were: it is not known which these are."""
         met = {item.path for item in self.tree.items}
         for path in self.digests.paths():
             if path not in met and not self.digests.digests_of(path) & self._digests_met:
-                yield Outcome(path, Kind.FILE, LOST, 0, None, (), "a manifest has it, and nothing of it was found", None)
+                yield SalvageOutcome(path, FileType.FILE, FILE_LOST, 0, None, (), "a manifest has it, and nothing of it was found", None)
 
-    def _directory(self, item: Item, output: Optional[Output], tail: str) -> Iterator[Outcome]:
+    def _directory(self, item: Item, output: Optional[Output], tail: str) -> Iterator[SalvageOutcome]:
         written = None
-        if output is not None and item.kind is Kind.DIRECTORY:
+        if output is not None and item.kind is FileType.DIRECTORY:
             try:
                 written = output.folder(item.target, item.entry.moment if item.entry is not None else None, tail)
             except InTheWay as error:
-                yield Outcome(item.path, item.kind, UNPROVED, 0, item.commit, (), str(error), None)
+                yield SalvageOutcome(item.path, item.kind, FILE_UNPROVED, 0, item.commit, (), str(error), None)
                 return
         if item.entry is None:
-            yield Outcome(item.path, item.kind, LOST, 0, None, (), item.why, written)
+            yield SalvageOutcome(item.path, item.kind, FILE_LOST, 0, None, (), item.why, written)
         elif item.commit is not None or item.why:
-            state = EARLIER if item.commit is not None else UNPROVED
-            yield Outcome(item.path, item.kind, state, 0, item.commit, (), item.why or f"as of commit {item.commit}", written)
+            state = FILE_EARLIER if item.commit is not None else FILE_UNPROVED
+            yield SalvageOutcome(item.path, item.kind, state, 0, item.commit, (), item.why or f"as of commit {item.commit}", written)
 
 
 def tail_of(item: Item) -> str:
@@ -343,11 +344,11 @@ def tail_of(item: Item) -> str:
     return str(item.entry.unique) if item.entry is not None else str(item.virtual)
 
 
-def target_of(item: Item, outcome: Outcome) -> Path:
+def target_of(item: Item, outcome: SalvageOutcome) -> Path:
     """The names that a file is written under."""
-    if outcome.state == DAMAGED:
+    if outcome.state == FILE_DAMAGED:
         return item.target[:-1] + (item.target[-1] + DAMAGED_SUFFIX,)
-    if outcome.state == WHOLE:
+    if outcome.state == FILE_WHOLE:
         return item.target[:-1] + (item.path[-1],)
     return item.target
 
@@ -370,7 +371,7 @@ def flips(medium: Medium, item: Item, entry: Entry) -> Iterator[bytes]:
         body[bit // 8] ^= 1 << bit % 8
 
 
-def settled(waiting: Dict[int, Outcome], done: List[Written]) -> Iterator[Outcome]:
+def written_outcomes(waiting: Dict[int, SalvageOutcome], done: List[WrittenFile]) -> Iterator[SalvageOutcome]:
     """The outcomes of files that were written."""
     for key, path, error in done:
         outcome = waiting.pop(key)
@@ -380,7 +381,7 @@ def settled(waiting: Dict[int, Outcome], done: List[Written]) -> Iterator[Outcom
             yield outcome._replace(why=f"{outcome.why}; {escaped(path)} {error}".lstrip("; "))
 
 
-def joined(ranges: List[Tuple[int, int]]) -> Tuple[Tuple[int, int], ...]:
+def joined_ranges(ranges: List[Tuple[int, int]]) -> Tuple[Tuple[int, int], ...]:
     """Ranges in order, those that touch as one."""
     found: List[Tuple[int, int]] = []
     for begin, count in ranges:
@@ -391,4 +392,4 @@ def joined(ranges: List[Tuple[int, int]]) -> Tuple[Tuple[int, int], ...]:
     return tuple(found)
 
 
-__all__ = ["DAMAGED", "EARLIER", "LOST", "NAMELESS", "NothingToSalvage", "Outcome", "STATES", "Salvage", "UNFINISHED", "UNPROVED", "WHOLE"]
+__all__ = ["FILE_DAMAGED", "FILE_EARLIER", "FILE_LOST", "FILE_NAMELESS", "FILE_STATES", "FILE_UNPROVED", "FILE_WHOLE", "NothingToSalvage", "Salvage", "SalvageOutcome", "UNFINISHED"]

@@ -7,21 +7,21 @@ from typing import Dict, Iterator, List, NamedTuple, Optional, Set, Tuple
 
 from ..protocol import escaped
 from ..protocol.units import Address, BlockNumber, Commit, Size, VirtualAddress
-from ..reader.basics import BLOCK, FILE_BYTES, PATH_NAMES, UNUSED, address_of, blocks_of, number_of
+from ..reader.basics import BLOCK, DEPTH, EXTENT_BYTES, UNUSED, address_of, blocks_of, number_of
 from ..reader.budget import Work
 from ..reader.chain import Chain, Span
-from ..reader.directory import IS_PARENT, Directory, Identifier, Known, piece_at, read_directory, said_by
-from ..reader.entry import Entry, Kind, read_entry
+from ..reader.directory import OF_PARENT, Directory, Identifier, KnownIdentifiers, piece_at, read_directory, said_by
+from ..reader.entry import Entry, FileType, read_entry
 from ..reader.medium import Medium
 from ..reader.mend import Hint, mend_entry
-from ..reader.notes import Cause
+from ..reader.notes import DamageCause
 from ..reader.volume import ROOT, Path, show
 
 LOST_AND_FOUND = "lost+found"
 LISTINGS = 100
 """Earlier listings of a directory that are looked at, at most, where none is whole."""
 
-DEPTH = 64
+SALVAGE_DEPTH = 64
 """Names in a path at most, also where directories were damaged into a deeper tree."""
 
 
@@ -43,7 +43,7 @@ class Item(NamedTuple):
 
     path: Path
     target: Path
-    kind: Optional[Kind]
+    kind: Optional[FileType]
     virtual: VirtualAddress
     version: Optional[Version]
     commit: Optional[Span]
@@ -56,7 +56,7 @@ class Item(NamedTuple):
         return self.version.entry if self.version is not None else None
 
 
-class Tree:
+class SalvageTree:
     """The nodes of the state after the table at a place of the chain, in `items`: directories before what is in them."""
 
     def __init__(self, chain: Chain, index: int):
@@ -66,7 +66,7 @@ class Tree:
         self.link = chain.links[index]
         self.entries, self.unknown = chain.entries(index)
         self.items: List[Item] = []
-        self._known = Known(self.volume.budget)
+        self._known = KnownIdentifiers(self.volume.budget)
         self._reached: Set[VirtualAddress] = {VirtualAddress(0)}
         self._hurt: List[Item] = []
         self._loose: List[Tuple[Item, Identifier]] = []
@@ -74,8 +74,8 @@ class Tree:
         self._build()
 
     def _build(self) -> None:
-        root = self.resolve(ROOT, 0, Kind.DIRECTORY)
-        item = Item((), (), Kind.DIRECTORY, ROOT, root, root.commit if root else None, "" if root else "no entry of the root can be read")
+        root = self.resolve(ROOT, 0, FileType.DIRECTORY)
+        item = Item((), (), FileType.DIRECTORY, ROOT, root, root.commit if root else None, "" if root else "no entry of the root can be read")
         self._reached.add(ROOT)
         self.items.append(item)
         self._descend(item)
@@ -98,7 +98,7 @@ class Tree:
 
     # ---- entries
 
-    def resolve(self, virtual: VirtualAddress, unique: Optional[int], kind: Optional[Kind], listed: Optional[Span] = None) -> Optional[Version]:
+    def resolve(self, virtual: VirtualAddress, unique: Optional[int], kind: Optional[FileType], listed: Optional[Span] = None) -> Optional[Version]:
         """The entry of a node: that which the table leads to, else the newest one before it.
 
         `listed` is the commit of the earlier listing that names it: a virtual address that has another node since is none then.
@@ -119,29 +119,29 @@ class Tree:
         )
 
     def _entry(
-        self, address: Address, virtual: VirtualAddress, unique: Optional[int], kind: Optional[Kind], is_told: bool = False,
+        self, address: Address, virtual: VirtualAddress, unique: Optional[int], kind: Optional[FileType], is_told: bool = False,
     ) -> Optional[Entry]:
         """The entry at an address, where it is that of this node. What is wrong there is noted where a table leads to it."""
         block = self.medium.block(address)
         entry = mend_entry(block, Hint(number_of(address), virtual, unique, kind), self.volume.budget) if block is not None else None
         if is_told and block is None:
-            self.notes.add(address, Cause.MISSING, "an entry cannot be read")
+            self.notes.add(address, DamageCause.MISSING, "an entry cannot be read")
         elif is_told and block is not None:
             self.notes.extend(address, read_entry(block, virtual)[1])
-        if entry is None or entry.kind is Kind.TABLE or kind is not None and entry.kind is not kind:
+        if entry is None or entry.kind is FileType.TABLE or kind is not None and entry.kind is not kind:
             return None
         if unique is not None and entry.unique != unique:
             return None
         return entry if entry.location == virtual or entry.proved and unique is not None else None
 
-    def _newest(self, version: Version, virtual: VirtualAddress, unique: Optional[int], kind: Optional[Kind]) -> Version:
+    def _newest(self, version: Version, virtual: VirtualAddress, unique: Optional[int], kind: Optional[FileType]) -> Version:
         """The entry that the table leads to; where no other table says so, as in a block of an older table, the newer of two."""
         if self.chain.is_confirmed(virtual, version.address, self.index):
             return version
         other = self._by_others(virtual, unique, kind, version.address)
         return other if other is not None and other.address > version.address else version
 
-    def _by_others(self, virtual: VirtualAddress, unique: Optional[int], kind: Optional[Kind], address: Optional[Address]) -> Optional[Version]:
+    def _by_others(self, virtual: VirtualAddress, unique: Optional[int], kind: Optional[FileType], address: Optional[Address]) -> Optional[Version]:
         """The entry that the table has to lead to by all else that is on the volume, where its own word is wrong."""
         if address is not None and self.chain.is_confirmed(virtual, address, self.index):
             return None
@@ -152,12 +152,12 @@ class Tree:
         if entry is None:
             return None
         said = "unused" if address is None else f"block number {number_of(address)}"
-        self.notes.add(self.link.start, Cause.ENTRY, f"virtual address {virtual} is {said}, and its entry is at block number {number_of(other)}")
+        self.notes.add(self.link.start, DamageCause.ENTRY, f"virtual address {virtual} is {said}, and its entry is at block number {number_of(other)}")
         return Version(entry, other, None)
 
-    def _rebuilt(self, virtual: VirtualAddress, unique: Optional[int], kind: Optional[Kind], address: Optional[Address]) -> Optional[Version]:
+    def _rebuilt(self, virtual: VirtualAddress, unique: Optional[int], kind: Optional[FileType], address: Optional[Address]) -> Optional[Version]:
         """A directory whose entry is lost, by its data, which ends where its entry was."""
-        if kind is not Kind.DIRECTORY or unique is None or address is None or not self.chain.is_confirmed(virtual, address, self.index):
+        if kind is not FileType.DIRECTORY or unique is None or address is None or not self.chain.is_confirmed(virtual, address, self.index):
             return None
         found = data_before(self.medium, number_of(address))
         if found is None:
@@ -167,9 +167,9 @@ class Tree:
         place = self.chain.place_of(address)
         table = self.chain.links[place].table if place is not None else None
         moment = table.moment if table is not None else None
-        return Version(Entry(Kind.DIRECTORY, moment, links, unique, size, first, None, virtual, 0, True), address, None)
+        return Version(Entry(FileType.DIRECTORY, moment, links, unique, size, first, None, virtual, 0, True), address, None)
 
-    def _earlier(self, virtual: VirtualAddress, unique: Optional[int], kind: Optional[Kind], address: Optional[Address]) -> Optional[Version]:
+    def _earlier(self, virtual: VirtualAddress, unique: Optional[int], kind: Optional[FileType], address: Optional[Address]) -> Optional[Version]:
         """The newest earlier entry of a node, where the one that the table leads to cannot be read."""
         after = address if address is not None and self.chain.is_confirmed(virtual, address, self.index) else self.link.start
         for at, commit in self.versions(virtual, after):
@@ -178,18 +178,18 @@ class Tree:
                 return Version(entry, at, commit)
         return None
 
-    def _carved(self, virtual: VirtualAddress, unique: Optional[int], kind: Optional[Kind], address: Optional[Address]) -> Optional[Version]:
+    def _carved(self, virtual: VirtualAddress, unique: Optional[int], kind: Optional[FileType], address: Optional[Address]) -> Optional[Version]:
         """A file whose entry is lost, by the blocks before it: a commit begins with them. How many bytes it has is not known."""
-        if kind is not Kind.FILE or unique is None or address is None or not self.chain.is_confirmed(virtual, address, self.index):
+        if kind is not FileType.FILE or unique is None or address is None or not self.chain.is_confirmed(virtual, address, self.index):
             return None
         start = self.chain.floor(address)
         if self._entry(address, virtual, None, None) is not None:
             # It is not lost: it is that of another node.
             return None
-        if not 0 < address - start <= blocks_of(FILE_BYTES):
+        if not 0 < address - start <= blocks_of(EXTENT_BYTES):
             return None
         size = Size((address - start) * BLOCK)
-        return Version(Entry(Kind.FILE, None, 1, unique, size, number_of(start), None, virtual, 0, False), address, None)
+        return Version(Entry(FileType.FILE, None, 1, unique, size, number_of(start), None, virtual, 0, False), address, None)
 
     def _number(self, virtual: VirtualAddress) -> BlockNumber:
         """The block number that the table has for a virtual address, or UNUSED."""
@@ -247,7 +247,7 @@ class Tree:
         return all(name.proved or self._agrees(name) for name in directory.names)
 
     def _agrees(self, name: Identifier) -> bool:
-        kind = Kind.DIRECTORY if name.is_directory else Kind.FILE
+        kind = FileType.DIRECTORY if name.is_directory else FileType.FILE
         version = self.resolve(name.virtual, name.unique, kind)
         return version is not None and version.entry.location == name.virtual
 
@@ -256,7 +256,7 @@ class Tree:
             return None
         run = self.medium.run(address_of(entry.first), blocks_of(entry.size))
         for at in run.missing:
-            self.notes.add(at, Cause.MISSING, f"a block of the directory {escaped(show(path))} cannot be read")
+            self.notes.add(at, DamageCause.MISSING, f"a block of the directory {escaped(show(path))} cannot be read")
         directory, faults = read_directory(run.data, entry.size, entry.first, self._known)
         self.notes.extend(address_of(entry.first), faults)
         return directory
@@ -276,17 +276,17 @@ class Tree:
         if not self._takes(Work.NAMES):
             return
         path = above.path + (name.name,)
-        kind = Kind.DIRECTORY if name.is_directory else Kind.FILE
+        kind = FileType.DIRECTORY if name.is_directory else FileType.FILE
         if name.virtual in self._reached:
             if listed is None and name.proved:
-                self.notes.add(above.version.address if above.version else self.link.start, Cause.REACHED_TWICE, f"{escaped(show(path))} leads to a node that has a name already")
+                self.notes.add(above.version.address if above.version else self.link.start, DamageCause.REACHED_TWICE, f"{escaped(show(path))} leads to a node that has a name already")
             return
         version = self.resolve(name.virtual, name.unique, kind, listed)
         if version is None and (listed is not None or not name.proved or above.commit is not None):
             return
-        if len(path) > PATH_NAMES:
-            self.notes.add(version.address if version else self.link.start, Cause.TOO_DEEP, f"{escaped(show(path))} has more than {PATH_NAMES} names")
         if len(path) > DEPTH:
+            self.notes.add(version.address if version else self.link.start, DamageCause.TOO_DEEP, f"{escaped(show(path))} has more than {DEPTH} names")
+        if len(path) > SALVAGE_DEPTH:
             return
         self._reached.add(name.virtual)
         commit = listed if is_marked else version.commit if version is not None else None
@@ -298,7 +298,7 @@ class Tree:
         """Whether so much more may be done. Where there is too much of something, it is noted."""
         may = self.volume.budget.take(what, count)
         if not may:
-            self.notes.add(Address(0), Cause.COUNTS, what.text)
+            self.notes.add(Address(0), DamageCause.COUNTS, what.text)
         return may
 
     def _put(self, item: Item) -> None:
@@ -306,7 +306,7 @@ class Tree:
         if not self._takes(Work.NODES, 1 + (entry.blocks if entry is not None else 0)):
             return
         self.items.append(item)
-        if item.kind is Kind.DIRECTORY:
+        if item.kind is FileType.DIRECTORY:
             self._descend(item)
 
     def _recover(self, item: Item) -> None:
@@ -336,7 +336,7 @@ class Tree:
                 lost[virtual] = self.resolve(virtual, None, None)
         inner: Set[VirtualAddress] = set()
         for version in lost.values():
-            if version is not None and version.entry.kind is Kind.DIRECTORY:
+            if version is not None and version.entry.kind is FileType.DIRECTORY:
                 directory = self._read(version.entry, (LOST_AND_FOUND, str(version.entry.unique)))
                 inner.update(name.virtual for name in directory.names) if directory is not None else None
         for whole in (False, True):
@@ -365,20 +365,20 @@ class Tree:
         for at in self.survey.nodes_after(self.link.address):
             block = self.medium.block(at)
             entry = mend_entry(block, Hint(number_of(at)), self.volume.budget) if block is not None else None
-            if entry is None or entry.kind is not Kind.FILE:
+            if entry is None or entry.kind is not FileType.FILE:
                 continue
             virtual = VirtualAddress(entry.location)
             name = names.get(virtual)
             called = f", and its name is {name.name}" if name is not None and name.unique == entry.unique else ""
             path = (LOST_AND_FOUND, f"{entry.unique}.unfinished")
             why = f"the commit that wrote it has no VAT ICB: it was interrupted, or its last block is lost{called}"
-            self._put(Item(path, path, Kind.FILE, virtual, Version(entry, at, None), None, why, True))
+            self._put(Item(path, path, FileType.FILE, virtual, Version(entry, at, None), None, why, True))
 
     def _names_at(self, at: Address) -> Iterator[Identifier]:
         """The names of the directory whose entry is at an address."""
         block = self.medium.block(at)
         entry = mend_entry(block, Hint(number_of(at)), self.volume.budget) if block is not None else None
-        if entry is not None and entry.kind is Kind.DIRECTORY:
+        if entry is not None and entry.kind is FileType.DIRECTORY:
             directory = self._read(entry, (LOST_AND_FOUND,))
             yield from directory.names if directory is not None else ()
 
@@ -400,13 +400,13 @@ def data_before(medium: Medium, number: BlockNumber) -> Optional[Tuple[bytes, Si
         if block is None or piece is None or name is None or not name.proved:
             return None
         blocks.insert(0, block)
-        if piece.characteristics == IS_PARENT:
+        if piece.characteristics == OF_PARENT:
             data = b"".join(blocks)
-            return data, end_of(data, first), first
+            return data, directory_length(data, first), first
     return None
 
 
-def end_of(data: bytes, first: BlockNumber) -> Size:
+def directory_length(data: bytes, first: BlockNumber) -> Size:
     """The bytes of a directory's data, by its identifiers."""
     at = 0
     while at < len(data):

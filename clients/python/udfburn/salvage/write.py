@@ -7,7 +7,7 @@ from concurrent.futures import ThreadPoolExecutor
 from contextlib import suppress
 from typing import Dict, List, NamedTuple, Optional, Set
 
-from ..base.beneath import Names, NotFollowed, Root, folder_mode
+from ..base.beneath import NotFollowed, RelativePath, Root, folder_mode
 from ..base.disk import is_full
 from ..base.errors import SourceError
 from ..local.saving import write_all
@@ -17,7 +17,7 @@ from ..reader.volume import Path
 NAME_BYTES = 255
 """The bytes of a name that file systems take."""
 
-BATCH_FILES, BATCH_BYTES = 64, 32 << 20
+DURABLE_FILES, DURABLE_BYTES = 64, 32 << 20
 """What is written before it is made durable together."""
 
 
@@ -25,13 +25,13 @@ class Waiting(NamedTuple):
     """A file that has its bytes and not yet its name."""
 
     key: int
-    folder: Names
+    folder: RelativePath
     temporary: str
     name: str
     descriptor: int
 
 
-class Written(NamedTuple):
+class WrittenFile(NamedTuple):
     """How a file was written: its path below the folder, and an error where it could not get its name."""
 
     key: int
@@ -49,16 +49,16 @@ class Output:
     def __init__(self, path: str, mode: int = 0o666):
         self._mode = mode
         self._root = Root.make(path, folder_mode(mode))
-        self._folders: Dict[Names, Optional[Moment]] = {}
-        self._names: Dict[Path, Names] = {(): ()}
-        self._taken: Set[Names] = set()
+        self._folders: Dict[RelativePath, Optional[Moment]] = {}
+        self._names: Dict[Path, RelativePath] = {(): ()}
+        self._taken: Set[RelativePath] = set()
         self._waiting: List[Waiting] = []
         self._bytes = self._count = 0
         self._pool = ThreadPoolExecutor(8)
 
     # ---- names
 
-    def _place(self, target: Path, tail: str) -> Names:
+    def _place(self, target: Path, tail: str) -> RelativePath:
         """The names of a path as they are written: each fits, and is that of no other path."""
         if target not in self._names:
             above = self._place(target[:-1], "")
@@ -83,7 +83,7 @@ class Output:
         self._folders[place] = moment
         return "/".join(place)
 
-    def _make(self, place: Names) -> None:
+    def _make(self, place: RelativePath) -> None:
         """Makes a folder below the first one, where it is missing. No link is followed."""
         try:
             with self._root.at(place, folder_mode(self._mode)):
@@ -93,7 +93,7 @@ class Output:
 
     # ---- files
 
-    def write(self, key: int, target: Path, data: bytes, moment: Optional[Moment], tail: str) -> List[Written]:
+    def write(self, key: int, target: Path, data: bytes, moment: Optional[Moment], tail: str) -> List[WrittenFile]:
         """Writes a file. It gives those that got their names meanwhile."""
         place = self._place(target, tail)
         self._count += 1
@@ -102,7 +102,7 @@ class Output:
             self._make(place[:-1])
             descriptor = self._root.new_file(place[:-1] + (temporary,), self._mode)
         except (InTheWay, SourceError, OSError) as error:
-            return [Written(key, "/".join(place), why_not_written(error))]
+            return [WrittenFile(key, "/".join(place), why_not_written(error))]
         waiting = Waiting(key, place[:-1], temporary, place[-1], descriptor)
         try:
             write_all(descriptor, data)
@@ -113,9 +113,9 @@ class Output:
             raise
         self._waiting.append(waiting)
         self._bytes += len(data)
-        return self.flush() if len(self._waiting) >= BATCH_FILES or self._bytes >= BATCH_BYTES else []
+        return self.flush() if len(self._waiting) >= DURABLE_FILES or self._bytes >= DURABLE_BYTES else []
 
-    def flush(self) -> List[Written]:
+    def flush(self) -> List[WrittenFile]:
         """Has the disk take all bytes, and gives the files their names."""
         list(self._pool.map(lambda waiting: os.fsync(waiting.descriptor), self._waiting))
         done = []
@@ -125,16 +125,16 @@ class Output:
         self._bytes = 0
         return done[::-1]
 
-    def _name(self, waiting: Waiting) -> Written:
+    def _name(self, waiting: Waiting) -> WrittenFile:
         path = "/".join(waiting.folder + (waiting.name,))
         try:
             self._link(waiting)
-            return Written(waiting.key, path, None)
+            return WrittenFile(waiting.key, path, None)
         except FileExistsError:
             same = self._has_same(waiting)
-            return Written(waiting.key, path, None if same else "already exists, with other bytes")
+            return WrittenFile(waiting.key, path, None if same else "already exists, with other bytes")
         except (SourceError, OSError) as error:
-            return Written(waiting.key, path, why_not_written(error))
+            return WrittenFile(waiting.key, path, why_not_written(error))
         finally:
             self._drop(waiting)
 
@@ -160,7 +160,7 @@ class Output:
             size = os.fstat(waiting.descriptor).st_size
             return os.fstat(descriptor).st_size == size and file.read(size) == os.pread(waiting.descriptor, size, 0)
 
-    def finish(self) -> List[Written]:
+    def finish(self) -> List[WrittenFile]:
         """Names all files, and makes names and folders durable."""
         done = self.flush()
         for place, moment in sorted(self._folders.items(), key=lambda known: -len(known[0])):

@@ -9,7 +9,7 @@ from typing import Iterator, Optional
 from ..base.errors import ForeignReply, UdfburnError
 from ..image.identity import Looked, looked_at, opened_path
 from ..ledger.ledger import Ledger
-from ..ledger.records import Volume
+from ..ledger.records import KnownVolume
 from ..protocol import Committed
 from ..protocol.units import Commit
 from ..wire.connection import Connection, Lost
@@ -26,7 +26,7 @@ class Conversation(Greeter):
         self.shared = shared
         self.key = line.endpoint.key()
         self.commit = Commit(0)
-        self._volume: Optional[Volume] = None
+        self._volume: Optional[KnownVolume] = None
         self._forgetting = False
         line.greeted_by(self)
 
@@ -71,7 +71,7 @@ class Conversation(Greeter):
         finally:
             self._forgetting = False
 
-    def volume(self) -> Volume:
+    def volume(self) -> KnownVolume:
         """The volume, once a connection was made."""
         if self._volume is None:
             raise RuntimeError("no connection was made yet, so the volume is not known")

@@ -9,7 +9,7 @@ from ..protocol import Code, Committed, encode_answer, frame, limits
 from ..protocol.units import Commit
 from ..wire.connection import Connection
 from .conversation import Conversation
-from .in_flight import PART, InFlightRequest, RequestQueue, kept
+from .in_flight import REQUESTS_TOGETHER, InFlightRequest, RequestQueue, kept
 
 AT_ONCE = 1 << 17
 """Bytes of requests under way and of those after them up to which the answers to a part are likely to come as one piece."""
@@ -33,7 +33,7 @@ class Foresight:
     def look(self, window: Deque[InFlightRequest], queue: RequestQueue) -> None:
         """Makes ready what is kept next, where the first part of a full window is likely to be done and answered at once."""
         self._foreseen = None
-        first, fresh = list(window)[:PART], list(queue.ahead)
+        first, fresh = list(window)[:REQUESTS_TOGETHER], list(queue.ahead)
         if len(window) < limits.REPLIES or not fresh:
             return
         if sum([request.size() for request in (*window, *fresh)]) > AT_ONCE:

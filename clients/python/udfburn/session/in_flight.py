@@ -5,12 +5,12 @@ from __future__ import annotations
 from collections import deque
 from typing import Deque, Iterable, Iterator, List, Optional
 
-from ..ledger.records import LARGE, Pending, Reply, facts_of
+from ..ledger.records import LARGE_DATA, Pending, Reply, facts_of
 from ..protocol import DAMAGED, FAULT, MEMORY, Code, Committed, Stat, decode_answer, encode_message, frame, limits, prefix, show
 from ..wire.connection import Lost
 from ..wire.operations import Operation, Outcome, confirmed, paths_of, surely
 
-PART = limits.REPLIES // 2
+REQUESTS_TOGETHER = limits.REPLIES // 2
 """Requests that are kept and sent as one. While their replies and the next ones are kept, the program works on the others."""
 
 
@@ -26,7 +26,7 @@ class InFlightRequest:
         facts = facts_of(self.request, operation.sha256, operation.whole)
         self.payload = encode_message(self.request)
         self.pending = Pending(number, self.payload, show(self.request.path), facts)
-        if operation.origin is not None and len(operation.data) >= LARGE:
+        if operation.origin is not None and len(operation.data) >= LARGE_DATA:
             self.pending = self.pending._replace(payload=self.payload[: -len(operation.data)], origin=operation.origin)
         self.paths = paths_of(self.request)
         # In pieces, since each copy of a mebibyte takes time.
@@ -68,7 +68,7 @@ class RequestQueue:
 
     def look_ahead(self, last: int) -> None:
         """Makes ready what is sent next, after the request of this number."""
-        while len(self.ahead) < PART and self._take(last + len(self.ahead) + 1):
+        while len(self.ahead) < REQUESTS_TOGETHER and self._take(last + len(self.ahead) + 1):
             pass
 
     def next(self, number: int, count: int) -> List[InFlightRequest]:
@@ -102,4 +102,4 @@ def outcome(request: InFlightRequest) -> Outcome:
     return Outcome(request.operation, reply.code, reply.commit, request.number())
 
 
-__all__ = ["PART", "InFlightRequest", "RequestQueue", "kept", "outcome"]
+__all__ = ["REQUESTS_TOGETHER", "InFlightRequest", "RequestQueue", "kept", "outcome"]

@@ -14,7 +14,7 @@ from ..base.errors import (
 )
 from ..image.identity import Looked
 from ..ledger.ledger import Ledger
-from ..ledger.records import Sent, Volume
+from ..ledger.records import KnownVolume, Sent
 from ..protocol import (
     DAMAGED, FAULT, MEMORY, Answer, BadAnswer, Code, Committed, Gap, Message, Node, Path, Remove, Stale, Stat, encode_message, frame,
     limits, printed, shown,
@@ -26,7 +26,7 @@ from ..wire.operations import Deed, Expected, after_all
 FORGET = "If this volume is meant, 'resume --forget' goes on with it; then 'verify' what is there"
 
 
-class Seen(NamedTuple):
+class ClientState(NamedTuple):
     """What a volume says of a client: its latest number, and the replies that are kept, by number."""
 
     latest: int
@@ -49,7 +49,7 @@ def exchange(connection: Connection, messages: Sequence[Message]) -> List[Answer
     return answers
 
 
-def see(connection: Connection, client: int) -> Seen:
+def see(connection: Connection, client: int) -> ClientState:
     """Asks for a client's latest number, and then for its kept replies.
 
     The greatest number of all is no client's next one, so it is answered with the latest and commits nothing. Only then is it known
@@ -67,13 +67,13 @@ def see(connection: Connection, client: int) -> Seen:
         # A volume whose sessions are of version 1 keeps the last reply alone.
         elif not isinstance(reply, Stale) or number == latest:
             raise BadAnswer(f"{reply!r} is no answer to number {number}, which is not above the latest, {latest}")
-    return Seen(latest, replies)
+    return ClientState(latest, replies)
 
 
 class Recognizer:
     """Compares volumes of a ledger with what is at the other end of a conversation."""
 
-    def __init__(self, ledger: Ledger, way: str, connection: Connection, seen: Seen, image: Optional[Looked], shared: bool):
+    def __init__(self, ledger: Ledger, way: str, connection: Connection, seen: ClientState, image: Optional[Looked], shared: bool):
         self.ledger = ledger
         self.connection = connection
         self.seen = seen
@@ -81,20 +81,20 @@ class Recognizer:
         self.shared = shared
         self.where = f"{ledger.path}, client {ledger.client}, {way}"
 
-    def fault(self, volume: Volume) -> Optional[LedgerError]:
+    def fault(self, volume: KnownVolume) -> Optional[LedgerError]:
         """Why this is not the volume; None where all agrees."""
         return (
             self._identity(volume) or self._numbers(volume) or self._replies(volume)
             or (None if self.shared or self._proved(volume) else self._nodes(volume))
         )
 
-    def has_evidence(self, volume: Volume) -> bool:
+    def has_evidence(self, volume: KnownVolume) -> bool:
         """Whether some reply of the volume is the ledger's: that nothing differs is no proof where there is nothing."""
         return bool(self._known_replies(volume))
 
     # ---- the image
 
-    def _identity(self, volume: Volume) -> Optional[LedgerError]:
+    def _identity(self, volume: KnownVolume) -> Optional[LedgerError]:
         if self.image is None or volume.identity is None or volume.mark is None:
             return None
         if self.image.identity != volume.identity:
@@ -111,14 +111,14 @@ class Recognizer:
             what += ", or a block of this commit has changed ('udfburn-client check --data' finds it)"
         return self.error(CopyWentOn, what, str(volume.mark), str(found or "none"))
 
-    def _proved(self, volume: Volume) -> bool:
+    def _proved(self, volume: KnownVolume) -> bool:
         """Whether the image has the last commit that the ledger knows, block by block. Then other clients changed what is different."""
         mark = volume.mark if self.image is not None else None
         return mark is not None and mark.commit >= self.ledger.last_commit(volume) > 0
 
     # ---- numbers and replies
 
-    def _numbers(self, volume: Volume) -> Optional[LedgerError]:
+    def _numbers(self, volume: KnownVolume) -> Optional[LedgerError]:
         latest = self.seen.latest
         last = max([volume.latest] + [waiting.number for waiting in self.ledger.pending(volume)])
         if latest > last:
@@ -137,7 +137,7 @@ class Recognizer:
         what = "an empty volume in the place of a full one" if empty else "another volume, or a copy from before its first request"
         return self.error(EmptyVolume if empty else OtherVolume, what, expected, "none")
 
-    def _known_replies(self, volume: Volume) -> Dict[int, Tuple[int, Commit]]:
+    def _known_replies(self, volume: KnownVolume) -> Dict[int, Tuple[int, Commit]]:
         """Code and commit of each reply that the ledger has and the volume keeps."""
         known = self.ledger.found(volume)
         for sent in self._last(volume):
@@ -145,20 +145,20 @@ class Recognizer:
                 known[sent.number] = (sent.code, sent.commit)
         return {number: reply for number, reply in known.items() if number in self.seen.replies}
 
-    def _replies(self, volume: Volume) -> Optional[LedgerError]:
+    def _replies(self, volume: KnownVolume) -> Optional[LedgerError]:
         known, found = self._known_replies(volume), self.seen.pairs()
         wrong = [number for number, reply in sorted(known.items()) if found[number] != reply]
         if not wrong:
             return None
         kind = CopyWentOn if len(wrong) < len(known) else OtherVolume
         what = "a copy that went on by itself" if kind is CopyWentOn else "another volume, or a copy that went on by itself"
-        return self.error(kind, what, told(known, wrong), told(found, wrong))
+        return self.error(kind, what, told_replies(known, wrong), told_replies(found, wrong))
 
-    def _last(self, volume: Volume) -> List[Sent]:
+    def _last(self, volume: KnownVolume) -> List[Sent]:
         """The requests of the ledger whose replies the volume may keep."""
         return [sent for sent in self.ledger.sent(volume, self.seen.latest - limits.REPLIES) if sent.number <= self.seen.latest]
 
-    def continues(self, front: Volume, volume: Volume) -> bool:
+    def continues(self, front: KnownVolume, volume: KnownVolume) -> bool:
         """Whether a ledger of version 1 went on with one volume as the other: it began each where another one ended. Where it may have
         begun at two, that is not known."""
         others = {other.id: other for other in self.ledger.volumes() if other.unsettled and other.id != volume.id}
@@ -174,7 +174,7 @@ class Recognizer:
 
     # ---- nodes
 
-    def _nodes(self, volume: Volume) -> Optional[LedgerError]:
+    def _nodes(self, volume: KnownVolume) -> Optional[LedgerError]:
         wanted = self._wanted(volume)
         answers = exchange(self.connection, [Stat(path) for path in wanted])
         wrong = [(path, answer) for path, answer in zip(wanted, answers) if not wanted[path].agrees(answer)]
@@ -185,7 +185,7 @@ class Recognizer:
         what = "another volume or a copy that went on by itself, or another client has changed these paths since (then use --shared)"
         return self.error(OtherVolume if len(wrong) == len(wanted) else CopyWentOn, what, expected, found)
 
-    def _wanted(self, volume: Volume) -> Dict[Path, Expected]:
+    def _wanted(self, volume: KnownVolume) -> Dict[Path, Expected]:
         """What the tree must have after the requests whose replies are kept. Of one that was not confirmed nothing is known."""
         deeds: List[Tuple[Deed, Optional[Code]]] = []
         for sent in self._last(volume):
@@ -201,7 +201,7 @@ class Recognizer:
         return kind(f"this is {what} ({self.where}). Expected: {expected}. Found: {found}. Nothing was sent to it. {FORGET}")
 
 
-def told(replies: Dict[int, Tuple[int, Commit]], numbers: List[int]) -> str:
+def told_replies(replies: Dict[int, Tuple[int, Commit]], numbers: List[int]) -> str:
     """Replies, as people read them."""
     return ", ".join(f"number {number}: {Code(replies[number][0]).name}, commit {replies[number][1]}" for number in numbers)
 
@@ -212,7 +212,7 @@ def node_text(answer: Answer) -> str:
     return found.text()
 
 
-def ways_text(ledger: Ledger, volume: Volume) -> str:
+def ways_text(ledger: Ledger, volume: KnownVolume) -> str:
     """The ways that lead to a volume."""
     return " and ".join(shown(way if isinstance(way, str) else way.decode(errors="surrogateescape")) for way in ledger.ways(volume))
 
@@ -226,7 +226,7 @@ class Meeting:
         self.seen = recognizer.seen
         self.key = key
 
-    def volume(self) -> Volume:
+    def volume(self) -> KnownVolume:
         """The volume; raises where it is not the one that the ledger has here."""
         known = self.ledger.volume(self.key)
         if known is None:
@@ -241,7 +241,7 @@ class Meeting:
             return self._identified(self._settled(known, fault))
         raise self._as_another(known, fault)
 
-    def anew(self) -> Volume:
+    def anew(self) -> KnownVolume:
         """The volume that the user says is meant, whatever the ledger knows here: a known one, or a new one."""
         known = self.ledger.volume(self.key)
         if known is not None and self.by.fault(known) is None:
@@ -251,20 +251,20 @@ class Meeting:
             return self._identified(self.ledger.bind(self.key, others[0]))
         return self._identified(self._learnt())
 
-    def _identified(self, volume: Volume) -> Volume:
+    def _identified(self, volume: KnownVolume) -> KnownVolume:
         """Keeps what the image says of itself."""
         image = self.by.image
         return volume if image is None else self.ledger.identify(volume, image.identity, image.newest())
 
-    def _learnt(self) -> Volume:
+    def _learnt(self) -> KnownVolume:
         return self.ledger.learn(self.key, self.seen.latest, self.seen.pairs())
 
-    def _agreeing(self, but: Optional[Volume]) -> List[Volume]:
+    def _agreeing(self, but: Optional[KnownVolume]) -> List[KnownVolume]:
         """The volumes of the ledger with which all agrees, and something shows it."""
         others = [volume for volume in self.ledger.volumes() if but is None or volume.id != but.id]
         return [volume for volume in others if self.by.has_evidence(volume) and self.by.fault(volume) is None]
 
-    def _by_another_way(self) -> Volume:
+    def _by_another_way(self) -> KnownVolume:
         """The volume at an endpoint that the ledger does not know."""
         if not self.seen.latest or not self.ledger.volumes():
             return self._learnt()
@@ -292,7 +292,7 @@ class Meeting:
             f" clients have changed what this one stored (then use --shared). Nothing was sent to it. {FORGET}"
         )
 
-    def _as_another(self, known: Volume, fault: LedgerError) -> LedgerError:
+    def _as_another(self, known: KnownVolume, fault: LedgerError) -> LedgerError:
         """The fault of the volume that the ledger has here; where another one of the ledger is here, what says so."""
         # Of those that a ledger of version 1 had, one may be the beginning of another.
         agreeing = [volume for volume in self._agreeing(known) if not volume.unsettled]
@@ -307,7 +307,7 @@ class Meeting:
             f"requests up to {self.seen.latest}",
         )
 
-    def _settled(self, known: Volume, fault: LedgerError) -> Volume:
+    def _settled(self, known: KnownVolume, fault: LedgerError) -> KnownVolume:
         """The volume of a way of which a ledger of version 1 has the beginning alone, since it went on by another way: there that
         ledger kept it as another volume."""
         agreeing = self._agreeing(known)
@@ -316,4 +316,4 @@ class Meeting:
         return self.ledger.bind(self.key, agreeing[0])
 
 
-__all__ = ["Meeting", "Recognizer", "Seen", "exchange", "see"]
+__all__ = ["ClientState", "Meeting", "Recognizer", "exchange", "see"]

@@ -6,7 +6,7 @@ from typing import Dict, Iterable, List, Optional, Tuple
 
 from ..base.errors import DAMAGE, ClientsFull, Damaged, ForeignReply, Full, NotCommitted, NumberUsedElsewhere, Rejected
 from ..ledger.ledger import Ledger
-from ..ledger.records import GIVEN_UP, Pending, Reply, Volume, digest
+from ..ledger.records import GIVEN_UP, KnownVolume, Pending, Reply, digest
 from ..local.sources import data_again
 from ..protocol import (
     CLIENTS_FULL, DAMAGED, FAULT, FULL, MEMORY, Answer, BadAnswer, Code, Committed, Gap, Malformed, Path, Remove, Stale, Stat, decode_message,
@@ -35,7 +35,7 @@ class Recovery:
         self.not_stored: Dict[int, str] = {}
         """The paths of requests that were not committed before their data was gone, by their numbers."""
 
-    def _volume(self) -> Volume:
+    def _volume(self) -> KnownVolume:
         return self.conversation.volume()
 
     def forget(self) -> List[str]:

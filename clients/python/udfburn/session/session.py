@@ -12,14 +12,14 @@ from typing import Deque, Dict, Iterable, Iterator, List, Optional, Tuple
 
 from ..base.errors import NotCommitted
 from ..ledger.ledger import Ledger
-from ..ledger.records import Reply, Volume
+from ..ledger.records import KnownVolume, Reply
 from ..protocol import CLIENTS_FULL, DAMAGED, FAULT, FULL, MEMORY, Answer, BadAnswer, Committed, Gap, Malformed, Stale, decode_answer, limits
 from ..wire.connection import Connection, Lost
 from ..wire.operations import Operation, Outcome
 from ..wire.retrying import RetryingConnection
 from .conversation import Conversation
 from .foresight import Foresight
-from .in_flight import PART, InFlightRequest, RequestQueue, kept, outcome
+from .in_flight import REQUESTS_TOGETHER, InFlightRequest, RequestQueue, kept, outcome
 from .recovery import Recovery
 
 
@@ -33,7 +33,7 @@ class Session:
         self.recovery = Recovery(line, ledger, self.conversation)
         self._foresight = Foresight(ledger, self.conversation)
 
-    def volume(self) -> Volume:
+    def volume(self) -> KnownVolume:
         """The volume, once a connection was made."""
         return self.conversation.volume()
 
@@ -92,7 +92,7 @@ class Session:
             return []
         last = window[-1] if window else finished[-1] if finished else None
         number = last.number() if last else self.ledger.latest(self.conversation.volume())
-        return queue.next(number + 1, min(PART, limits.REPLIES - len(window)))
+        return queue.next(number + 1, min(REQUESTS_TOGETHER, limits.REPLIES - len(window)))
 
     def _keep(self, finished: List[InFlightRequest], fresh: List[InFlightRequest]) -> None:
         """Makes replies and new requests durable, in one."""

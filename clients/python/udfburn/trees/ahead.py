@@ -20,11 +20,11 @@ if TYPE_CHECKING:
 ASIDE = 1 << 16
 """From this many bytes on, the digests of a file are computed in the thread: they take longer than it takes the thread to wake."""
 
-PARTS = 2
+PARTS_AHEAD = 2
 """Parts that are read ahead: as many as are kept and sent as one."""
 
 
-class Read(NamedTuple):
+class PartRead(NamedTuple):
     """A part that was read: its file, its number there, its bytes, and what `Job.take` gives for it, once that is computed."""
 
     job: Job
@@ -45,14 +45,14 @@ class Ahead:
             self._pool.shutdown()
             self._pool = None
 
-    def parts(self, jobs: List[Job]) -> Iterator[Read]:
+    def parts(self, jobs: List[Job]) -> Iterator[PartRead]:
         """The parts of files, in order. A file that cannot be read fails."""
-        waiting: Deque[Read] = deque()
+        waiting: Deque[PartRead] = deque()
         for job in jobs:
             try:
                 for part, data in zip(range(job.count), read_parts(job.source)):
-                    waiting.append(Read(job, part, data, self._taken(job, data)))
-                    if len(waiting) > PARTS:
+                    waiting.append(PartRead(job, part, data, self._taken(job, data)))
+                    if len(waiting) > PARTS_AHEAD:
                         yield waiting.popleft()
             except (SourceError, TooLarge) as error:
                 job.fail(str(error))
@@ -72,4 +72,4 @@ class Ahead:
         return self._pool.submit(job.take, data).result
 
 
-__all__ = ["Ahead", "Read"]
+__all__ = ["Ahead", "PartRead"]

@@ -11,7 +11,7 @@ from ..protocol import (
     Read, Remove, Rename, Replace, Stat, limits, path_of, show, shown,
 )
 from ..protocol.units import Commit, Moment
-from ..wire.connection import LONGEST
+from ..wire.connection import LONGEST_WAIT
 from ..wire.endpoint import Endpoint
 from ..wire.operations import Operation, Outcome, now
 from ..wire.pieces import data_of, queries_of
@@ -19,12 +19,12 @@ from ..wire.refusals import Answered, commit_of, expected, met
 from ..wire.retrying import RetryingConnection
 
 if TYPE_CHECKING:
-    from ..ledger.digests import Files, Known, KnownWhole
+    from ..ledger.digests import Files, KnownWhole, SentFile
     from ..ledger.ledger import Ledger
     from ..session.session import Session
     from .compare import Comparison
-    from .jobs import Summary
-    from .walk import Told
+    from .jobs import ImportSummary
+    from .walk import StepTold
 
 
 class Client:
@@ -57,8 +57,8 @@ class Client:
     ):
         if not 0 <= patience < float("inf"):
             raise UsageError(f"{patience!r} is not a number of seconds: give a number from 0 on")
-        if not 0 < timeout <= LONGEST:
-            raise UsageError(f"{timeout!r} is not a valid timeout: give a number of seconds above 0, at most {LONGEST:,.0f}")
+        if not 0 < timeout <= LONGEST_WAIT:
+            raise UsageError(f"{timeout!r} is not a valid timeout: give a number of seconds above 0, at most {LONGEST_WAIT:,.0f}")
         self.endpoint = Endpoint(connect, program)
         self.line = RetryingConnection(self.endpoint, patience, timeout)
         self._wanted = client
@@ -273,14 +273,14 @@ class Client:
         from ..ledger.digests import KnownWhole as Whole
 
         files, names = self.known_files(), path_of(path)
-        found: Union[Known, KnownWhole, None] = files.now.get(names) or files.wholes.get(names)
+        found: Union[SentFile, KnownWhole, None] = files.now.get(names) or files.wholes.get(names)
         if found is None:
             return None
         parts = found.parts if isinstance(found, Whole) else (found.path,)
         with self.held():
             return found.sha256 if all(self._is_as_sent(files.now[part]) for part in parts) else None
 
-    def _is_as_sent(self, known: Known) -> bool:
+    def _is_as_sent(self, known: SentFile) -> bool:
         """Whether the volume has a file of this size and moment at its path."""
         return self.find(known.path) == Node(NodeKind.FILE, known.moment, known.size)
 
@@ -295,25 +295,25 @@ class Client:
     def put_tree(
         self, local: str, path: PathLike, *, parents: bool = False, split: bool = False, rewrite: bool = False, skip_odd: bool = False,
         escape: bool = False, delete_source: bool = False, verify: bool = False, dry_run: bool = False, moment: Literal["mtime", "now"] = "mtime",
-        image: Optional[str] = None, told: Optional[Told] = None,
-    ) -> Summary:
+        image: Optional[str] = None, told: Optional[StepTold] = None,
+    ) -> ImportSummary:
         """Stores a folder as a directory; a file whose bytes are there already is left alone, unless `rewrite`.
 
         The options are those of `udfburn-client put`. `image` is the image behind a socket, whose blocks are counted. `told` is called for
         each step with what was done, the path, its bytes and its commit. Raises `DoesNotFit` before anything is sent, and `Differs` where
         a file was not stored or not deleted.
         """
-        from .jobs import Options
+        from .jobs import ImportOptions
         from .tree import put_tree
         from .walk import quiet
 
-        options = Options(
+        options = ImportOptions(
             recursive=True, parents=parents, split=split, rewrite=rewrite, skip_odd=skip_odd, escape=escape, delete_source=delete_source,
             verify=verify, dry_run=dry_run, moment=moment, image=image,
         )
         return put_tree(self, local, path_of(path), options, told or quiet)
 
-    def get_tree(self, path: PathLike, local: str, *, split: bool = False, force: bool = False, told: Optional[Told] = None) -> int:
+    def get_tree(self, path: PathLike, local: str, *, split: bool = False, force: bool = False, told: Optional[StepTold] = None) -> int:
         """Copies a directory into a local folder, and gives the count of its files. The folder is new, or an interrupted copy made it,
         unless `force`. With `split` a file in parts is one file. Raises `SourceError` where a file was not copied."""
         from .fetch import get_tree
@@ -322,7 +322,7 @@ class Client:
         return get_tree(self, path_of(path), local, split, force, told or quiet)
 
     def verify_tree(
-        self, local: str, path: PathLike, *, split: bool = False, skip_odd: bool = False, escape: bool = False, told: Optional[Told] = None,
+        self, local: str, path: PathLike, *, split: bool = False, skip_odd: bool = False, escape: bool = False, told: Optional[StepTold] = None,
     ) -> Comparison:
         """Compares a folder with a directory: that all that is here is there, with the same bytes. The options are those of
         `udfburn-client verify`."""

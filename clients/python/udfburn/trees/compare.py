@@ -13,7 +13,7 @@ from ..protocol import Node, NodeKind, Path, Stat, limits, printed, show
 from ..wire.pieces import queries_of
 from .jobs import same_bytes
 from .stored import find_file
-from .walk import Told, quiet, walk
+from .walk import StepTold, quiet, walk
 
 if TYPE_CHECKING:
     from .client import Client
@@ -30,7 +30,7 @@ class Comparison:
 
 
 def verify_tree(
-    client: Client, local: str, path: Path, split: bool = False, skip_odd: bool = False, told: Told = quiet, escape: bool = False,
+    client: Client, local: str, path: Path, split: bool = False, skip_odd: bool = False, told: StepTold = quiet, escape: bool = False,
     begin: Callable[[int, int], None] = lambda files, size: None,
 ) -> Comparison:
     """Compares a local file or folder with what is stored: that all that is here is there, with the same bytes."""
@@ -107,7 +107,7 @@ def of_other_size(client: Client, sources: List[Source], parts: Set[Path]) -> Se
         return {source.path for source, node in zip(large, answers) if not isinstance(node, Node) or node.size != source.identity.size}
 
 
-def compare_files(client: Client, sources: List[Source], parts: Set[Path], result: Comparison, told: Told) -> List[Source]:
+def compare_files(client: Client, sources: List[Source], parts: Set[Path], result: Comparison, told: StepTold) -> List[Source]:
     """Compares the bytes of local files with those that are stored, of which these are in parts. Gives those with the same bytes."""
     equal: List[Source] = []
     others = of_other_size(client, sources, parts)

@@ -7,24 +7,24 @@ import stat
 from contextlib import closing, contextmanager
 from typing import TYPE_CHECKING, Callable, Dict, Iterator, List, NamedTuple, Sequence, Tuple
 
-from ..base.beneath import Names, NotFollowed, Root, folder_mode, mode_for, place_of
+from ..base.beneath import NotFollowed, RelativePath, Root, folder_mode, mode_for, place_of
 from ..base.disk import is_full
 from ..base.errors import DiskFull, SourceError
 from ..base.escape import decode
-from ..local.saving import PREFIX, Saver, remove_leftovers, save, why_not_written
+from ..local.saving import SAVING_PREFIX, Saver, failure_line, remove_leftovers, save
 from ..local.sources import exactly
 from ..protocol import Path, shown
 from ..wire.pieces import data_of, queries_of
 from .compare import Comparison, verify_tree
-from .stored import Stored, Tree, find_file
-from .walk import Told, quiet
+from .stored import StoredFile, StoredTree, find_file
+from .walk import StepTold, quiet
 
 if TYPE_CHECKING:
     from .client import Client
 
 
 @contextmanager
-def parts_of(client: Client, files: Sequence[Stored]) -> Iterator[Iterator[Tuple[Stored, Iterator[bytes]]]]:
+def parts_of(client: Client, files: Sequence[StoredFile]) -> Iterator[Iterator[Tuple[StoredFile, Iterator[bytes]]]]:
     """Files with their bytes, part by part or piece by piece. Those of one are to be taken before the next."""
     asked = [queries_of(file.parts, file.size) for file in files]
     with closing(client.ask_all(query for queries in asked for query in queries)) as answers:
@@ -34,8 +34,8 @@ def parts_of(client: Client, files: Sequence[Stored]) -> Iterator[Iterator[Tuple
 class Target(NamedTuple):
     """A file of the volume, and the local one that it becomes, below the folder that is copied into."""
 
-    names: Names
-    file: Stored
+    names: RelativePath
+    file: StoredFile
 
 
 class Fetched:
@@ -50,7 +50,7 @@ class Fetcher:
     """Copies directories into local folders, and files."""
 
     def __init__(
-        self, client: Client, split: bool = False, force: bool = False, told: Told = quiet, begin: Callable[[int, int], None] = lambda files, size: None,
+        self, client: Client, split: bool = False, force: bool = False, told: StepTold = quiet, begin: Callable[[int, int], None] = lambda files, size: None,
     ):
         """`begin` is called with how many files and bytes are to come."""
         self.client, self.split, self.force, self.told, self.begin = client, split, force, told, begin
@@ -61,12 +61,12 @@ class Fetcher:
     def tree(self, path: Path, local: str) -> Fetched:
         """Copies a directory into a local folder: one that is new or empty, or that an interrupted copy made, unless `force`."""
         with self.client.held():
-            tree = Tree().walk(self.client, path)
+            tree = StoredTree().walk(self.client, path)
             files = tree.files(self.split)
             folders = [local_names(at[len(path) :]) for at in tree.directories(files)]
             targets = [Target(local_names(file.path[len(path) :]), file) for file in files]
             if not self.force:
-                require_own(local, {names[0] for names in folders + [target.names for target in targets] if names})
+                require_copy(local, {names[0] for names in folders + [target.names for target in targets] if names})
             with Root.make(local, folder_mode(self._mode)) as root:
                 self._copy(root, folders, targets)
         return self.summary
@@ -81,7 +81,7 @@ class Fetcher:
                 self._copy(root, [], [target])
         return self.summary
 
-    def _copy(self, root: Root, folders: List[Names], targets: List[Target]) -> None:
+    def _copy(self, root: Root, folders: List[RelativePath], targets: List[Target]) -> None:
         """Makes folders and files, all of which are on the disk then."""
         self.begin(len(targets), sum(target.file.size for target in targets))
         with Saver(root, self.force, self._mode) as saver:
@@ -96,9 +96,9 @@ class Fetcher:
             finally:
                 self.summary.failures += saver.failures
 
-    def _make_folders(self, folders: List[Names], targets: List[Target], saver: Saver) -> None:
+    def _make_folders(self, folders: List[RelativePath], targets: List[Target], saver: Saver) -> None:
         """Makes the folders, and removes what a killed copy left in those that are there."""
-        names: Dict[Names, List[str]] = {}
+        names: Dict[RelativePath, List[str]] = {}
         for target in targets:
             names.setdefault(target.names[:-1], []).append(target.names[-1])
         for folder in folders:
@@ -125,7 +125,7 @@ class Fetcher:
                 self._save(target, parts, saver)
             saver.flush()
 
-    def _same(self, targets: List[Target], saver: Saver) -> "set[Names]":
+    def _same(self, targets: List[Target], saver: Saver) -> "set[RelativePath]":
         """Those of the local files that have all bytes of the volume's."""
         same = set()
         with parts_of(self.client, [target.file for target in targets]) as files:
@@ -150,13 +150,13 @@ class Fetcher:
         try:
             saver.save(target.names, parts, target.file.moment, named)
         except (SourceError, NotFollowed) as error:
-            self.summary.failures.append(why_not_written(saver.root, target.names, error))
+            self.summary.failures.append(failure_line(saver.root, target.names, error))
         # The next file's bytes come after those of this one.
         for _ in parts:
             pass
 
 
-def local_names(path: Path) -> Names:
+def local_names(path: Path) -> RelativePath:
     """The local names of a path of the volume."""
     return tuple(map(decode, path))
 
@@ -166,7 +166,7 @@ def same_size(target: Target, status: os.stat_result) -> bool:
     return stat.S_ISREG(status.st_mode) and status.st_size == target.file.size
 
 
-def has_bytes(root: Root, names: Names, parts: Iterator[bytes]) -> bool:
+def has_bytes(root: Root, names: RelativePath, parts: Iterator[bytes]) -> bool:
     """Whether a local file has these bytes. All are taken. One that cannot be read has others."""
     same = True
     try:
@@ -180,11 +180,11 @@ def has_bytes(root: Root, names: Names, parts: Iterator[bytes]) -> bool:
         return False
 
 
-def require_own(local: str, names: "set[str]") -> None:
+def require_copy(local: str, names: "set[str]") -> None:
     """Raises where a folder has names that the directory does not have: then it is no copy of it that was interrupted."""
     try:
         with Root.open(local) as root:
-            others = [name for name in root.names_in(()) if name not in names and not name.startswith(PREFIX)]
+            others = [name for name in root.names_in(()) if name not in names and not name.startswith(SAVING_PREFIX)]
     except FileNotFoundError:
         return
     except NotADirectoryError:
@@ -194,7 +194,7 @@ def require_own(local: str, names: "set[str]") -> None:
         raise SourceError(f"{shown(local)}: already exists, and has {shown(others[0])}{more}, which the volume does not have (--force goes into it)")
 
 
-def get_tree(client: Client, path: Path, local: str, split: bool = False, force: bool = False, told: Told = quiet) -> int:
+def get_tree(client: Client, path: Path, local: str, split: bool = False, force: bool = False, told: StepTold = quiet) -> int:
     """Copies a directory into a local folder, and gives the count of its files. Raises where one was not copied."""
     summary = Fetcher(client, split, force, told).tree(path, local)
     if summary.failures:

@@ -96,7 +96,7 @@ def put_bytes(client: Client, path: Path, data: bytes, moment: Optional[Moment])
         raise TooLarge(f"{printed(path)}: {len(data)} bytes, and a file has at most {limits.GREATEST_FILE}")
     with client.held():
         client.resume()
-        require_place(client, path)
+        require_path(client, path)
         unfinished = unfinished_path(client.session().ledger.client, path)
         moment = now() if moment is None else moment
         node = client.find(unfinished)
@@ -111,7 +111,7 @@ def put_bytes(client: Client, path: Path, data: bytes, moment: Optional[Moment])
         return give_name(client, unfinished, path, moment)
 
 
-def require_place(client: Client, path: Path) -> None:
+def require_path(client: Client, path: Path) -> None:
     """Raises where a file cannot have this path: before its pieces are sent."""
     if len(path) > limits.DEPTH:
         raise TooDeep(show(path))

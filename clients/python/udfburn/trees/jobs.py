@@ -15,7 +15,7 @@ from ..wire.operations import Whole
 from ..wire.pieces import queries_of
 
 
-class Options(NamedTuple):
+class ImportOptions(NamedTuple):
     """How folders and files are stored.
 
     A file whose bytes are there already is left alone, unless `rewrite`. `skip_same` is that default's own name, and changes nothing.
@@ -37,7 +37,7 @@ class Options(NamedTuple):
     image: Optional[str] = None
 
 
-class Summary:
+class ImportSummary:
     """What an import did: counts, and each file that was not stored or not deleted, with why."""
 
     def __init__(self) -> None:
@@ -132,4 +132,4 @@ def reads_back(job: Job, answers: Iterator[object]) -> bool:
     return same
 
 
-__all__ = ["Job", "Options", "Summary", "digest", "reads_back", "same_bytes", "same_parts"]
+__all__ = ["ImportOptions", "ImportSummary", "Job", "digest", "reads_back", "same_bytes", "same_parts"]

@@ -6,7 +6,7 @@ from collections import Counter
 from typing import TYPE_CHECKING, Dict, List, Optional, Set, Tuple
 
 from ..base.split import base_of, has_form, needs_parts, next_part, own_paths, part_count, part_folders, stored_paths
-from ..base.unfinished import PREFIX, UNDER_WAY, grows, is_unfinished, unfinished_path
+from ..base.unfinished import UNDER_WAY, UNFINISHED_PREFIX, grows, is_unfinished, unfinished_path
 from ..local.sources import Folder, Scan, Source, shown, why_not
 from ..protocol import NodeKind, Path, limits, printed
 
@@ -76,7 +76,7 @@ def fault_of(source: Source, split: bool) -> Optional[str]:
     """Why a file cannot be stored by its size and its name, if it cannot."""
     size, split = source.identity.size, split and needs_parts(source.identity.size)
     if is_unfinished(source.path):
-        return f"would have a path that begins with /{PREFIX}: such files are not whole, and clients remove them"
+        return f"would have a path that begins with /{UNFINISHED_PREFIX}: such files are not whole, and clients remove them"
     if grows(size, split):
         return f"has {size} bytes, and a file has at most {limits.GREATEST_FILE} (--split stores it in parts)" if size > limits.GREATEST_FILE else None
     if part_count(size) > limits.NODES:
@@ -133,7 +133,7 @@ def check_paths(planned: Plan, present: Present) -> None:
                 planned.faults.append(f"{printed(path)}: is a directory, and {shown(source.local)} is a file")
     for path in targets + sorted(made):
         if is_unfinished(path):
-            planned.faults.append(f"{printed(path)}: begins with /{PREFIX}, as the names of files do that clients have not finished")
+            planned.faults.append(f"{printed(path)}: begins with /{UNFINISHED_PREFIX}, as the names of files do that clients have not finished")
         if len(path) > limits.DEPTH:
             planned.faults.append(f"{printed(path)}: has {len(path)} names, and a path has at most {limits.DEPTH}")
         parent = path[:-1]

@@ -14,13 +14,13 @@ from typing import Dict, Iterable, Iterator, List, NamedTuple, Optional, Tuple, 
 from ..base import manifest as m
 from ..base.errors import Differs, NotDirectory, TooLarge, UsageError
 from ..base.unfinished import is_unfinished
-from ..ledger.digests import Known
+from ..ledger.digests import SentFile
 from ..protocol import AnyRequest, Code, Create, Node, NodeKind, Path, Replace, Stat, limits, printed, show
 from ..wire.operations import Operation, now
 from ..wire.pieces import data_of, queries_of
 from ..wire.refusals import expected, refusal
 from .client import Client
-from .walk import Told, quiet, walk
+from .walk import StepTold, quiet, walk
 
 AGENT = "udfburn-client"
 
@@ -34,7 +34,7 @@ class Sealed(NamedTuple):
     written: List[Path]
 
 
-class Read(NamedTuple):
+class FileRead(NamedTuple):
     """A file that was read back: its path, its bytes, their SHA-256, whether the ledger sent just these, and the data of a file that
     sealing may write."""
 
@@ -45,31 +45,31 @@ class Read(NamedTuple):
     data: bytes
 
 
-Found = Dict[Path, Read]
+FilesRead = Dict[Path, FileRead]
 
-KEPT = (m.MANIFEST, m.TAG_MANIFEST, m.BAG_INFO, m.BAG_DECLARATION)
+TAG_FILES = (m.MANIFEST, m.TAG_MANIFEST, m.BAG_INFO, m.BAG_DECLARATION)
 """Names of files whose data is looked at."""
 
 
-def seal(client: Client, path: Path, manifest_only: bool = False, dry_run: bool = False, told: Told = quiet) -> Sealed:
+def seal_directory(client: Client, path: Path, manifest_only: bool = False, dry_run: bool = False, told: StepTold = quiet) -> Sealed:
     """Seals the directory at a path. The same call again finishes what was interrupted, and writes nothing where all is there.
 
     Raises `Differs` where the volume has other bytes than the ledger sent, or than a manifest says that is there already, and
     `TooLarge` where the manifest of a bag has no room in a file.
     """
     with client.held():
-        sent: Dict[Path, Known] = {}
+        sent: Dict[Path, SentFile] = {}
         if not dry_run:
             client.resume()
             sent = client.known_files().now
-        top = path if manifest_only else path + (m.PAYLOAD,)
+        top = path if manifest_only else path + (m.PAYLOAD_FOLDER,)
         require_directory(client, path, top)
-        found = read_back(client, sorted(files_below(client, path)), sent)
+        found = read_files_back(client, sorted(files_below(client, path)), sent)
         if not dry_run:
             require_agreement(found)
         payload = [found[file] for file in found if file[: len(top)] == top and file != path + (m.MANIFEST,)]
         wanted = plain_files(path, payload) if manifest_only else bag_files(path, found, payload)
-        written = write(client, wanted, found, dry_run, told)
+        written = write_files(client, wanted, found, dry_run, told)
     return Sealed(len(payload), sum(file.size for file in payload), sum(file.proved for file in payload), written)
 
 
@@ -82,7 +82,7 @@ def require_directory(client: Client, path: Path, top: Path) -> None:
     node = client.find(top)
     if node is None or node.kind is not NodeKind.DIRECTORY:
         raise UsageError(
-            f"{printed(path)}: has no directory {m.PAYLOAD}, in which a bag has its payload: store it at {printed(top)} ('put --seal' does), or"
+            f"{printed(path)}: has no directory {m.PAYLOAD_FOLDER}, in which a bag has its payload: store it at {printed(top)} ('put --seal' does), or"
             " use --manifest-only"
         )
 
@@ -95,15 +95,15 @@ def files_below(client: Client, top: Path) -> List[Path]:
 
 # ---- read back
 
-def read_back(client: Client, paths: List[Path], sent: Dict[Path, Known]) -> Found:
+def read_files_back(client: Client, paths: List[Path], sent: Dict[Path, SentFile]) -> FilesRead:
     """The files as the volume has them; `Differs` where the ledger sent other bytes."""
-    found: Found = {}
+    found: FilesRead = {}
     faults: List[str] = []
     for path, node, data in with_data(client, paths):
         expected = sent.get(path)
         # A file of another size or moment is not the one that the ledger sent: another client replaced it.
         known = expected is not None and (expected.size, expected.moment) == (node.size, node.moment)
-        found[path] = Read(path, len(data), sha256(data).digest(), known, data if path[-1] in KEPT else b"")
+        found[path] = FileRead(path, len(data), sha256(data).digest(), known, data if path[-1] in TAG_FILES else b"")
         if expected is not None and known and expected.sha256 != found[path].sha256:
             faults.append(
                 f"{printed(path)}: has other bytes than were sent (commit {expected.commit}): SHA-256 {expected.sha256.hex()} was sent,"
@@ -124,7 +124,7 @@ def with_data(client: Client, paths: List[Path]) -> Iterator[Tuple[Path, Node, b
             yield path, node, b"".join(data_of(query, next(answers)) for query in queries)
 
 
-def require_agreement(found: Found) -> None:
+def require_agreement(found: FilesRead) -> None:
     """Raises where a manifest that is there says other bytes of a file, and the ledger did not send those that came back: a new
     manifest would hide what happened to it."""
     faults: List[str] = []
@@ -145,26 +145,26 @@ def require_agreement(found: Found) -> None:
 
 # ---- what is written
 
-def plain_files(path: Path, payload: List[Read]) -> Dict[Path, bytes]:
+def plain_files(path: Path, payload: List[FileRead]) -> Dict[Path, bytes]:
     """One manifest beside the files; where it would pass a mebibyte, one in each directory, of the files in it."""
-    whole = m.plain_manifest(lines_of(path, payload))
+    whole = m.plain_manifest(manifest_lines(path, payload))
     if len(whole) <= limits.FILE:
         return {path + (m.MANIFEST,): whole}
-    folders: Dict[Path, List[Read]] = {}
+    folders: Dict[Path, List[FileRead]] = {}
     for file in payload:
         if file.path[-1] != m.MANIFEST:
             folders.setdefault(file.path[:-1], []).append(file)
-    return {folder + (m.MANIFEST,): m.plain_manifest(lines_of(folder, files)) for folder, files in folders.items()}
+    return {folder + (m.MANIFEST,): m.plain_manifest(manifest_lines(folder, files)) for folder, files in folders.items()}
 
 
-def lines_of(path: Path, files: Iterable[Read]) -> List[m.Line]:
+def manifest_lines(path: Path, files: Iterable[FileRead]) -> List[m.ManifestLine]:
     """The lines of files, whose paths begin below a directory."""
-    return [m.Line(file.sha256, file.path[len(path) :]) for file in files]
+    return [m.ManifestLine(file.sha256, file.path[len(path) :]) for file in files]
 
 
-def bag_files(path: Path, found: Found, payload: List[Read]) -> Dict[Path, bytes]:
+def bag_files(path: Path, found: FilesRead, payload: List[FileRead]) -> Dict[Path, bytes]:
     """The tag files of a bag, the manifest of these last."""
-    manifest = m.bag_manifest(lines_of(path, payload))
+    manifest = m.bag_manifest(manifest_lines(path, payload))
     if len(manifest) > limits.FILE:
         raise TooLarge(
             f"{printed(path + (m.MANIFEST,))}: would have {len(manifest)} bytes, and a file has at most {limits.FILE}: seal the directories below"
@@ -174,10 +174,10 @@ def bag_files(path: Path, found: Found, payload: List[Read]) -> Dict[Path, bytes
     same = old in found and found[old].data == manifest
     metadata = bag_info(found[info].data if info in found else b"", payload, same)
     wanted = {path + (m.BAG_DECLARATION,): m.DECLARATION, info: metadata, old: manifest}
-    outside = [file for file in found if file[len(path)] != m.PAYLOAD or len(file) == len(path) + 1]
+    outside = [file for file in found if file[len(path)] != m.PAYLOAD_FOLDER or len(file) == len(path) + 1]
     tags = {file: found[file].sha256 for file in outside if not is_tag_manifest(file[len(path) :])}
     tags.update({file: sha256(data).digest() for file, data in wanted.items()})
-    wanted[path + (m.TAG_MANIFEST,)] = m.bag_manifest(m.Line(tags[tag], tag[len(path) :]) for tag in sorted(tags))
+    wanted[path + (m.TAG_MANIFEST,)] = m.bag_manifest(m.ManifestLine(tags[tag], tag[len(path) :]) for tag in sorted(tags))
     return wanted
 
 
@@ -186,7 +186,7 @@ def is_tag_manifest(path: Path) -> bool:
     return len(path) == 1 and path[0].startswith("tagmanifest-") and path[0].endswith(".txt")
 
 
-def bag_info(old: bytes, payload: List[Read], same: bool) -> bytes:
+def bag_info(old: bytes, payload: List[FileRead], same: bool) -> bytes:
     """The metadata of a bag (RFC 8493, 2.2.2). What others wrote there stays; the day stays too, where the payload is the same."""
     oxum = f"Payload-Oxum: {sum(file.size for file in payload)}.{len(payload)}"
     kept = elements(old.decode(errors="surrogateescape"))
@@ -213,7 +213,7 @@ def label(element: str) -> str:
     return element.partition(":")[0].strip().lower()
 
 
-def write(client: Client, wanted: Dict[Path, bytes], found: Found, dry_run: bool, told: Told) -> List[Path]:
+def write_files(client: Client, wanted: Dict[Path, bytes], found: FilesRead, dry_run: bool, told: StepTold) -> List[Path]:
     """Writes the files that are not there with these bytes, in their order, and reads them back. Gives their paths."""
     changed = [path for path, data in wanted.items() if path not in found or found[path].data != data]
     for path in changed:
@@ -225,7 +225,7 @@ def write(client: Client, wanted: Dict[Path, bytes], found: Found, dry_run: bool
     return changed
 
 
-def store(client: Client, operation: Operation, told: Told) -> None:
+def store(client: Client, operation: Operation, told: StepTold) -> None:
     """Stores a file, and compares what is there then."""
     (outcome,) = client.run([operation])
     if outcome.code is not Code.DONE:
@@ -246,4 +246,4 @@ def seal_words(sealed: Sealed, path: Optional[Path] = None) -> str:
     return words + (f"; wrote {plural(len(sealed.written), 'file', 'files')}" if sealed.written else "; all was there")
 
 
-__all__ = ["Sealed", "seal", "seal_words"]
+__all__ = ["Sealed", "seal_directory", "seal_words"]

@@ -12,15 +12,15 @@ from .preflight import Present
 if TYPE_CHECKING:
     from .client import Client
 
-Stale = Dict[Path, List[Path]]
+StalePaths = Dict[Path, List[Path]]
 """What goes once a file is stored, by the file's path: each directory before what is in it."""
 
 
-def find_stale(client: Client, found: Scan, present: Present) -> Tuple[Stale, List[str]]:
+def find_stale(client: Client, found: Scan, present: Present) -> Tuple[StalePaths, List[str]]:
     """What earlier files of the same names left, and what stays though it looks like that, each with why."""
     wanted = {path for file in found.files for path in own_paths(file.path, file.identity.size, file.path in found.split)[1:]}
     wanted |= {file.path for file in found.files if file.path not in found.split} | {folder.path for folder in found.folders}
-    stale: Stale = {}
+    stale: StalePaths = {}
     doubtful: List[str] = []
     for file in found.files:
         size = file.identity.size if file.path in found.split else 0
@@ -71,4 +71,4 @@ def sizes_of(client: Client, paths: Sequence[Path]) -> List[object]:
     return [answer.size if isinstance(answer, Node) and answer.kind is NodeKind.FILE else None for answer in client.ask_all(map(Stat, paths))]
 
 
-__all__ = ["Stale", "find_stale"]
+__all__ = ["StalePaths", "find_stale"]

@@ -17,16 +17,16 @@ from ..wire.operations import Operation, Outcome, now
 from ..wire.refusals import refusal
 from .ahead import Ahead
 from .growing import find_begun, naming, piece_request
-from .jobs import Job, Options, Summary, reads_back, same_parts
+from .jobs import ImportOptions, ImportSummary, Job, reads_back, same_parts
 from .preflight import Plan, Present, plan, refuse_sizes
-from .stale import Stale, find_stale
-from .walk import Told, look, quiet, remove_paths, remove_tree, walk
+from .stale import StalePaths, find_stale
+from .walk import StepTold, look_up, quiet, remove_paths, remove_tree, walk
 
 if TYPE_CHECKING:
     from ..image.blocks import Space
     from .client import Client
 
-CHUNK = 64
+FILES_AT_ONCE = 64
 """Files that are stored before the first of them are read back or deleted, or what an earlier one left is removed."""
 
 LIST_FILES, LIST_BYTES = 1024, 64 * limits.FILE
@@ -37,7 +37,7 @@ where other clients make the same paths."""
 class Importer:
     """Stores local files and folders."""
 
-    def __init__(self, client: Client, options: Options, told: Told = quiet, stored: Optional[Callable[[Outcome], None]] = None):
+    def __init__(self, client: Client, options: ImportOptions, told: StepTold = quiet, stored: Optional[Callable[[Outcome], None]] = None):
         """`told` is called for each step; `stored`, where it is given, of each file or part in place of that, with its digests."""
         if options.verify and options.dry_run:
             raise UsageError("nothing is read back of a dry run")
@@ -46,7 +46,7 @@ class Importer:
         reads_back = options.verify or client.endpoint.kind == "device" and not options.dry_run
         self.options = options._replace(verify=reads_back)
         self.told, self.stored = told, stored
-        self.summary = Summary()
+        self.summary = ImportSummary()
         self.present = Present()
         self.same: List[Job] = []
         self._kept: List[Job] = []
@@ -69,7 +69,7 @@ class Importer:
                 self.client.resume()
             whole = bool(found.folders) or options.image is not None or options.split
             paths = [] if whole else [file.path for file in found.files] + [path for _, path in wanted]
-            self.present = look(self.client, paths, whole)
+            self.present = look_up(self.client, paths, whole)
             if options.split:
                 found.split = {file.path for file in found.files if stays_in_parts(file.path, file.identity.size, self.present.kinds)}
             stale = self._stale(found)
@@ -86,7 +86,7 @@ class Importer:
             raise DoesNotFit("\n".join(planned.faults))
         return planned
 
-    def _stale(self, found: Scan) -> Stale:
+    def _stale(self, found: Scan) -> StalePaths:
         """What earlier files of the same names left, by the path of each file."""
         if not self.options.split:
             return {}
@@ -126,7 +126,7 @@ class Importer:
 
         return space_of(image, program, 0 if self.options.dry_run else self.client.session().ledger.client)
 
-    def run(self, planned: Plan) -> Summary:
+    def run(self, planned: Plan) -> ImportSummary:
         """Stores what was planned."""
         if self.options.dry_run:
             return self._tell_plan(planned)
@@ -145,7 +145,7 @@ class Importer:
     def _chunks(self, jobs: Iterable[Job]) -> Iterator[List[Job]]:
         """The files that are stored together: the fewer lists, the less often nothing is under way."""
         options = self.options
-        most = CHUNK if options.verify or options.delete_source or options.split else LIST_FILES
+        most = FILES_AT_ONCE if options.verify or options.delete_source or options.split else LIST_FILES
         chunk: List[Job] = []
         size = 0
         for job in jobs:
@@ -157,7 +157,7 @@ class Importer:
         if chunk:
             yield chunk
 
-    def _tell_plan(self, planned: Plan) -> Summary:
+    def _tell_plan(self, planned: Plan) -> ImportSummary:
         for folder in planned.folders + planned.part_folders:
             self.told("would make", folder.path, 0, 0)
         for job in self.same:
@@ -410,13 +410,13 @@ def why_refused(outcome: Outcome) -> str:
     return f"{printed(job.source.path)}: was not stored ({refusal(outcome)}): run the same command again"
 
 
-def put_all(client: Client, jobs: Iterable[Tuple[str, Path]], options: Options, told: Told = quiet) -> Summary:
+def put_all(client: Client, jobs: Iterable[Tuple[str, Path]], options: ImportOptions, told: StepTold = quiet) -> ImportSummary:
     """Stores local files and folders at paths."""
     importer = Importer(client, options, told)
     return importer.run(importer.plan(jobs))
 
 
-def put_tree(client: Client, local: str, path: Path, options: Options, told: Told = quiet) -> Summary:
+def put_tree(client: Client, local: str, path: Path, options: ImportOptions, told: StepTold = quiet) -> ImportSummary:
     """Stores a folder as a directory. Raises where a file was not stored."""
     summary = put_all(client, [(local, path)], options, told)
     if summary.failures:
@@ -424,4 +424,4 @@ def put_tree(client: Client, local: str, path: Path, options: Options, told: Tol
     return summary
 
 
-__all__ = ["Importer", "Options", "Summary", "Told", "put_all", "put_tree", "quiet", "remove_tree", "walk"]
+__all__ = ["ImportOptions", "ImportSummary", "Importer", "StepTold", "put_all", "put_tree", "quiet", "remove_tree", "walk"]

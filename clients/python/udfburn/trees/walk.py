@@ -12,7 +12,7 @@ from .preflight import Present
 if TYPE_CHECKING:
     from .client import Client
 
-Told = Callable[[str, Path, int, int], None]
+StepTold = Callable[[str, Path, int, int], None]
 """Is called for each step: what was done, the path, its bytes, its commit."""
 
 
@@ -34,7 +34,7 @@ def walk(client: Client, path: Path) -> Iterator[Tuple[Path, Tuple[Name, ...]]]:
             level = below
 
 
-def look(client: Client, paths: Iterable[Path], whole: bool) -> Present:
+def look_up(client: Client, paths: Iterable[Path], whole: bool) -> Present:
     """What the volume has at paths and above them; or all that it has."""
     present = Present(whole=whole)
     present.add((), NodeKind.DIRECTORY)
@@ -51,7 +51,7 @@ def look(client: Client, paths: Iterable[Path], whole: bool) -> Present:
     return present
 
 
-def remove_tree(client: Client, path: Path, told: Told = quiet) -> int:
+def remove_tree(client: Client, path: Path, told: StepTold = quiet) -> int:
     """Removes a directory with all below it, from the leaves up; the root itself stays. Gives how many went."""
     with client.held():
         found: List[Tuple[Path, NodeKind]] = []
@@ -61,7 +61,7 @@ def remove_tree(client: Client, path: Path, told: Told = quiet) -> int:
         return remove_paths(client, [at for at, _ in order], told)
 
 
-def remove_paths(client: Client, paths: Iterable[Path], told: Told = quiet) -> int:
+def remove_paths(client: Client, paths: Iterable[Path], told: StepTold = quiet) -> int:
     """Removes files and empty directories in this order. Gives how many went; one that is gone already is as good."""
     count = 0
     for outcome in client.run(Operation(Remove, path, now()) for path in paths):
@@ -72,4 +72,4 @@ def remove_paths(client: Client, paths: Iterable[Path], told: Told = quiet) -> i
     return count
 
 
-__all__ = ["Told", "look", "quiet", "remove_paths", "remove_tree", "walk"]
+__all__ = ["StepTold", "look_up", "quiet", "remove_paths", "remove_tree", "walk"]

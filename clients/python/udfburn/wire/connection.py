@@ -13,13 +13,13 @@ from typing import IO, List, Optional
 from ..base.errors import ProgramFailed, UsageError
 from ..protocol import Answer, Frames, decode_answer, is_bytes, shown
 
-PIECE = 1 << 18
+SOCKET_PIECE = 1 << 18
 """Bytes that are read or written at once."""
 
-LONGEST = 1e6
+LONGEST_WAIT = 1e6
 """The longest wait for an answer, in seconds: the system counts them in milliseconds of 32 bits."""
 
-SENT = 1 << 20
+SEND_BUFFER = 1 << 20
 """Bytes that may be on their way to a daemon, if the system allows it."""
 
 
@@ -96,7 +96,7 @@ class Connection:
         return None
 
     def _feed(self) -> None:
-        self._take(self._read(PIECE))
+        self._take(self._read(SOCKET_PIECE))
 
     def _take(self, piece: Optional[bytes]) -> None:
         if piece is None:
@@ -146,11 +146,11 @@ class UnixConnection(Connection):
         super().__init__(timeout)
         self.socket = socket.socket(socket.AF_UNIX, socket.SOCK_STREAM)
         # As much as may be: what is on its way while the daemon is at work need not be sent afterwards.
-        self.socket.setsockopt(socket.SOL_SOCKET, socket.SO_SNDBUF, SENT)
+        self.socket.setsockopt(socket.SOL_SOCKET, socket.SO_SNDBUF, SEND_BUFFER)
         # With a limit, a daemon that has too many clients waiting is an error and no pause without an end.
         self.socket.settimeout(self.timeout)
         try:
-            connect(self.socket, path)
+            connect_socket(self.socket, path)
         except socket.timeout as error:
             self.socket.close()
             raise Lost(f"the daemon took no conversation for {self.timeout:.3g} seconds") from error
@@ -195,7 +195,7 @@ class UnixConnection(Connection):
             raise Lost(str(error)) from error
 
 
-def connect(unix: socket.socket, path: str) -> None:
+def connect_socket(unix: socket.socket, path: str) -> None:
     """Connects to a path, also to one that is longer than a socket's address: by its folder's descriptor."""
     try:
         unix.connect(path)
@@ -276,7 +276,7 @@ class ImageConnection(Connection):
 
     def _write(self, data: memoryview) -> int:
         try:
-            return os.write(self.sink, data[:PIECE])
+            return os.write(self.sink, data[:SOCKET_PIECE])
         except BlockingIOError:
             return 0
         except BrokenPipeError as error:

@@ -14,7 +14,7 @@ from ..protocol import shown
 from ..protocol.units import Moment
 from .connection import Connection, Lost
 
-NAME = "libudfburn.so.0"
+LIBRARY_FILE = "libudfburn.so.0"
 
 OK = 0
 """The status of a call that succeeded."""
@@ -44,7 +44,7 @@ CALLS: Dict[str, Tuple[Optional[type], List[object]]] = {
 """The functions of udfburn.h that are used here: what each returns and takes."""
 
 
-class Refused(Exception):
+class CallRefused(Exception):
     """A call returned a status other than UDFBURN_OK. `name` is the status. `error` is the errno of the call of the system that failed below
     it, `call`, on the file at `path`; 0 and no text where none failed, or its path is not known."""
 
@@ -72,21 +72,21 @@ class Library(NamedTuple):
         return said.decode(errors="replace")
 
     def require(self, status: int, handle: Optional[HANDLE] = None) -> None:
-        """Raises `Refused` unless the status is UDFBURN_OK. The call was on a handle, or on none."""
+        """Raises `CallRefused` unless the status is UDFBURN_OK. The call was on a handle, or on none."""
         if status != OK:
             said: bytes = self.calls.udfburn_error_name(status)
             reason = ReasonOfC(ctypes.sizeof(ReasonOfC))
             # What it says may be of an earlier call, where this one was refused before it began.
             if self.calls.udfburn_reason(handle, ctypes.byref(reason)) == OK and reason.status == status:
-                raise Refused(said.decode(errors="replace"), reason.error, reason.call.decode(errors="replace"), os.fsdecode(reason.path))
-            raise Refused(said.decode(errors="replace"))
+                raise CallRefused(said.decode(errors="replace"), reason.error, reason.call.decode(errors="replace"), os.fsdecode(reason.path))
+            raise CallRefused(said.decode(errors="replace"))
 
     def format(self, path: str, label: str, moment: Moment, blocks: int) -> None:
         """Makes a volume in a new or empty file."""
         self.require(self.calls.udfburn_format(os.fsencode(path), label.encode(), moment, blocks))
 
 
-class OpenVolume:
+class LibraryVolume:
     """An open volume. Nobody else can open it meanwhile. A child after fork cannot use it: both processes would write."""
 
     def __init__(self, library: Library, path: str):
@@ -135,9 +135,9 @@ class LibraryConnection(Connection):
         # The library opens no symbolic link.
         self.image = os.path.realpath(image)
         try:
-            self.volume = OpenVolume(library, self.image)
-        except Refused as refused:
-            raise told(refused) from refused
+            self.volume = LibraryVolume(library, self.image)
+        except CallRefused as refused:
+            raise refusal_of(refused) from refused
 
     def close(self) -> None:
         self.volume.close()
@@ -154,15 +154,15 @@ class LibraryConnection(Connection):
     def _write(self, data: memoryview) -> int:
         try:
             self.volume.answer(bytes(data))
-        except Refused as refused:
+        except CallRefused as refused:
             raise self._told(refused) from refused
         return len(data)
 
-    def _told(self, refused: Refused) -> Exception:
-        return told(refused)
+    def _told(self, refused: CallRefused) -> Exception:
+        return refusal_of(refused)
 
 
-def told(refused: Refused) -> Exception:
+def refusal_of(refused: CallRefused) -> Exception:
     """What a refused call means for the conversation."""
     if refused.name == "UDFBURN_VOLUME":
         return Damaged(DAMAGE)
@@ -183,7 +183,7 @@ _found: Dict[str, Library] = {}
 
 def find_library() -> Library:
     """The library. `UsageError` if there is none, or if it lacks a function that is used here."""
-    name = os.environ.get("UDFBURN_LIBRARY") or NAME
+    name = os.environ.get("UDFBURN_LIBRARY") or LIBRARY_FILE
     if name not in _found:
         _found[name] = Library(name, load(name))
     return _found[name]
@@ -209,4 +209,4 @@ def declare(name: str, calls: ctypes.CDLL, table: Dict[str, Tuple[Optional[type]
         function.restype, function.argtypes = result, words
 
 
-__all__ = ["HANDLE", "Library", "LibraryConnection", "OpenVolume", "Refused", "declare", "find_library"]
+__all__ = ["CallRefused", "HANDLE", "Library", "LibraryConnection", "LibraryVolume", "declare", "find_library"]

@@ -122,7 +122,7 @@ def paths_of(request: AnyRequest) -> Tuple[Path, ...]:
     return (request.path, request.to) if isinstance(request, Rename) else (request.path,)
 
 
-def after(request: AnyRequest) -> Dict[Path, Expected]:
+def tree_after(request: AnyRequest) -> Dict[Path, Expected]:
     """What the tree has right after a request that was done."""
     if isinstance(request, (Create, Replace, Append)):
         return {request.path: Expected(True, NodeKind.FILE, size_after(request), request.moment)}
@@ -149,7 +149,7 @@ def refused(request: AnyRequest, code: Code) -> Dict[Path, Expected]:
 
 def confirmed(request: AnyRequest, code: Code, answers: Sequence[Answer]) -> bool:
     """Whether answers to Stat of the request's paths, asked right after it, agree with its reply."""
-    wanted = after(request) if code is Code.DONE else refused(request, code)
+    wanted = tree_after(request) if code is Code.DONE else refused(request, code)
     return all(path not in wanted or wanted[path].agrees(answer) for path, answer in zip(paths_of(request), answers))
 
 
@@ -197,7 +197,7 @@ def after_all(replies: Sequence[Tuple[Deed, Optional[Code]]]) -> Dict[Path, Expe
     known: Dict[Path, Expected] = {}
     for deed, code in replies:
         if code is None:
-            for path in below(known, deed.path) + below(known, deed.to if deed.kind is Kind.RENAME else deed.path):
+            for path in known_below(known, deed.path) + known_below(known, deed.to if deed.kind is Kind.RENAME else deed.path):
                 known.pop(path, None)
         elif code is Code.DONE:
             do(deed, known)
@@ -207,7 +207,7 @@ def after_all(replies: Sequence[Tuple[Deed, Optional[Code]]]) -> Dict[Path, Expe
 def do(deed: Deed, known: Dict[Path, Expected]) -> None:
     """Does a deed to what is known."""
     if deed.kind is Kind.RENAME:
-        moved = {path: known.pop(path) for path in below(known, deed.path)}
+        moved = {path: known.pop(path) for path in known_below(known, deed.path)}
         known[deed.path], known[deed.to] = ABSENT, moved.pop(deed.path, PRESENT)
         known.update({deed.to + path[len(deed.path) :]: what for path, what in moved.items()})
     elif deed.kind is Kind.MAKE_DIR:
@@ -218,12 +218,12 @@ def do(deed: Deed, known: Dict[Path, Expected]) -> None:
         known[deed.path] = Expected(True, NodeKind.FILE, deed.size, deed.moment)
 
 
-def below(known: Mapping[Path, object], path: Path) -> List[Path]:
+def known_below(known: Mapping[Path, object], path: Path) -> List[Path]:
     """A path and those below it, as far as they are known."""
     return [other for other in known if other[: len(path)] == path]
 
 
 __all__ = [
-    "Deed", "Expected", "Operation", "Origin", "Outcome", "Whole", "after", "after_all", "below", "clamped", "confirmed", "deed_of", "now", "paths_of", "refused",
-    "surely",
+    "Deed", "Expected", "Operation", "Origin", "Outcome", "Whole", "after_all", "clamped", "confirmed", "deed_of", "known_below", "now", "paths_of", "refused", "surely",
+    "tree_after",
 ]

@@ -14,13 +14,13 @@ from ..base.errors import DiscFailed
 from ..protocol import shown
 from ..protocol.units import Moment
 from .connection import Connection, Lost
-from .library import HANDLE, Library, LibraryConnection, OpenVolume, Refused, declare
+from .library import CallRefused, HANDLE, Library, LibraryConnection, LibraryVolume, declare
 
 VERIFY = 1
 """The flag of udfburn.h by which each packet is read back before its requests are acknowledged."""
 
 
-class Volume(ctypes.Structure):
+class VolumeStruct(ctypes.Structure):
     """`struct udfburn_volume`."""
 
     _fields_ = [
@@ -29,20 +29,20 @@ class Volume(ctypes.Structure):
     ]
 
 
-CALLS: Dict[str, Tuple[Optional[type], List[object]]] = {
+RECORDER_CALLS: Dict[str, Tuple[Optional[type], List[object]]] = {
     "udfburn_format_mmc": (ctypes.c_int32, [ctypes.c_char_p, ctypes.c_char_p, ctypes.c_uint64]),
     "udfburn_open_mmc": (ctypes.c_int32, [ctypes.c_char_p, ctypes.c_uint32, ctypes.POINTER(HANDLE)]),
-    "udfburn_describe": (ctypes.c_int32, [HANDLE, ctypes.POINTER(Volume)]),
+    "udfburn_describe": (ctypes.c_int32, [HANDLE, ctypes.POINTER(VolumeStruct)]),
 }
 """The functions of udfburn.h that a recorder takes, beside those of `udfburn.wire.library`."""
 
-KINDS = "put in a CD-R, a DVD-R, a DVD+R or a BD-R"
+TAKEN_MEDIA = "put in a CD-R, a DVD-R, a DVD+R or a BD-R"
 
 WHY = {
-    ("TEST UNIT READY", errno.ENOMEDIUM): f"there is no disc in it: {KINDS}",
-    ("GET CONFIGURATION", errno.ENOMEDIUM): f"there is no disc in it: {KINDS}",
-    ("TEST UNIT READY", errno.EMEDIUMTYPE): f"the disc is none that can be written in place: {KINDS}",
-    ("GET CONFIGURATION", errno.EMEDIUMTYPE): f"the disc is none that can be written in place: {KINDS}",
+    ("TEST UNIT READY", errno.ENOMEDIUM): f"there is no disc in it: {TAKEN_MEDIA}",
+    ("GET CONFIGURATION", errno.ENOMEDIUM): f"there is no disc in it: {TAKEN_MEDIA}",
+    ("TEST UNIT READY", errno.EMEDIUMTYPE): f"the disc is none that can be written in place: {TAKEN_MEDIA}",
+    ("GET CONFIGURATION", errno.EMEDIUMTYPE): f"the disc is none that can be written in place: {TAKEN_MEDIA}",
     ("READ DISC INFORMATION", errno.EROFS): "the disc is closed, and takes nothing more",
     ("READ DISC INFORMATION", errno.EEXIST): "the disc has other tracks",
     ("READ TRACK INFORMATION", errno.EROFS): "the disc takes nothing more",
@@ -57,7 +57,7 @@ WHY = {
 """What reasons mean."""
 
 
-def explained(refused: Refused) -> Tuple[str, bool]:
+def explained(refused: CallRefused) -> Tuple[str, bool]:
     """Why a call on a disc was refused, in words, and whether another try may help."""
     status, call, error = refused.name, refused.call, refused.error
     if status == "UDFBURN_BUSY":
@@ -71,7 +71,7 @@ def explained(refused: Refused) -> Tuple[str, bool]:
     return f"{status}: {call} failed{f' ({what})' if what else ''}" if call else status, status != "UDFBURN_READ_ONLY"
 
 
-class OpenDisc(OpenVolume):
+class OpenDisc(LibraryVolume):
     """An open volume on a disc. The recorder is nobody else's meanwhile."""
 
     def _opened(self, path: str) -> int:
@@ -80,7 +80,7 @@ class OpenDisc(OpenVolume):
 
     def name(self) -> str:
         """What the volume is known by: the moment of its format, and its label."""
-        volume = Volume(ctypes.sizeof(Volume))
+        volume = VolumeStruct(ctypes.sizeof(VolumeStruct))
         self._library.require(self._library.calls.udfburn_describe(self._handle, ctypes.byref(volume)), self._handle)
         return f"{volume.identity}:{volume.label.decode(errors='replace')}"
 
@@ -90,12 +90,12 @@ class DiscConnection(LibraryConnection):
 
     def __init__(self, device: str, library: Library, timeout: float = 120.0):
         Connection.__init__(self, timeout)
-        declare(library.name, library.calls, CALLS)
+        declare(library.name, library.calls, RECORDER_CALLS)
         self.image = device
         try:
             self.disc = OpenDisc(library, device)
             self.volume = self.disc
-        except Refused as refused:
+        except CallRefused as refused:
             why, is_passing = explained(refused)
             raise Lost(why) if is_passing else DiscFailed(f"{shown(device)}: {why}") from refused
 
@@ -103,19 +103,19 @@ class DiscConnection(LibraryConnection):
         """What the volume is known by."""
         try:
             return self.disc.name()
-        except Refused as refused:
+        except CallRefused as refused:
             raise self._told(refused) from refused
 
-    def _told(self, refused: Refused) -> Exception:
+    def _told(self, refused: CallRefused) -> Exception:
         return Lost(explained(refused)[0])
 
 
 def format_disc(library: Library, device: str, label: str, moment: Moment) -> None:
     """Makes a volume on a blank disc, or finishes one whose format was interrupted."""
-    declare(library.name, library.calls, CALLS)
+    declare(library.name, library.calls, RECORDER_CALLS)
     try:
         library.require(library.calls.udfburn_format_mmc(os.fsencode(device), label.encode(), moment))
-    except Refused as refused:
+    except CallRefused as refused:
         why, is_passing = explained(refused)
         if refused.name == "UDFBURN_VOLUME" and not refused.call:
             why = "holds something already, and stays as it is: put a blank disc in; or repeat a format that was cut short with its own --label and --moment"

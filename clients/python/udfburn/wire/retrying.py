@@ -23,13 +23,13 @@ TURN = 1.0
 BEGINNINGS = 4
 """A conversation lasts at least this many times as long as its opening took: each opening may read a full volume from a slow disk."""
 
-LEAST = 0.2
+LEAST_WAIT = 0.2
 """Seconds that an answer gets at least, however long was waited before."""
 
 COMMIT = 1_500_000
 """Bytes that a commit may take on the medium, at most: those of a file, of two directories and of a table."""
 
-QUERIES = 16
+QUERIES_AT_ONCE = 16
 """Queries that are under way at once."""
 
 
@@ -97,7 +97,7 @@ class RetryingConnection:
         while self._connection is None:
             began = time.monotonic()
             # What was waited for nothing already counts. A moment is left for an answer that comes at once.
-            timeout = max(self.timeout - self.patience.spent(), min(self.timeout, LEAST))
+            timeout = max(self.timeout - self.patience.spent(), min(self.timeout, LEAST_WAIT))
             try:
                 connection = self.endpoint.open(timeout)
             except Lost as lost:
@@ -210,7 +210,7 @@ class RetryingConnection:
         """The queries that there is room for. None where others are to get their turn."""
         if under_way and self.over():
             return []
-        return list(islice(source, QUERIES - under_way))
+        return list(islice(source, QUERIES_AT_ONCE - under_way))
 
     def _exchange(self, asked: Deque[Query], unsent: List[Query]) -> Optional[Answer]:
         """Sends what is not sent yet, and takes an answer; or gives none, and all are to be asked again."""
