@@ -6,11 +6,11 @@ import json
 import os
 import re
 import subprocess
-from contextlib import suppress
+from contextlib import contextmanager, suppress
 from functools import partial
 from hashlib import sha256
 from tempfile import TemporaryFile
-from typing import Any, Dict, Iterator, List, NamedTuple, Optional, Sequence, Set
+from typing import Any, BinaryIO, Dict, Iterator, List, NamedTuple, Optional, Sequence, Set
 
 from ..base.beneath import Place
 from ..base.own_files import BytesTold, untold
@@ -56,6 +56,24 @@ def print_of_range(descriptor: int, start: int, end: int) -> Print:
     return Print(count, whole.digest())
 
 
+@contextmanager
+def fetched(target: Place) -> Iterator[BinaryIO]:
+    """A new file for a copy, which is durable at the end. Where it cannot be whole, nothing is left of it."""
+    target.unlink()
+    descriptor = target.root.new_file(target.names, 0o600)
+    try:
+        with open(descriptor, "wb") as new:
+            yield new
+            new.flush()
+            os.fsync(descriptor)
+    except CopyFailed:
+        forget(target)
+        raise
+    except OSError as error:
+        forget(target)
+        raise failed(target.local(), error) from error
+
+
 class RcloneRemote(Remote):
     """A remote of rclone, by its own configuration. The copy of an open image is a file for each tail: no remote can append."""
 
@@ -92,22 +110,14 @@ class RcloneRemote(Remote):
             raise
 
     def fetch(self, name: str, target: Place) -> None:
-        # Its bytes come through a pipe, since rclone would write to a path.
-        target.unlink()
-        descriptor = target.root.new_file(target.names, 0o600)
-        try:
-            with open(descriptor, "wb") as new:
-                for piece in self._pieces(name):
-                    new.write(piece)
-                    self.told(len(piece))
-                new.flush()
-                os.fsync(descriptor)
-        except CopyFailed:
-            forget(target)
-            raise
-        except OSError as error:
-            forget(target)
-            raise failed(target.local(), error) from error
+        with fetched(target) as new:
+            self._receive(name, new)
+
+    def _receive(self, name: str, new: BinaryIO) -> None:
+        """Writes the bytes of a file. They come through a pipe, since rclone would write to a path."""
+        for piece in self._pieces(name):
+            new.write(piece)
+            self.told(len(piece))
 
     def _said(self, name: str, *words: str) -> Optional[Dict[str, Any]]:
         """What the remote says of a file; None where it is not there."""
@@ -223,24 +233,11 @@ class RcloneRemote(Remote):
         self._read.add(file)
 
     def fetch_grown(self, name: str, target: Place) -> None:
-        target.unlink()
-        descriptor = target.root.new_file(target.names, 0o600)
-        try:
-            with open(descriptor, "wb") as new:
-                for tail in tails_of(name, self.names()):
-                    for piece in self._pieces(tail.name(name)):
-                        new.write(piece)
-                        self.told(len(piece))
-                    if new.tell() != tail.end:
-                        raise CopyFailed(f"{self._path(tail.name(name))}: has not the length that its name says")
-                new.flush()
-                os.fsync(descriptor)
-        except CopyFailed:
-            forget(target)
-            raise
-        except OSError as error:
-            forget(target)
-            raise failed(target.local(), error) from error
+        with fetched(target) as new:
+            for tail in tails_of(name, self.names()):
+                self._receive(tail.name(name), new)
+                if new.tell() != tail.end:
+                    raise CopyFailed(f"{self._path(tail.name(name))}: has not the length that its name says")
 
     def first_bytes(self, name: str, count: int) -> bytes:
         tails = tails_of(name, self.names())

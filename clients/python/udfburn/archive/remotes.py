@@ -5,9 +5,10 @@ from __future__ import annotations
 import errno
 import os
 import stat
-from typing import List, Optional
+from contextlib import contextmanager
+from typing import Iterator, List, Optional, Tuple
 
-from ..base.beneath import Place
+from ..base.beneath import Place, Root
 from ..base.own_files import BytesTold, copy_file, untold
 from ..local.sources import shown
 from . import grow
@@ -87,32 +88,32 @@ class FolderRemote(Remote):
                     return UNREADABLE
                 raise CopyFailed(f"{shown(root.local((name,)))}: {error.strerror or error}") from error
 
+    @contextmanager
+    def _copy(self, name: str) -> Iterator[Tuple[Root, Optional[int]]]:
+        """The folder, and the descriptor of a copy in it; None where there is none, though the folder takes copies of this archive."""
+        with opened(self.name) as root:
+            if root.find((name,)) is None:
+                require_own(self.owner, root)
+                yield root, None
+                return
+            descriptor = root.open_file((name,))
+            try:
+                yield root, descriptor
+            finally:
+                os.close(descriptor)
+
     def extend(self, image: int, name: str, length: int) -> int:
         with opened(self.name) as root:
             require_own(self.owner, root)
             return grow.extend(root, name, image, length, self._compared, self.told)
 
     def begun(self, image: int, name: str, length: int) -> Optional[int]:
-        with opened(self.name) as root:
-            if root.find((name,)) is None:
-                require_own(self.owner, root)
-                return None
-            descriptor = root.open_file((name,))
-            try:
-                return grow.begun(root, name, descriptor, image, length, self._compared, self.told)
-            finally:
-                os.close(descriptor)
+        with self._copy(name) as (root, descriptor):
+            return None if descriptor is None else grow.begun(root, name, descriptor, image, length, self._compared, self.told)
 
     def grown(self, name: str) -> Optional[int]:
-        with opened(self.name) as root:
-            if root.find((name,)) is None:
-                require_own(self.owner, root)
-                return None
-            descriptor = root.open_file((name,))
-            try:
-                return grow.sound(root, name, descriptor)
-            finally:
-                os.close(descriptor)
+        with self._copy(name) as (root, descriptor):
+            return None if descriptor is None else grow.sound(root, name, descriptor)
 
     def fetch_grown(self, name: str, target: Place) -> None:
         most = self.grown(name)
