@@ -16,7 +16,7 @@ from functools import lru_cache
 from shutil import rmtree
 from typing import IO, Optional, Type
 
-from ..base.beneath import open_own
+from ..base.beneath import PIECE, open_own
 from ..base.disk import room_left
 from ..base.locks import lock_or_close
 from ..base.own_files import from_top, open_to_write
@@ -38,8 +38,6 @@ MOST_BYTES = 1 << 28
 
 LARGE = 1 << 17
 """Bytes a file, on average, above which the disk's time is that of its bytes, and batches gain little."""
-
-PIECE = 1 << 20
 
 
 class NoBatch(ArchiveError):

@@ -32,6 +32,9 @@ GONE = "gone"
 SAME = "same"
 """The folder of the texts that say which files have the bytes of others."""
 
+TEXT_BYTES = 1_000_000
+"""Bytes of a text of either kind, at most."""
+
 
 class About(NamedTuple):
     """What `volume.txt` says: the archive, its label, and the volume's number."""

@@ -12,7 +12,7 @@ from ..protocol import Path
 from ..protocol.units import Commit, Moment
 from ..reader import FileType, StateNode
 from .catalogue import Catalogue, Held, as_of, versions, volume_and_commit
-from .contents import GONE, Contents
+from .contents import GONE, TEXT_BYTES, Contents
 from .errors import VolumeDiffers
 from .held import below, folder_text, line_path, path_line
 from .names import kept_name, name_back, text_of
@@ -20,9 +20,6 @@ from .schema import COMMITS
 
 TITLE = "udfburn-archive deletions 1"
 """The first line of a text of deletions."""
-
-TEXT = 1_000_000
-"""Bytes of a text, at most."""
 
 MOST = 1 << 28
 """Bytes of all texts of a volume that are read, at most."""
@@ -54,7 +51,7 @@ def texts(events: Iterable[Event]) -> Iterator[Tuple[bytes, List[Event]]]:
     some: List[Event] = []
     for event in events:
         line = line_of(event)
-        if some and len(data) + len(line) > TEXT:
+        if some and len(data) + len(line) > TEXT_BYTES:
             yield bytes(data), some
             data, some = bytearray(f"{TITLE}\n".encode()), []
         data += line

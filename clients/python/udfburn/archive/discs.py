@@ -14,6 +14,7 @@ from typing import List, Optional, Tuple
 from ..base.errors import DiscFailed, UsageError
 from ..base.own_files import from_top, remove
 from ..base.progress import printable
+from ..discs import DRIVE
 from ..discs.burning import Say, burned, device_path, ends_well, look_at, open_drive, read_disc, read_from, require_drive, require_other, take_in_again
 from ..discs.finish import track_of
 from ..local.sources import shown
@@ -27,15 +28,13 @@ from .errors import CopyFailed, NotAtHand, VolumeDiffers
 from .remotes import Print, print_of_file
 from .tell import Tell, plural, tell_of
 
-DEVICE = "/dev/sr0"
-
 
 def disc_of(arguments: argparse.Namespace) -> Tuple[str, str]:
     """The name of the disc that a command is about, where a disc can have it, and its drive."""
     name: Optional[str] = arguments.disc
     if name is None:
         raise UsageError("--device goes with --disc, which says what is written on the disc")
-    return check_name(name), arguments.device or DEVICE
+    return check_name(name), arguments.device or DRIVE
 
 
 def check_name(name: str) -> str:

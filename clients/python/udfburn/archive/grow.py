@@ -10,7 +10,7 @@ import os
 from contextlib import suppress
 from typing import Dict, Optional, Tuple
 
-from ..base.beneath import Place, Root, mode_for
+from ..base.beneath import PIECE, Place, Root, mode_for
 from ..base.disk import is_full
 from ..base.locks import try_lock
 from ..base.own_files import BytesTold, untold
@@ -19,8 +19,6 @@ from ..local.sources import shown
 from ..protocol import limits
 from .batch import tail_note
 from .errors import CopyFailed
-
-PIECE = 1 << 20
 
 Compared = Dict[str, Tuple[int, int, int]]
 """What was compared in this run of copies, by their names: which file, by its device and inode, and how many of its bytes."""

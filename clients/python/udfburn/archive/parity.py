@@ -18,7 +18,7 @@ from ..protocol import limits
 from .assemble import PIECE, blocks_at, write_at
 from .config import Config
 from .errors import ArchiveError, CopyFailed
-from .remote import Print, Remote, print_of_file
+from .remote import Print, Remote, last_line, print_of_file
 
 PROGRAM = "par2"
 
@@ -65,7 +65,7 @@ def make(config: Config, image: str, redundancy: int) -> bool:
         done = run(["create", "-q", "-q", f"-s{block_size(os.path.getsize(image))}", f"-r{redundancy}", "-n1", "-B", base, "--", os.path.join(folder, index), image])
         names = parity_names(label, os.listdir(folder))
         if done.returncode or len(names) < 2:
-            raise ArchiveError(f"{shown(image)}: no parity was made: {last_line(done) or f'par2 ended with {done.returncode}'}")
+            raise ArchiveError(f"{shown(image)}: no parity was made: {last_line(done.stderr + done.stdout) or f'par2 ended with {done.returncode}'}")
         for name in sorted(names, key=lambda name: name == index):
             made(os.path.join(folder, name), os.path.join(base, name), config.mode)
     return True
@@ -90,11 +90,6 @@ def durable(path: str) -> None:
         os.fsync(descriptor)
     finally:
         os.close(descriptor)
-
-
-def last_line(done: "subprocess.CompletedProcess[str]") -> str:
-    lines = (done.stderr + done.stdout).strip().splitlines()
-    return lines[-1] if lines else ""
 
 
 def gathered(image: str, remotes: Sequence[Remote], folder: str) -> Iterator[Tuple[str, List[str]]]:

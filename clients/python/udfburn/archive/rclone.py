@@ -12,10 +12,10 @@ from hashlib import sha256
 from tempfile import TemporaryFile
 from typing import Any, BinaryIO, Dict, Iterator, List, NamedTuple, Optional, Sequence, Set
 
-from ..base.beneath import Place
+from ..base.beneath import PIECE, Place
 from ..base.own_files import BytesTold, untold
 from .errors import CopyFailed
-from .remote import PIECE, UNREADABLE, Print, Remote, failed, forget
+from .remote import UNREADABLE, Print, Remote, failed, forget, last_line
 
 NOT_THERE = (3, 4)
 """The statuses of rclone where there is no such folder or file."""
@@ -94,7 +94,7 @@ class RcloneRemote(Remote):
         if missing and done.returncode in NOT_THERE:
             return None
         if done.returncode:
-            raise CopyFailed(f"rclone {' '.join(words[:1])} {self.name}: {last_line(done.stderr) or f'status {done.returncode}'}")
+            raise CopyFailed(f"rclone {' '.join(words[:1])} {self.name}: {last_line(done.stderr.decode(errors='replace')) or f'status {done.returncode}'}")
         return done.stdout
 
     def send(self, local: str, name: str) -> None:
@@ -174,7 +174,7 @@ class RcloneRemote(Remote):
                     raise
             told.seek(0)
             if process.returncode:
-                raise CopyFailed(f"rclone cat {self.name}: {last_line(told.read())}")
+                raise CopyFailed(f"rclone cat {self.name}: {last_line(told.read().decode(errors='replace'))}")
 
 
     # ---- copies of open images
@@ -226,7 +226,7 @@ class RcloneRemote(Remote):
                         self.told(len(piece))
             told.seek(0)
             if process.returncode:
-                raise CopyFailed(f"rclone rcat {self.name}: {last_line(told.read())}")
+                raise CopyFailed(f"rclone rcat {self.name}: {last_line(told.read().decode(errors='replace'))}")
         if self.look(file + ".new") != print_of_range(image, tail.start, tail.end):
             raise CopyFailed(f"{self._path(file)}: what arrived is not what was sent")
         self._run(["moveto", new, self._path(file)])
@@ -259,9 +259,3 @@ def started(words: List[str], **streams: Any) -> "subprocess.Popen[bytes]":
         return subprocess.Popen(words, **streams)
     except FileNotFoundError as error:
         raise CopyFailed("the program rclone is not on the PATH (Debian: rclone)") from error
-
-
-def last_line(told: bytes) -> str:
-    """The last line of what a program printed."""
-    lines = told.decode(errors="replace").strip().splitlines()
-    return lines[-1] if lines else ""

@@ -2,19 +2,17 @@
 
 from __future__ import annotations
 
-import errno
 import os
 from contextlib import suppress
 from hashlib import sha256
 from typing import IO, List, NamedTuple, Optional
 
-from ..base.beneath import Place, open_own
+from ..base.beneath import PIECE, Place, open_own
+from ..base.disk import is_full
 from ..base.own_files import BytesTold, untold
 from ..local.sources import shown
 from ..protocol import limits
 from .errors import CopyFailed
-
-PIECE = 1 << 20
 
 BEGINNING = 257 * limits.BLOCK
 """The bytes up to the anchor in block 256: all that says which volume it is."""
@@ -57,15 +55,16 @@ def print_of_file(path: str, fresh: bool = False, most: Optional[int] = None, to
     return print_of_open(open_own(path), fresh, most, told)
 
 
-def is_full(error: OSError) -> bool:
-    """Whether a disk has no room."""
-    return error.errno in (errno.ENOSPC, errno.EDQUOT)
-
-
 def failed(path: str, error: OSError) -> CopyFailed:
     """What is said of a copy that could not be made."""
     told = "the disk has no room: make room on it, and run the same command again" if is_full(error) else error.strerror or error
     return CopyFailed(f"{shown(path)}: {told}")
+
+
+def last_line(text: str) -> str:
+    """The last line of what a program printed."""
+    lines = text.strip().splitlines()
+    return lines[-1] if lines else ""
 
 
 def forget(new: Place) -> None:

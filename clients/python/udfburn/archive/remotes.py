@@ -9,6 +9,7 @@ from contextlib import contextmanager
 from typing import Iterator, List, Optional, Tuple
 
 from ..base.beneath import Place, Root
+from ..base.disk import is_full
 from ..base.own_files import BytesTold, copy_file, untold
 from ..local.sources import shown
 from . import grow
@@ -17,7 +18,7 @@ from .catalogue import DISC, Catalogue
 from .errors import CopyFailed
 from .markers import Owner, opened, require_own
 from .rclone import RcloneRemote
-from .remote import UNREADABLE, Print, Remote, failed, forget, is_full, print_of, print_of_file, print_of_open
+from .remote import UNREADABLE, Print, Remote, failed, forget, print_of, print_of_file, print_of_open
 
 
 class FolderRemote(Remote):

@@ -10,10 +10,10 @@ from ..protocol.units import Commit, Moment
 from .catalogue import Catalogue, Held
 from .config import Config
 from .content import Content
-from .contents import SAME
+from .contents import SAME, TEXT_BYTES
 from .fill import Filler
 from .job import Job, digest_of
-from .same import MOST, TEXT, Entry, entry, text_size, texts
+from .same import MOST, Entry, entry, text_size, texts
 from .same_rows import insert, kept_files
 from .tell import shown_path
 
@@ -149,7 +149,7 @@ class Repeats:
 
     def is_due(self) -> bool:
         """Whether lines make a text, or many files wait."""
-        return self._bytes >= TEXT or self._waits >= self._most
+        return self._bytes >= TEXT_BYTES or self._waits >= self._most
 
     def finish(self, filler: Filler) -> None:
         """Writes all lines, and has all be stored that is left."""

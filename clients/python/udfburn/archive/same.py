@@ -13,7 +13,7 @@ from ..protocol import limits
 from ..protocol.units import Commit, Moment, Size
 from ..reader import FileType, StateNode
 from .config import volume_label
-from .contents import SAME, SIZE, Contents, number
+from .contents import SAME, SIZE, TEXT_BYTES, Contents, number
 from .errors import CannotStore, VolumeDiffers
 from .held import Held, is_whole, line_path, path_line
 from .names import kept_name, read_back, spelled, stored_folder, text_of
@@ -32,9 +32,6 @@ data/=v2, data/=v3 .. for the one with this SHA-256; if that volume is closed,
 its manifest-sha256.txt has it. In paths %25 is a percent sign.
 
 """
-
-TEXT = 1_000_000
-"""Bytes of a text, at most."""
 
 MOST = 1 << 26
 """Bytes of all texts of a volume, at most. A volume that has as many takes no more of them."""
@@ -70,10 +67,10 @@ def span(row: Held) -> str:
 
 def text_size(capacity: int) -> int:
     """Bytes of a text, at most, of an archive whose volumes have so many blocks."""
-    return min(TEXT, capacity * limits.BLOCK // 8)
+    return min(TEXT_BYTES, capacity * limits.BLOCK // 8)
 
 
-def texts(entries: Iterable[Entry], most: int = TEXT) -> Iterator[Tuple[bytes, List[Entry]]]:
+def texts(entries: Iterable[Entry], most: int = TEXT_BYTES) -> Iterator[Tuple[bytes, List[Entry]]]:
     """The texts that have files, each with what it has. None but of a single file has more than so many bytes."""
     data = bytearray(WORDS.encode())
     some: List[Entry] = []
@@ -172,4 +169,4 @@ def count_of(rows: Iterable[Held]) -> int:
     return len({(row.noted, row.path) for row in rows})
 
 
-__all__ = ["Entry", "MOST", "TEXT", "TITLE", "count_of", "entry", "nodes_on", "read_text", "rows_on", "text_size", "texts"]
+__all__ = ["Entry", "MOST", "TITLE", "count_of", "entry", "nodes_on", "read_text", "rows_on", "text_size", "texts"]
