@@ -59,7 +59,7 @@ class Tables(Damaged):
     def test_more_nodes_than_there_may_be(self) -> None:
         """The file set, the root and its data are three blocks; a block that they leave is of no use."""
         for room, told in ((3, False), (1, True)):
-            with mock.patch("udfburn.reader.audit.room_of", lambda blocks, room=room: room):
+            with mock.patch("udfburn.reader.audit.block_budget", lambda blocks, room=room: room):
                 notes = Salvage(self.without()).notes
             self.assertEqual(any("blocks of files and directories" in str(note) for note in notes), told, room)
 
