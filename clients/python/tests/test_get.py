@@ -17,7 +17,7 @@ from udfburn.trees import fetch
 from .programs import PATIENCE, WithPrograms
 from .with_files import Local
 
-NAMED = "import sys; from udfburn.commands import cli; from udfburn.local import saving; saving.UNNAMED = 0; saving.FILES = 4; sys.exit(cli.main(sys.argv[1:]))"
+NAMED = "import sys; from udfburn.commands import cli; from udfburn.local import saving; saving.UNNAMED = 0; saving.SYNCED_FILES = 4; sys.exit(cli.main(sys.argv[1:]))"
 """The client where the file system has no files without a name."""
 
 UNNAMED = NAMED.replace("saving.UNNAMED = 0; ", "")
