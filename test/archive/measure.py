@@ -149,7 +149,7 @@ ASK = """
 import sys, time
 from udfburn.archive.config import read
 from udfburn.archive.catalogue import Catalogue, versions
-from udfburn.archive.find import find
+from udfburn.archive.find import matching_paths
 from udfburn.archive.names import path_from
 pattern = sys.argv[2]
 def reads():
@@ -160,7 +160,7 @@ own = reads() - reads()
 with Catalogue(read(sys.argv[1])) as catalogue:
     for turn in range(2):
         before, began = reads(), time.monotonic()
-        found = versions(catalogue.of_path(path_from(pattern[6:]))) if pattern.startswith("where ") else list(find(catalogue, pattern))
+        found = versions(catalogue.of_path(path_from(pattern[6:]))) if pattern.startswith("where ") else list(matching_paths(catalogue, pattern))
         milliseconds = (time.monotonic() - began) * 1000
         print(len(found), milliseconds, reads() - before + own)
 """

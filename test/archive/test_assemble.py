@@ -18,8 +18,8 @@ sys.path.insert(0, PACKAGE)
 
 from udfburn.archive import closing  # noqa: E402
 from udfburn.archive.assemble import assembled, likeliest  # noqa: E402
-from udfburn.archive.catalogue import CLOSED, FULL, RETIRED  # noqa: E402
-from udfburn.archive.check import Options, chosen  # noqa: E402
+from udfburn.archive.catalogue import STATE_CLOSED, STATE_FULL, STATE_RETIRED  # noqa: E402
+from udfburn.archive.check import CheckOptions, chosen  # noqa: E402
 from udfburn.archive.errors import NotAtHand  # noqa: E402
 from udfburn.archive.remotes import Print  # noqa: E402
 
@@ -96,21 +96,21 @@ class Chosen(unittest.TestCase):
         return [row.label for row in found]
 
     def test_those_that_are_checked(self) -> None:
-        some = rows("open", CLOSED, RETIRED, CLOSED, CLOSED, checked=[0, 9, 0, 3, 5], data_checked=[0, 1, 0, None, 7])
-        self.assertEqual(self.labels(chosen(some, [], Options())), ["T-2", "T-4", "T-5"])
-        self.assertEqual(self.labels(chosen(some, ["T-1", "T-5", "T-1"], Options())), ["T-1", "T-5"])
+        some = rows("open", STATE_CLOSED, STATE_RETIRED, STATE_CLOSED, STATE_CLOSED, checked=[0, 9, 0, 3, 5], data_checked=[0, 1, 0, None, 7])
+        self.assertEqual(self.labels(chosen(some, [], CheckOptions())), ["T-2", "T-4", "T-5"])
+        self.assertEqual(self.labels(chosen(some, ["T-1", "T-5", "T-1"], CheckOptions())), ["T-1", "T-5"])
         for name in ("T-3", "T-9"):
-            self.assertRaisesRegex(NotAtHand, name, chosen, some, [name], Options())
-        self.assertEqual(self.labels(chosen(some, [], Options(oldest=True))), ["T-4"])
-        self.assertEqual(self.labels(chosen(some, [], Options(oldest=True, sample=2))), ["T-4", "T-5"])
-        self.assertEqual(self.labels(chosen(some, [], Options(oldest=True, sample=2, data=True))), ["T-4", "T-2"])
+            self.assertRaisesRegex(NotAtHand, name, chosen, some, [name], CheckOptions())
+        self.assertEqual(self.labels(chosen(some, [], CheckOptions(oldest=True))), ["T-4"])
+        self.assertEqual(self.labels(chosen(some, [], CheckOptions(oldest=True, sample=2))), ["T-4", "T-5"])
+        self.assertEqual(self.labels(chosen(some, [], CheckOptions(oldest=True, sample=2, data=True))), ["T-4", "T-2"])
         for count, size in ((1, 1), (2, 2), (9, 3)):
-            found = self.labels(chosen(some, [], Options(sample=count)))
+            found = self.labels(chosen(some, [], CheckOptions(sample=count)))
             self.assertEqual((len(found), found), (size, sorted(found)))
-        self.assertEqual(Options(), (False, False, None, False))
+        self.assertEqual(CheckOptions(), (False, False, None, False))
 
     def test_those_that_are_closed(self) -> None:
-        some = rows("new", "open", "open", FULL, CLOSED, RETIRED, "open", files=[0, 0, 3, 0, 5, 1, 9], holder=["me"] * 6 + ["other"])
+        some = rows("new", "open", "open", STATE_FULL, STATE_CLOSED, STATE_RETIRED, "open", files=[0, 0, 3, 0, 5, 1, 9], holder=["me"] * 6 + ["other"])
         config, catalogue = SimpleNamespace(id="me"), SimpleNamespace(volumes=lambda: some)
         to_close: Any = closing.to_close
         self.assertEqual(self.labels(to_close(config, catalogue, [], False)), ["T-3", "T-4", "T-5"])

@@ -38,7 +38,7 @@ sys.exit(main(sys.argv[1:]))
 PATCHED = """
 import sys
 from udfburn.archive import batch, volume
-batch.FOLDER = sys.argv.pop(1)
+batch.MEMORY_FOLDER = sys.argv.pop(1)
 volume.has_room = lambda folder, wanted: True
 from udfburn.archive.cli import main
 sys.exit(main(sys.argv[1:]))
@@ -48,7 +48,7 @@ sys.exit(main(sys.argv[1:]))
 UNKNOWN = """
 import os, sys
 from udfburn.archive import batch
-batch.FOLDER = sys.argv.pop(1)
+batch.MEMORY_FOLDER = sys.argv.pop(1)
 def fail(path):
     raise OSError(5, "Input/output error")
 os.statvfs = fail

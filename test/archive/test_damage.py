@@ -15,9 +15,9 @@ from .support import PACKAGE, WithArchive, change, change_in, digests, make_tree
 
 sys.path.insert(0, PACKAGE)
 
-from udfburn.archive.job import Job, digest_of  # noqa: E402
+from udfburn.archive.job import VolumeJob, digest_of  # noqa: E402
 from udfburn.archive.scan import Walk  # noqa: E402
-from udfburn.archive.tree import Tree  # noqa: E402
+from udfburn.archive.tree import PlannedTree  # noqa: E402
 
 
 class Damage(WithArchive):
@@ -282,8 +282,8 @@ class Mapped(WithArchive):
         with open(path, "r+b") as file, mmap.mmap(file.fileno(), 0) as mapped:
             mapped[0] = 1
             (source,) = [found.files[0] for found in Walk(self.room).below(self.source, ("s",))]
-            job = Job(source, digest_of(source), in_parts=True)
-            self.assertTrue(job.plan(Tree.empty(6000, 4096), False))
+            job = VolumeJob(source, digest_of(source), in_parts=True)
+            self.assertTrue(job.plan(PlannedTree.empty(6000, 4096), False))
             mapped[0] = 2
             if os.stat(path).st_mtime_ns != source.identity.modified:
                 self.skipTest("the times are others on this file system")

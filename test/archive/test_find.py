@@ -23,7 +23,7 @@ from udfburn.archive.catalogue import Catalogue, Held, VolumeRow  # noqa: E402
 from udfburn.archive.config import read  # noqa: E402
 from udfburn.archive.errors import CatalogueError  # noqa: E402
 from udfburn.archive.names import kept_name, name_back  # noqa: E402
-from udfburn.archive.patterns import ESCAPE, glob, like, pieces, trigrams  # noqa: E402
+from udfburn.archive.patterns import LIKE_ESCAPE, glob, like, pattern_pieces, trigrams  # noqa: E402
 from udfburn.protocol import Path  # noqa: E402
 from udfburn.protocol.units import Commit, Moment, Size
 
@@ -135,7 +135,7 @@ class Ways(WithArchive):
             if turn < len(LAST):
                 pattern = LAST[turn]
             with mock.patch.object(find, "named", named):
-                found = list(find.find(catalogue, pattern))
+                found = list(find.matching_paths(catalogue, pattern))
             self.assertEqual(sorted(found), self.plainly(pattern), pattern)
             self.assertEqual(len(found), len(set(found)), pattern)
             used += any(asked)
@@ -168,8 +168,8 @@ class WaysInFile(Ways):
             volume = VolumeRow(2, "T-000002", "open", catalogue.config.id, 1000, Moment(1))
             rows = [Held(2, Commit(10 + i), (f"d{i % 3}", f"a holiday of {i // 3}"), Size(1), Moment(1), bytes(32), Moment(1)) for i in range(36_000)]
             catalogue.add(volume, rows)
-            self.assertEqual(sum(1 for _ in find.find(catalogue, "*holiday*")), 36_000)
-            self.assertEqual(list(find.find(catalogue, "*day of 777")), [("d0", "a holiday of 777"), ("d1", "a holiday of 777"), ("d2", "a holiday of 777")])
+            self.assertEqual(sum(1 for _ in find.matching_paths(catalogue, "*holiday*")), 36_000)
+            self.assertEqual(list(find.matching_paths(catalogue, "*day of 777")), [("d0", "a holiday of 777"), ("d1", "a holiday of 777"), ("d2", "a holiday of 777")])
 
     def test_writers_are_killed(self) -> None:
         commits = {2: 10, 3: 10, 4: 10}
@@ -192,10 +192,10 @@ class WaysInFile(Ways):
                     known = [held.commit for held in catalogue.of_volume(number)]
                     self.assertGreaterEqual(len(known), int(lines[-1]) - 10 if lines else 0)
                     commits[number] = max(known, default=9) + 1
-                    found = [path for path in find.find(catalogue, f"*me {number} of*")]
+                    found = [path for path in find.matching_paths(catalogue, f"*me {number} of*")]
                     self.assertEqual(len(found), len(known))
                     for commit in known[-1:]:
-                        self.assertEqual(len(list(find.find(catalogue, f"*{number} of {commit} it*"))), 1)
+                        self.assertEqual(len(list(find.matching_paths(catalogue, f"*{number} of {commit} it*"))), 1)
 
 
 class WaysOnServer(WaysInFile):
@@ -238,10 +238,10 @@ class Damages(Ways):
             for _ in range(10):
                 self.keep(catalogue, 2, 140)
             self.damage(catalogue)
-            self.assertNotEqual(sorted(find.find(catalogue, "*day*")), self.plainly("*day*"))
+            self.assertNotEqual(sorted(find.matching_paths(catalogue, "*day*")), self.plainly("*day*"))
         self.do("rebuild", "--dry-run")
         with Catalogue(read(self.archive)) as catalogue:
-            self.assertNotEqual(sorted(find.find(catalogue, "*day*")), self.plainly("*day*"))
+            self.assertNotEqual(sorted(find.matching_paths(catalogue, "*day*")), self.plainly("*day*"))
         self.do("rebuild")
         with Catalogue(read(self.archive)) as catalogue:
             self.require_same(catalogue, PATTERNS)
@@ -276,7 +276,7 @@ class Reading(unittest.TestCase):
             "*abc*": "*|abc|*", "a?b": "a|?|b", "x[ab]y": "x|?|y", "x[]]y": "x|?|y", "x[!]]y": "x|?|y", "x[!a]y": "x|?|y", "x[y": "x[y", "x[!y": "x[!y",
             "x[]y": "x[]y", "x[!]y": "x[!]y", "]x": "]x", "x[[]y": "x|?|y", "x[*]y*": "x|?|y|*", "": "", "[": "[", "[!": "[!", "[]": "[]", "a[b*c": "a[b|*|c",
         }.items():
-            self.assertEqual("|".join(piece.text for piece in pieces(pattern)), wanted, pattern)
+            self.assertEqual("|".join(piece.text for piece in pattern_pieces(pattern)), wanted, pattern)
 
     def test_what_engines_are_asked(self) -> None:
         """LIKE and GLOB as SQLite has them let through what `fnmatch` does."""
@@ -289,7 +289,7 @@ class Reading(unittest.TestCase):
             pattern = kept_name(some_pattern(chance, some_name(chance) if chance.random() < 0.2 else name_back(name)))
             if fnmatchcase(name, pattern):
                 matched += 1
-                asked = (name, like(pattern), ESCAPE, name, glob(pattern))
+                asked = (name, like(pattern), LIKE_ESCAPE, name, glob(pattern))
                 self.assertEqual(engine.execute("SELECT ? LIKE ? ESCAPE ?, ? GLOB ?", asked).fetchone(), (1, 1), pattern)
         self.assertGreater(matched, 4000)
 

@@ -15,7 +15,7 @@ from .support import UDFBURN, WithArchive, write
 from tests.swaps import Swap, Turned, picture  # noqa: E402
 
 from udfburn.archive.cli import main  # noqa: E402
-from udfburn.archive.job import digest_of, parts_from  # noqa: E402
+from udfburn.archive.job import digest_of, mebibytes_from  # noqa: E402
 from udfburn.archive.scan import Walk  # noqa: E402
 from udfburn.base.errors import SourceError  # noqa: E402
 from udfburn.local.sources import delete  # noqa: E402
@@ -47,7 +47,7 @@ class Races(WithArchive):
                 for source in found.files:
                     with suppress(SourceError):
                         digest_of(source)
-                        read += parts_from(source, 0)
+                        read += mebibytes_from(source, 0)
                         delete(source)
         return read
 

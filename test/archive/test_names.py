@@ -15,7 +15,7 @@ sys.path.insert(0, PACKAGE)
 
 from udfburn.archive.cli import function, parser  # noqa: E402
 from udfburn.archive.errors import CannotStore  # noqa: E402
-from udfburn.archive.names import DEPTH, kept_name, name_back, part_name, read_back, spelled, stored_folder  # noqa: E402
+from udfburn.archive.names import STORED_DEPTH, kept_name, name_back, read_back, spelled, stored_folder, stored_part_name  # noqa: E402
 from udfburn.protocol.names import name_fault  # noqa: E402
 
 LETTERS = "ab=%.~ \\\n\r\té中\U0001f4f7\udcff\udc80\ufeff\x01/"
@@ -74,15 +74,15 @@ class Names(unittest.TestCase):
         for depth in range(1, 120):
             path = tuple(f"n{index}" for index in range(depth))
             stored = stored_folder(path)
-            self.assertLessEqual(len(stored), DEPTH)
+            self.assertLessEqual(len(stored), STORED_DEPTH)
             self.assertEqual(undone(("data", *stored)), "/".join(path).encode())
 
     def test_spread_versions_and_parts(self) -> None:
         found = read_back(("data", "=v3", "a", "=s2", "b", "=s1", "c"))
         self.assertEqual(found, (("a", "b", "c"), 3, None))
         start = 1234 << 20
-        self.assertEqual(part_name(start), "=000001293942784")
-        self.assertEqual(read_back(("data", "a", "big", part_name(start))), (("a", "big"), 1, start))
+        self.assertEqual(stored_part_name(start), "=000001293942784")
+        self.assertEqual(read_back(("data", "a", "big", stored_part_name(start))), (("a", "big"), 1, start))
         # As archives before have them.
         self.assertEqual(read_back(("data", "a", "big", "=p2", "00001234")), (("a", "big"), 1, start))
         self.assertEqual(read_back(("data", "a", "big", "=file.txt")), (("a", "big"), 1, -1))

@@ -24,7 +24,7 @@ from .support import PACKAGE, PATIENCE, WithArchive, digests, environment, wait_
 sys.path.insert(0, PACKAGE)
 
 from udfburn.archive.catalogue import Catalogue, VolumeRow  # noqa: E402
-from udfburn.archive.check import Checker, Options  # noqa: E402
+from udfburn.archive.check import CheckOptions, Checker  # noqa: E402
 from udfburn.archive.claims import FileClaims, claims_of  # noqa: E402
 from udfburn.archive.cli import main  # noqa: E402
 from udfburn.archive.config import Config, read  # noqa: E402
@@ -251,7 +251,7 @@ class AtOnce(WithOlder):
         self.add()
         config = read(self.archive)
         with Catalogue(config) as catalogue:
-            checker = Checker(config, catalogue, Tell(True, False), Options(data=True))
+            checker = Checker(config, catalogue, Tell(True, False), CheckOptions(data=True))
             found = checker._trouble
 
             def slowly(row: VolumeRow, image: str) -> Optional[str]:

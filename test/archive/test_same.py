@@ -192,7 +192,7 @@ class Alike(WithMoved):
 import sys
 from udfburn.archive import job
 from udfburn.base.errors import SourceError
-real = job.Job.operations
+real = job.VolumeJob.operations
 failed = []
 def operations(self):
     if not failed:
@@ -200,7 +200,7 @@ def operations(self):
         self.fail("a disk that fails")
         return
     yield from real(self)
-job.Job.operations = operations
+job.VolumeJob.operations = operations
 from udfburn.archive.cli import main
 sys.exit(main(sys.argv[1:]))
 """

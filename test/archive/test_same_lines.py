@@ -21,7 +21,7 @@ sys.path.insert(0, PACKAGE)
 from udfburn.archive.catalogue import Held  # noqa: E402
 from udfburn.archive.contents import Contents  # noqa: E402
 from udfburn.archive.errors import VolumeDiffers  # noqa: E402
-from udfburn.archive.same import MOST, entry, read_text, rows_on, texts  # noqa: E402
+from udfburn.archive.same import SAME_TEXTS_BYTES, entry, read_same, rows_on, same_texts  # noqa: E402
 from udfburn.protocol.units import Commit, Moment, Size  # noqa: E402
 
 
@@ -45,7 +45,7 @@ class Strange(Forged, WithMoved):
         given.append(self.line()[: self.line().index(b"  the")])
         for text in given:
             with self.assertRaises(VolumeDiffers, msg=text):
-                list(read_text(text, "x", "T"))
+                list(read_same(text, "x", "T"))
         self.require_left_out([self.forge("x0.img", "T-000002", self.about(), {"same/1.txt": self.line(path="/../../x")})])
 
     def test_lines_that_lie(self) -> None:
@@ -72,10 +72,10 @@ class Strange(Forged, WithMoved):
     def test_too_many(self) -> None:
         files = {f"same/{index}.txt": bytes(1 << 20) for index in range(3)}
         image = self.forge("x0.img", "T-000002", self.about(), files)
-        with mock.patch("udfburn.archive.same.MOST", 3 << 19), closing(Contents(image)) as contents:
+        with mock.patch("udfburn.archive.same.SAME_TEXTS_BYTES", 3 << 19), closing(Contents(image)) as contents:
             with self.assertRaises(VolumeDiffers):
                 rows_on(contents, 2)
-        self.assertEqual(MOST, 1 << 26)
+        self.assertEqual(SAME_TEXTS_BYTES, 1 << 26)
 
 
 # The tests of other forged volumes are run where they are.
@@ -95,8 +95,8 @@ class Texts(unittest.TestCase):
         ]
         entries = [entry([row], "T, commit", [index % 3 + 1]) for index, row in enumerate(rows)] + [entry(parts, "T, commit", [1, 2])]
         found: List[List[Held]] = []
-        for data, some in texts(entries):
-            found += [[row._replace(noted=noted) for row in each] for each in read_text(data, "x", "T, commit")]
+        for data, some in same_texts(entries):
+            found += [[row._replace(noted=noted) for row in each] for each in read_same(data, "x", "T, commit")]
             self.assertEqual(len(found), len(some))
         self.assertEqual(found, [[row] for row in rows] + [parts])
 

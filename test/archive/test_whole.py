@@ -21,8 +21,8 @@ from udfburn import Client  # noqa: E402
 from udfburn.archive import cli, fill, volume  # noqa: E402
 from udfburn.archive.config import read  # noqa: E402
 from udfburn.archive.tell import Tell  # noqa: E402
-from udfburn.archive.tree import Tree  # noqa: E402
-from udfburn.archive.view import ArchiveFile, ArchiveView, State  # noqa: E402
+from udfburn.archive.tree import PlannedTree  # noqa: E402
+from udfburn.archive.view import ArchiveFile, ArchiveView, FolderState  # noqa: E402
 from udfburn.wire.operations import Operation  # noqa: E402
 from udfburn.protocol import Append, Code, Create, MakeDir, Path, Rename, limits  # noqa: E402
 from udfburn.protocol.units import Moment
@@ -85,7 +85,7 @@ class Whole(WithArchive):
         self.require_agreed()
         with closing(ArchiveView(read(self.archive), Tell(True, False))) as view:
             for path, (digest, _) in digests(self.source).items():
-                found = State(view, None, ("s",))
+                found = FolderState(view, None, ("s",))
                 for name in path.split(b"/"):
                     found = found.find(name)  # type: ignore[assignment]
                 assert isinstance(found, ArchiveFile)
@@ -254,7 +254,7 @@ class Cut(Whole):
     def test_close_has_no_room_to_take_it_off(self) -> None:
         """It stays, and no bag has it."""
         self.cut(1)
-        with mock.patch.object(Tree, "has_room_to_remove", return_value=False):
+        with mock.patch.object(PlannedTree, "has_room_to_remove", return_value=False):
             status, output = self.run_here("close", "T-000001")
         self.assertEqual(status, 0, output)
         image = self.path("archive", "closed", "T-000001.img")

@@ -9,10 +9,7 @@ import ast
 import unittest
 from typing import Dict, Iterator, List, NamedTuple, Set
 
-from .test_imports import modules, room_of
-
-UNTIL_RENAMED = {"archive"}
-"""Rooms that are not looked at yet."""
+from .test_imports import modules
 
 
 class Shared(NamedTuple):
@@ -71,18 +68,18 @@ def shared() -> Dict[str, List[str]]:
     of: Dict[str, Set[str]] = {}
     for entry in SHARED:
         for module in entry.modules.split():
-            if module.partition(".")[0] not in UNTIL_RENAMED:
-                of.setdefault(f"udfburn.{module}", set()).update(entry.names.split())
+            of.setdefault(f"udfburn.{module}", set()).update(entry.names.split())
     return in_several(of)
 
 
 class PublicNames(unittest.TestCase):
+    maxDiff = None
+
     def test_each_stands_in_one_module(self) -> None:
         of: Dict[str, Set[str]] = {}
         for name, path in modules().items():
-            if room_of(name) not in UNTIL_RENAMED:
-                with open(path, encoding="utf-8") as file:
-                    of[name] = public_names(file.read())
+            with open(path, encoding="utf-8") as file:
+                of[name] = public_names(file.read())
         self.assertGreater(sum(map(len, of.values())), 1000)
         self.assertEqual(in_several(of), shared())
 

@@ -17,22 +17,22 @@ from .claims import claims_of
 from .config import Config, volume_label
 from .contents import GONE, Contents
 from .delete import Deleter
-from .deletions import MOST, insert, last_since, texts
+from .deletions import DELETION_TEXTS_BYTES, deletion_texts, insert_events, last_since
 from .departed import Departed
 from .errors import CannotStore, VolumeDiffers
 from .exclude import Rules
 from .fill import Filler
 from .fresh import Fresh
-from .job import Job, find_file, same_parts
+from .job import VolumeJob, file_of_row, has_same_parts
 from .names import kept_name, stored_folder
 from .open_copies import OpenCopies
-from .repeats import Line, Repeats
-from .scan import Found, Walk
+from .repeats import LineToWrite, Repeats
+from .scan import ScannedFolder, Walk
 from .seen import Seen
 from .tell import Tell, plural, printed_path, shown_path, stamp
 
 
-class Options(NamedTuple):
+class AddOptions(NamedTuple):
     """How trees are stored."""
 
     delete_source: bool = False
@@ -50,7 +50,7 @@ class Options(NamedTuple):
     """Whether files are stored also if the archive has their bytes."""
 
 
-class Summary:
+class AddSummary:
     """What a run did."""
 
     def __init__(self) -> None:
@@ -70,15 +70,15 @@ def run_text(wanted: Iterable[Tuple[str, Path]]) -> str:
 class Adder:
     """A run of `add`."""
 
-    def __init__(self, config: Config, catalogue: Catalogue, options: Options, tell: Tell):
+    def __init__(self, config: Config, catalogue: Catalogue, options: AddOptions, tell: Tell):
         self.config, self.catalogue, self.options, self.tell = config, catalogue, options, tell
-        self.summary = Summary()
+        self.summary = AddSummary()
         self.deleter = Deleter(config, catalogue)
         self.departed = Departed(catalogue, options.rules)
         self.fresh = Fresh(catalogue, self.deleter.places, Seen(config) if options.trust_times else None, options.again)
         self.repeats = Repeats(config, catalogue, self._noted, options.again, options.trust_times)
 
-    def run(self, wanted: Sequence[Tuple[str, Path]]) -> Summary:
+    def run(self, wanted: Sequence[Tuple[str, Path]]) -> AddSummary:
         """Stores local files and folders."""
         claims = claims_of(self.catalogue.base, self.config.path("locks"), self.config.catalogue)
         with closing(claims):
@@ -133,13 +133,13 @@ class Adder:
     def _record(self, filler: Filler) -> None:
         """Writes what was deleted at its source, and what is there again, onto a volume, and into the catalogue."""
         self.summary.failures += self.departed.failures
-        for data, events in texts(self.departed.events):
-            volume, commit = filler.write_text(GONE, data, MOST)
+        for data, events in deletion_texts(self.departed.events):
+            volume, commit = filler.write_text(GONE, data, DELETION_TEXTS_BYTES)
             filler.claims.require()
             kept = [event._replace(volume=volume.row.number, commit=commit, since=volume.began) for event in events]
             volume.row = volume.filled(commit, volume.row.files)
             with self.catalogue.base.transaction():
-                insert(self.catalogue, kept)
+                insert_events(self.catalogue, kept)
                 self.catalogue.save(volume.row)
             for event in kept:
                 self.summary.gone += not event.back
@@ -149,7 +149,7 @@ class Adder:
 
     # ---- what became of files
 
-    def _kept(self, jobs: List[Job], count: int) -> None:
+    def _kept(self, jobs: List[VolumeJob], count: int) -> None:
         """The catalogue has all of files."""
         self.summary.files += len(jobs)
         self.summary.bytes += count
@@ -159,11 +159,11 @@ class Adder:
         if self.options.delete_source:
             self.deleter.stored(jobs)
 
-    def _failed(self, job: Job, why: str) -> None:
+    def _failed(self, job: VolumeJob, why: str) -> None:
         self.repeats.failed(job)
         self.summary.failures.append(why)
 
-    def _noted(self, lines: List[Line], commit: Commit, label: str) -> None:
+    def _noted(self, lines: List[LineToWrite], commit: Commit, label: str) -> None:
         """The catalogue has the lines of files."""
         self.summary.same_as += len(lines)
         for line in lines:
@@ -174,9 +174,9 @@ class Adder:
 
     # ---- what is there
 
-    def _fresh_jobs(self, found: Found, filler: Filler) -> List[Job]:
+    def _fresh_jobs(self, found: ScannedFolder, filler: Filler) -> List[VolumeJob]:
         """The files of a folder that the archive does not have."""
-        fresh: List[Job] = []
+        fresh: List[VolumeJob] = []
         try:
             stored_folder(found.folder)
             known = self.catalogue.in_folder(found.folder)
@@ -196,7 +196,7 @@ class Adder:
                 self.repeats.write(filler)
         return fresh
 
-    def _fresh(self, source: Source, rows: List[Held], filler: Filler) -> Optional[Job]:
+    def _fresh(self, source: Source, rows: List[Held], filler: Filler) -> Optional[VolumeJob]:
         """What is to be stored of a file; None where the archive has it, by its size, its moment and its digest."""
         job, same = self.fresh.compared(source, rows)
         if not same or not is_whole(same):
@@ -208,25 +208,25 @@ class Adder:
             self.deleter.same(source, same)
         return None
 
-    def _go_on(self, job: Job, rows: List[Held], filler: Filler) -> Job:
+    def _go_on(self, job: VolumeJob, rows: List[Held], filler: Filler) -> VolumeJob:
         """Goes on with a file of which an earlier run stored the first parts, as far as volumes at hand show them."""
         for row in sorted((row for row in rows if row.noted is None), key=lambda row: row.first or 0):
             volume = self.catalogue.volume(row.volume)
             if row.first != job.first or volume is None or not self._continue(job, row, volume):
                 break
             if row.volume not in [other.row.number for other in filler.open]:
-                job = Job(job.source, job.digest, job.first, True)
+                job = VolumeJob(job.source, job.digest, job.first, True)
         return job
 
-    def _continue(self, job: Job, row: Held, volume: VolumeRow) -> bool:
+    def _continue(self, job: VolumeJob, row: Held, volume: VolumeRow) -> bool:
         """Has a job go on after the parts of a row, where the volume has them as the source has."""
         image = image_of(self.config, volume)
         if image is None:
             return False
         try:
             with closing(Contents(image)) as contents:
-                file = find_file(contents, row)
-                if file is None or file.parts != row.parts or not same_parts(job.source, contents, file):
+                file = file_of_row(contents, row)
+                if file is None or file.parts != row.parts or not has_same_parts(job.source, contents, file):
                     return False
         except VolumeDiffers:
             return False

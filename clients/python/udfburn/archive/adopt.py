@@ -12,7 +12,7 @@ from ..local.sources import shown
 from ..wire.operations import now
 from . import same_rows
 from .batch import sound_length
-from .catalogue import CLOSED, FULL, NEW, OPEN, Catalogue, VolumeRow
+from .catalogue import STATE_CLOSED, STATE_FULL, STATE_NEW, STATE_OPEN, Catalogue, VolumeRow
 from .claims import Claims
 from .close import beside, own_sidecars
 from .config import Config
@@ -41,7 +41,7 @@ def candidates(config: Config, catalogue: Catalogue, row: VolumeRow, given: Opti
 
 def require_whole(config: Config, catalogue: Catalogue, row: VolumeRow, image: str) -> None:
     """Raises where an image is not the volume, is damaged, or lacks files that the catalogue has."""
-    if row.state != CLOSED and is_damaged(image):
+    if row.state != STATE_CLOSED and is_damaged(image):
         raise VolumeDiffers(f"{shown(image)}: is damaged: 'udfburn check' says where, and {LOST}")
     volume = OpenVolume(config, catalogue, row)
     volume.image = image
@@ -53,24 +53,24 @@ def require_whole(config: Config, catalogue: Catalogue, row: VolumeRow, image: s
         lacking += [held for held in same_rows.of_volume(catalogue.base, row.number) if held.key() not in lines]
     if lacking:
         raise VolumeDiffers(f"{shown(image)}: lacks {plural(len(lacking), 'file', 'files')} that the catalogue has of {row.label}: it is an older copy")
-    if row.state == CLOSED and print_of_file(image) != Print(row.length or 0, row.sha256 or b""):
+    if row.state == STATE_CLOSED and print_of_file(image) != Print(row.length or 0, row.sha256 or b""):
         raise VolumeDiffers(f"{shown(image)}: is not {row.label} as it was closed: its length or SHA-256 differs")
 
 
-def adopt(config: Config, catalogue: Catalogue, claims: Claims, row: VolumeRow, given: Optional[str], tell: Tell, failures: List[str]) -> VolumeRow:
+def take_over(config: Config, catalogue: Catalogue, claims: Claims, row: VolumeRow, given: Optional[str], tell: Tell, failures: List[str]) -> VolumeRow:
     """Takes a volume over. The image is copied; a new ledger, with a client of its own, goes on with it. Where no image of an open volume is
     found its newest copy is taken, and `failures` gets what that lacks."""
     claims.volume(row.number, row.label)
     row = catalogue.volume(row.number) or row
-    target = config.path("closed" if row.state == CLOSED else "open", row.label + ".img")
+    target = config.path("closed" if row.state == STATE_CLOSED else "open", row.label + ".img")
     recover(target)
     image = next((path for path in candidates(config, catalogue, row, given) if os.path.isfile(path)), None)
-    if image is None and row.state == NEW:
+    if image is None and row.state == STATE_NEW:
         # Nothing was stored on it: this folder makes it.
         row = row._replace(holder=config.id)
         catalogue.save(row)
         return row
-    if image is None and given is None and row.state != CLOSED and config.copies:
+    if image is None and given is None and row.state != STATE_CLOSED and config.copies:
         return from_copies(config, catalogue, claims, row, target, tell, failures)
     if image is None:
         raise NotAtHand(f"{row.label}: its image was not found: name it on the command line")
@@ -85,7 +85,7 @@ def taken(config: Config, catalogue: Catalogue, row: VolumeRow, image: str, targ
         return go_on(config, catalogue, row)
     try:
         with undone(target):
-            copy_to(config, image, target, row.state == CLOSED)
+            copy_to(config, image, target, row.state == STATE_CLOSED)
             return go_on(config, catalogue, row)
     except VolumeDiffers as error:
         raise VolumeDiffers(f"{shown(image)}: was not taken over, and all is as before: {error}") from error
@@ -109,25 +109,25 @@ def from_copies(
 
 def go_on(config: Config, catalogue: Catalogue, row: VolumeRow) -> VolumeRow:
     """Has the catalogue say that this folder has a volume. An open one is taken up before."""
-    if row.state in (NEW, OPEN):
+    if row.state in (STATE_NEW, STATE_OPEN):
         volume = OpenVolume(config, catalogue, row)
         with closing(volume):
             volume.take_up()
             row = volume.row
             if len(volume.tree.space.clients) > CLIENTS_MOST or volume.is_full():
-                row = row._replace(state=FULL)
+                row = row._replace(state=STATE_FULL)
     catalogue.save(row)
     return row
 
 
-def files_of(target: str) -> Tuple[List[str], List[str]]:
+def adopted_files(target: str) -> Tuple[List[str], List[str]]:
     """The files of an image's place that are copied before an adoption, and those that are moved, the image last."""
     return [beside(target, end) for end in LEDGER], [beside(target, ".tail"), target]
 
 
 def recover(target: str) -> None:
     """Goes on after an adoption that was killed. What it had moved comes back; where the adopted image is in place both images are kept."""
-    copied, moved = files_of(target)
+    copied, moved = adopted_files(target)
     is_there, both = os.path.lexists(target), os.path.lexists(target) and os.path.lexists(target + BEFORE)
     end = f"{BEFORE}-{now()}"
     for path in copied + moved:
@@ -144,7 +144,7 @@ def recover(target: str) -> None:
 @contextmanager
 def undone(target: str) -> Iterator[None]:
     """Has an image's place, and the ledger beside it, as they were, where what is done in it fails."""
-    copied, moved = files_of(target)
+    copied, moved = adopted_files(target)
     there = [path for path in copied + moved if os.path.lexists(path)]
     for path in (path for path in copied if path in there):
         copied_to(path, path + BEFORE)

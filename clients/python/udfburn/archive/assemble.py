@@ -21,7 +21,7 @@ from .contents import Contents
 from .errors import VolumeDiffers
 from .remotes import Print, print_of_file
 
-PIECE = 512 * limits.BLOCK
+COMPARED_BYTES = 512 * limits.BLOCK
 """Bytes that are compared at once."""
 
 TRIALS = 64
@@ -30,11 +30,11 @@ TRIALS = 64
 LOOKS = 400
 """Times that the files are compared, at most."""
 
-FILE_TRIALS, FILE_BYTES = 1 << 14, 1 << 35
+FILE_TRIALS, BYTES_TRIED = 1 << 14, 1 << 35
 """Choices that are tried for one file that is damaged in several places, at most, and the bytes that are read for it."""
 
 
-class Run:
+class DifferingRun:
     """Blocks in a row on which images differ, and what each of them has there, the likeliest first."""
 
     def __init__(self, at: int, variants: List[bytes], decided: bool):
@@ -75,11 +75,11 @@ def likeliest(found: Sequence[bytes]) -> "tuple[List[bytes], bool]":
     return ordered, len(ordered) == 1 or first > 1 and all(counts[other] < first for other in ordered[1:])
 
 
-def compared(descriptors: Sequence[int], length: int, target: int) -> Optional[List[Run]]:
+def compared(descriptors: Sequence[int], length: int, target: int) -> Optional[List[DifferingRun]]:
     """Writes an image of the likeliest blocks; gives the runs on which the images differ, or None where no image has a block."""
-    runs: List[Run] = []
-    for at in range(0, length, PIECE):
-        count = min(PIECE, length - at)
+    runs: List[DifferingRun] = []
+    for at in range(0, length, COMPARED_BYTES):
+        count = min(COMPARED_BYTES, length - at)
         pieces = [blocks_at(descriptor, count, at) for descriptor in descriptors]
         likely: List[bytes] = []
         for index, found in enumerate(zip(*pieces)):
@@ -96,12 +96,12 @@ def compared(descriptors: Sequence[int], length: int, target: int) -> Optional[L
                     # Neighbours are damaged together: the images keep their order by the bytes that came before.
                     last.variants = [one + two for one, two in zip(last.variants, matched(last, found, ordered, place, descriptors))]
                 else:
-                    runs.append(Run(place, ordered, decided))
+                    runs.append(DifferingRun(place, ordered, decided))
         write_at(target, b"".join(likely), at)
     return runs
 
 
-def matched(run: Run, found: Sequence[Optional[bytes]], ordered: List[bytes], place: int, descriptors: Sequence[int]) -> List[bytes]:
+def matched(run: DifferingRun, found: Sequence[Optional[bytes]], ordered: List[bytes], place: int, descriptors: Sequence[int]) -> List[bytes]:
     """The variants of a block in the order of those of the run before it, by the images that have them."""
     chosen: List[bytes] = []
     for variant in run.variants:
@@ -144,10 +144,10 @@ def assembled(images: Sequence[str], wanted: Print, target: str) -> bool:
     return print_of_file(target, fresh=True) == wanted
 
 
-def decided(target: str, new: int, runs: List[Run], wanted: Print) -> bool:
+def decided(target: str, new: int, runs: List[DifferingRun], wanted: Print) -> bool:
     """Chooses what each run has by the digests of the files; what no digest tells apart is tried."""
     least, looks = badness(target), 1
-    left: List[Run] = []
+    left: List[DifferingRun] = []
     for run in runs:
         best, told = run.variants[0], False
         for variant in run.variants[1:]:
@@ -173,13 +173,13 @@ def decided(target: str, new: int, runs: List[Run], wanted: Print) -> bool:
     return print_of_file(target) == wanted
 
 
-class Bytes(NamedTuple):
+class FileOnImage(NamedTuple):
     """A file of the image: its SHA-256, and where its bytes are, each piece with its place and its length in bytes."""
 
     sha256: bytes
     pieces: List[Tuple[int, int]]
 
-    def has(self, run: Run) -> bool:
+    def has(self, run: DifferingRun) -> bool:
         """Whether a run is in it."""
         return any(run.at < at + length and at < run.at + len(run.variants[0]) for at, length in self.pieces)
 
@@ -191,34 +191,34 @@ class Bytes(NamedTuple):
         return whole.digest() == self.sha256
 
 
-def files_of(path: str) -> List[Bytes]:
+def listed_files(path: str) -> List[FileOnImage]:
     """The files that a manifest of the image lists, as far as it can be read."""
     try:
         with Contents(path) as contents:
             nodes = [(contents.nodes.get(name), digest) for name, digest in contents.manifest().items()]
             return [
-                Bytes(digest, [(address_of(extent.first) * limits.BLOCK, extent.size) for extent in node.extents])
+                FileOnImage(digest, [(address_of(extent.first) * limits.BLOCK, extent.size) for extent in node.extents])
                 for node, digest in nodes if node is not None
             ]
     except VolumeDiffers:
         return []
 
 
-def without_those_of_files(target: str, new: int, runs: List[Run]) -> List[Run]:
+def without_those_of_files(target: str, new: int, runs: List[DifferingRun]) -> List[DifferingRun]:
     """Chooses what runs have that are in one file: a single one of them does not make it right. Gives the others."""
-    for file in files_of(target):
+    for file in listed_files(target):
         own = [run for run in runs if file.has(run)]
         if own and settled(new, file, own):
             runs = [run for run in runs if run not in own]
     return runs
 
 
-def settled(new: int, file: Bytes, runs: List[Run]) -> bool:
+def settled(new: int, file: FileOnImage, runs: List[DifferingRun]) -> bool:
     """Tries what each run of a file may have, the likeliest first. Whether the file has its digest then."""
     choices = 1
     for run in runs:
         choices *= len(run.variants)
-    if choices > FILE_TRIALS or choices * sum(length for _, length in file.pieces) > FILE_BYTES:
+    if choices > FILE_TRIALS or choices * sum(length for _, length in file.pieces) > BYTES_TRIED:
         return False
     for chosen in sorted(product(*[range(len(run.variants)) for run in runs]), key=sum):
         for run, index in zip(runs, chosen):

@@ -12,7 +12,7 @@ from ..base.durable import sync_folder
 from ..local.sources import shown
 from .config import without_password
 from .errors import CatalogueError, CatalogueLost
-from .patterns import ESCAPE, glob, like, match, trigrams
+from .patterns import LIKE_ESCAPE, glob, like, match, trigrams
 
 Row = Tuple[Any, ...]
 
@@ -70,7 +70,7 @@ class Base:
 
     def matching(self, pattern: str) -> Range:
         """Rows of names that have all those that a pattern matches. In PostgreSQL the server finds them by its index of trigrams."""
-        return Range("name", f"name LIKE ? ESCAPE '{ESCAPE}'", (like(pattern),))
+        return Range("name", f"name LIKE ? ESCAPE '{LIKE_ESCAPE}'", (like(pattern),))
 
     def has_whole_index(self) -> bool:
         """Whether the index of text inside names can be used. What it has not is not asked: `remake_index` sees to that."""
@@ -249,7 +249,7 @@ class PostgresBase(Base):
         self._base.close()
 
 
-PATIENCE: Dict[str, Any] = {
+CONNECTION_DEFAULTS: Dict[str, Any] = {
     "target_session_attrs": "read-write", "connect_timeout": 10, "keepalives": 1, "keepalives_idle": 10, "keepalives_interval": 5, "keepalives_count": 4,
     "tcp_user_timeout": 30_000,
 }
@@ -262,7 +262,7 @@ def connect(url: str) -> Any:
         import psycopg
     except ImportError as error:
         raise CatalogueError("a catalogue on PostgreSQL needs the driver psycopg 3 (Debian: python3-psycopg)") from error
-    words = {name: value for name, value in PATIENCE.items() if f"{name}=" not in url}
+    words = {name: value for name, value in CONNECTION_DEFAULTS.items() if f"{name}=" not in url}
     try:
         connection = psycopg.connect(url, application_name="udfburn-archive", **words)
         # Whatever the server's default is: a claim is on a row that may have come after its transaction began.

@@ -27,7 +27,7 @@ from ..local.sources import shown
 from ..protocol import limits
 from .errors import ArchiveError, VolumeDiffers
 
-FOLDER = "/dev/shm"
+MEMORY_FOLDER = "/dev/shm"
 """The file system in memory that Linux has."""
 
 LEAST_FILES = 8
@@ -36,7 +36,7 @@ LEAST_FILES = 8
 MOST_BYTES = 1 << 28
 """Bytes of an image, with what is added, of which a copy is made, at most."""
 
-LARGE = 1 << 17
+LARGE_FILE = 1 << 17
 """Bytes a file, on average, above which the disk's time is that of its bytes, and batches gain little."""
 
 
@@ -102,7 +102,7 @@ def locked(image: str) -> int:
 @lru_cache(None)
 def memory_folder() -> Optional[str]:
     """A folder of this process's in memory, which goes with it; None where there is none. Those that killed processes left go now."""
-    above = os.path.join(FOLDER, f"udfburn-archive-{os.geteuid()}")
+    above = os.path.join(MEMORY_FOLDER, f"udfburn-archive-{os.geteuid()}")
     try:
         with suppress(FileExistsError):
             os.mkdir(above, 0o700)
@@ -133,7 +133,7 @@ def has_room(folder: str, wanted: int) -> bool:
 
 def is_worth(files: int, size: int, length: int) -> bool:
     """Whether so many files with so many bytes are worth a copy of an image of this length."""
-    return files >= LEAST_FILES and size <= files * LARGE and length <= MOST_BYTES
+    return files >= LEAST_FILES and size <= files * LARGE_FILE and length <= MOST_BYTES
 
 
 class Batch:

@@ -17,16 +17,16 @@ from .catalogue import Catalogue, Held, VolumeRow, image_of
 from .close import beside, read_payload
 from .config import Config
 from .contents import ABOUT, Contents
-from .deletions import Event, events_on, replace
+from .deletions import Event, events_on, replace_events
 from .errors import LOST, ArchiveError, CopyFailed, NotAtHand
-from .open_copies import Image, OpenCopies, opened
+from .open_copies import Image, OpenCopies, opened_image
 from .remotes import remote_of
 from .same import count_of, rows_on
 from .tell import Tell, plural, shown_path
 from .volume import LEDGER, look
 
 
-class Found(NamedTuple):
+class FetchedCopy(NamedTuple):
     """A copy that was fetched: where it is, from which remote, its last commit, and the rows of its files."""
 
     path: str
@@ -75,9 +75,9 @@ class BringBack:
         line = f"repaired the image of {row.label} from {best.remote}"
         self.tell.say_step(line, did="repaired", volume=row.label, what="the image", source=best.remote)
 
-    def newest(self, row: VolumeRow, folder: str) -> Found:
+    def newest(self, row: VolumeRow, folder: str) -> FetchedCopy:
         """The copy with most commits of those that are sound, in a folder; `NotAtHand` where there is none."""
-        best: Optional[Found] = None
+        best: Optional[FetchedCopy] = None
         why: Dict[str, str] = {}
         for index, name in enumerate(self.config.copies):
             self.tell.working(f"fetching {row.label} from {name}")
@@ -99,7 +99,7 @@ class BringBack:
             raise NotAtHand(f"its image is lost or damaged, and no copy is good ({told or 'none is known'}): bring the right image back. {LOST}")
         return best
 
-    def _read(self, row: VolumeRow, path: str, name: str) -> Found:
+    def _read(self, row: VolumeRow, path: str, name: str) -> FetchedCopy:
         """Reads all of a copy. `CopyFailed` where it is another volume, or a file of it is not as it was stored."""
         with closing(Contents(path)) as contents:
             if (contents.label, contents.formatted, contents.capacity) != (row.label, row.formatted, row.capacity):
@@ -111,9 +111,9 @@ class BringBack:
             if damaged:
                 raise CopyFailed(f"{plural(len(damaged), 'file is', 'files are')} not as stored, the first is {shown_path(damaged[0].path)}")
             rows = contents.rows(row.number, {held.commit: held for held in known})
-            return Found(path, name, contents.last_commit, rows, events_on(contents, row.number), rows_on(contents, row.number))
+            return FetchedCopy(path, name, contents.last_commit, rows, events_on(contents, row.number), rows_on(contents, row.number))
 
-    def forget(self, row: VolumeRow, best: Found) -> None:
+    def forget(self, row: VolumeRow, best: FetchedCopy) -> None:
         """Has the catalogue say what the copy has, and names each file that it lacks before that."""
         there = {held.key() for held in best.rows + best.lines}
         lost = [held for held in self.catalogue.of_volume(row.number) if held.key() not in there]
@@ -125,14 +125,14 @@ class BringBack:
         if lost or lines:
             count = plural(len(lost) + count_of(lines), "file", "files")
             self.failures.append(f"{row.label}: the newest copy, on {best.remote}, lacks {count} that the catalogue had")
-        replace(self.catalogue, row.number, best.events)
-        same_rows.replace(self.catalogue, row.number, best.lines)
+        replace_events(self.catalogue, row.number, best.events)
+        same_rows.replace_lines(self.catalogue, row.number, best.lines)
         files = len(best.rows) + count_of(best.lines)
         self.catalogue.replace(row._replace(last_commit=best.last_commit, files=files, trouble=None), best.rows)
 
     def _copies(self, row: VolumeRow) -> None:
         """Has the copies be beginnings of the image. One of this volume that is damaged gets another name, and a new one is made."""
-        with opened(self.config, row) as image:
+        with opened_image(self.config, row) as image:
             for name in self.config.copies:
                 try:
                     self.copies.remote(name).begun(image.descriptor, os.path.basename(image.path), image.length)

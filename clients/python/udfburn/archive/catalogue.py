@@ -17,14 +17,14 @@ from . import same_rows
 from .base import Base, Row, open_base
 from .config import Config
 from .errors import CatalogueError
-from .held import Held, as_of, below, folder_back, folder_text, held_row, is_whole, order, part_count, versions, volume_and_commit
+from .held import Held, as_of, below, folder_back, folder_text, held_row, is_whole, mebibytes_of, order, versions, volume_and_commit
 from .names import kept_name, name_back
-from .schema import COMMITS, VERSION, statements
+from .schema import CATALOGUE_VERSION, COMMITS, upgrade_statements
 
-OPEN, FULL, CLOSING, CLOSED, NEW, RETIRED = "open", "full", "closing", "closed", "new", "retired"
-"""The states of a volume. NEW has its number and maybe no image yet. RETIRED is a closed one that nobody is asked for any more."""
+STATE_OPEN, STATE_FULL, STATE_CLOSING, STATE_CLOSED, STATE_NEW, STATE_RETIRED = "open", "full", "closing", "closed", "new", "retired"
+"""The states of a volume. A new one has its number and maybe no image yet. A retired one is a closed one that nobody is asked for any more."""
 
-FOLDERS = 100_000
+FOLDERS_KNOWN = 100_000
 """Ids of folders that are remembered, at most."""
 
 
@@ -92,9 +92,9 @@ KEPT_NAME = """
 INSERT INTO {table} ({column}, path, id, part_count) VALUES (?, ?, ?, ?)
 ON CONFLICT ({column}, path, id) DO UPDATE SET part_count = excluded.part_count
 """
-NAMES = (("by_name", "name"), ("by_ending", "ending"))
+NAME_TABLES = (("by_name", "name"), ("by_ending", "ending"))
 """The tables of names, and the column by which each is sorted: the name, and the name from its end."""
-FILE = "file.id, file.name, file.size, file.moment, file.sha256, file.added, file.first_part, file.part_count"
+FILE_COLUMNS = "file.id, file.name, file.size, file.moment, file.sha256, file.added, file.first_part, file.part_count"
 
 
 class Catalogue:
@@ -123,9 +123,9 @@ class Catalogue:
         version = self._version()
         if version is None and not make:
             raise CatalogueError("the catalogue has no tables of an archive: 'udfburn-archive rebuild' makes them from the volumes")
-        if version is not None and version > VERSION:
-            raise CatalogueError(f"the catalogue has version {version}, and this program reads up to {VERSION}: use a newer program")
-        if version is None or version < VERSION:
+        if version is not None and version > CATALOGUE_VERSION:
+            raise CatalogueError(f"the catalogue has version {version}, and this program reads up to {CATALOGUE_VERSION}: use a newer program")
+        if version is None or version < CATALOGUE_VERSION:
             self._migrate()
         self.id, label = self.base.run("SELECT id, label FROM archive")[0]
         if label != self.config.label:
@@ -153,15 +153,15 @@ class Catalogue:
         try:
             with self.base.transaction():
                 version = self._version() or 0
-                for statement in statements(self.base.engine, version, self.base.text, self.base.blob, self.base.serial) if version < VERSION else ():
+                for statement in upgrade_statements(self.base.engine, version, self.base.text, self.base.blob, self.base.serial) if version < CATALOGUE_VERSION else ():
                     self.base.run(statement)
                 if not version:
-                    values = (str(uuid.uuid4()), VERSION, self.config.label, 1)
+                    values = (str(uuid.uuid4()), CATALOGUE_VERSION, self.config.label, 1)
                     self.base.run("INSERT INTO archive (id, version, label, next_volume) VALUES (?, ?, ?, ?)", values)
-                self.base.run("UPDATE archive SET version = ?", (VERSION,))
+                self.base.run("UPDATE archive SET version = ?", (CATALOGUE_VERSION,))
         except CatalogueError:
             # Another process may have made them meanwhile.
-            if self._version() != VERSION:
+            if self._version() != CATALOGUE_VERSION:
                 raise
 
     def _register(self) -> None:
@@ -261,7 +261,7 @@ class Catalogue:
             return
         new = "INSERT INTO known_name (name) SELECT ? WHERE NOT EXISTS (SELECT 1 FROM by_name WHERE name = ?)"
         self.base.many(new, [(name, name) for name in sorted({kept_name(row.path[-1]) for row in rows})])
-        for table, column in NAMES:
+        for table, column in NAME_TABLES:
             self.base.many(KEPT_NAME.format(table=table, column=column), sorted((*name_key(column, row), parts_of_name(row)) for row in rows))
 
     def _delete(self, rows: Sequence[Held]) -> None:
@@ -270,7 +270,7 @@ class Catalogue:
 
     def forget_names(self, rows: Sequence[Held]) -> None:
         """Keeps no names of files. Only inside a transaction."""
-        for table, column in NAMES if self.base.has_names else ():
+        for table, column in NAME_TABLES if self.base.has_names else ():
             self.base.many(f"DELETE FROM {table} WHERE {column} = ? AND path = ? AND id = ?", [name_key(column, row) for row in rows])
 
     def mend_index(self) -> None:
@@ -282,7 +282,7 @@ class Catalogue:
     def mend_names(self) -> int:
         """Has the tables of names agree with the files, and makes the index of text inside names again; gives how many rows did not agree."""
         with self.base.transaction():
-            mended = sum(self._mend(table, column) for table, column in NAMES if self.base.has_names)
+            mended = sum(self._mend(table, column) for table, column in NAME_TABLES if self.base.has_names)
             self.base.remake_index()
         return mended
 
@@ -305,7 +305,7 @@ class Catalogue:
     def folder_id(self, text: str) -> int:
         """The id of a folder, which is made where it is missing."""
         if text not in self._folders:
-            if len(self._folders) >= FOLDERS:
+            if len(self._folders) >= FOLDERS_KNOWN:
                 self._folders.clear()
             found = self.base.run("SELECT id FROM folder WHERE path = ?", (text,))
             if not found:
@@ -317,12 +317,12 @@ class Catalogue:
 
     def in_folder(self, path: Path) -> Dict[str, List[Held]]:
         """The rows of each name in a folder, the newest first."""
-        statement = f"SELECT {FILE} FROM file JOIN folder ON folder.id = file.folder WHERE folder.path = ?"
+        statement = f"SELECT {FILE_COLUMNS} FROM file JOIN folder ON folder.id = file.folder WHERE folder.path = ?"
         found: Dict[str, List[Held]] = {}
         for row in self.base.run(statement, (folder_text(path),)):
             held = held_row(path, row)
             found.setdefault(held.path[-1], []).append(held)
-        for held in same_rows.in_folder(self.base, path):
+        for held in same_rows.lines_in_folder(self.base, path):
             found.setdefault(held.path[-1], []).append(held)
         for rows in found.values():
             rows.sort(key=order, reverse=True)
@@ -333,10 +333,10 @@ class Catalogue:
         if not path:
             return []
         folder, name = folder_text(path[:-1]), kept_name(path[-1])
-        statement = f"""SELECT {FILE} FROM folder JOIN file ON file.folder = folder.id WHERE folder.path = ?
+        statement = f"""SELECT {FILE_COLUMNS} FROM folder JOIN file ON file.folder = folder.id WHERE folder.path = ?
         AND file.id IN (SELECT id FROM by_name WHERE name = ? AND path = ?)"""
         rows = [held_row(path[:-1], row) for row in self.base.run(statement, (folder, name, folder))]
-        return sorted(rows + same_rows.of_path(self.base, path), key=order, reverse=True)
+        return sorted(rows + same_rows.lines_of_path(self.base, path), key=order, reverse=True)
 
     def last_added(self, path: Path) -> Moment:
         """The latest moment at which something at a path or below it was added; 0 where nothing was."""
@@ -349,7 +349,7 @@ class Catalogue:
 
     def of_volume(self, number: int) -> List[Held]:
         """The rows of the files that a volume has, in order of their commits."""
-        statement = f"""SELECT {FILE}, folder.path FROM file JOIN folder ON folder.id = file.folder
+        statement = f"""SELECT {FILE_COLUMNS}, folder.path FROM file JOIN folder ON folder.id = file.folder
         WHERE file.id >= ? AND file.id < ? ORDER BY file.id"""
         values = (number * COMMITS, (number + 1) * COMMITS)
         return [held_row(folder_back(row[-1]), row[:-1]) for row in self.base.run(statement, values)]
@@ -396,7 +396,7 @@ def volume_row(row: Row) -> VolumeRow:
 
 def image_of(config: Config, row: VolumeRow) -> Optional[str]:
     """The image of a volume, where it is at hand."""
-    for folder in ("closed", "open") if row.state in (CLOSED, RETIRED) else ("open", "closed"):
+    for folder in ("closed", "open") if row.state in (STATE_CLOSED, STATE_RETIRED) else ("open", "closed"):
         image = config.path(folder, row.label + ".img")
         if is_own(image):
             return image
@@ -406,10 +406,10 @@ def image_of(config: Config, row: VolumeRow) -> Optional[str]:
 def odd_image(config: Config, row: VolumeRow) -> Optional[str]:
     """What has the name of a closed image and is no regular file, as a link or a named pipe: it is not read."""
     image = config.path("closed", row.label + ".img")
-    return image if row.state == CLOSED and is_there(image) and not is_own(image) else None
+    return image if row.state == STATE_CLOSED and is_there(image) and not is_own(image) else None
 
 
 __all__ = [
-    "CLOSED", "CLOSING", "Catalogue", "Copy", "DISC", "DISC_NAME", "FULL", "Held", "NEW", "OPEN", "RETIRED", "VolumeRow", "as_of", "below", "folder_back",
-    "folder_text", "held_row", "image_of", "is_disc_name", "is_whole", "odd_image", "part_count", "versions", "volume_and_commit",
+    "Catalogue", "Copy", "DISC", "DISC_NAME", "Held", "STATE_CLOSED", "STATE_CLOSING", "STATE_FULL", "STATE_NEW", "STATE_OPEN", "STATE_RETIRED", "VolumeRow", "as_of", "below", "folder_back",
+    "folder_text", "held_row", "image_of", "is_disc_name", "is_whole", "mebibytes_of", "odd_image", "versions", "volume_and_commit",
 ]

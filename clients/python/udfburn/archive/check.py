@@ -17,7 +17,7 @@ from ..wire.operations import now
 from . import same_rows
 from .assemble import assembled
 from .bring_back import BringBack
-from .catalogue import CLOSED, DISC, RETIRED, Catalogue, Copy, Held, VolumeRow, image_of, odd_image, part_count
+from .catalogue import DISC, STATE_CLOSED, STATE_RETIRED, Catalogue, Copy, Held, VolumeRow, image_of, mebibytes_of, odd_image
 from .claims import Claims
 from .close import SIDECARS, beside, complete, send
 from .config import Config
@@ -31,7 +31,7 @@ from .status import loss
 from .tell import Tell, plural, shown_path
 
 
-class Options(NamedTuple):
+class CheckOptions(NamedTuple):
     """What is looked at."""
 
     data: bool = False
@@ -40,16 +40,16 @@ class Options(NamedTuple):
     oldest: bool = False
 
 
-def chosen(rows: Sequence[VolumeRow], names: Sequence[str], options: Options) -> List[VolumeRow]:
+def chosen(rows: Sequence[VolumeRow], names: Sequence[str], options: CheckOptions) -> List[VolumeRow]:
     """The volumes that are looked at: those that are named, each once, else all closed ones, of which some at random or those that were
     not looked at for longest."""
-    closed = [row for row in rows if row.state == CLOSED]
+    closed = [row for row in rows if row.state == STATE_CLOSED]
     if names:
         by_label = {row.label: row for row in rows}
         missing = [name for name in names if name not in by_label]
         if missing:
             raise NotAtHand(f"{missing[0]}: is not a volume of this archive")
-        retired = [name for name in names if by_label[name].state == RETIRED]
+        retired = [name for name in names if by_label[name].state == STATE_RETIRED]
         if retired:
             raise NotAtHand(f"{retired[0]}: was retired, and is not asked for any more")
         closed = [by_label[name] for name in dict.fromkeys(names)]
@@ -64,7 +64,7 @@ def chosen(rows: Sequence[VolumeRow], names: Sequence[str], options: Options) ->
 class Checker:
     """A run of `check`."""
 
-    def __init__(self, config: Config, catalogue: Catalogue, tell: Tell, options: Options):
+    def __init__(self, config: Config, catalogue: Catalogue, tell: Tell, options: CheckOptions):
         self.config, self.catalogue, self.tell, self.options = config, catalogue, tell, options
         self.volumes = self.files = self.copies = 0
         self.failures: List[str] = []
@@ -93,7 +93,7 @@ class Checker:
     def _bytes(self, row: VolumeRow) -> int:
         """The bytes that are read of an image: all of a closed one, and its payload again where each file is compared."""
         length = row.length or row.blocks * limits.BLOCK
-        return length * ((row.state == CLOSED) + self.options.data)
+        return length * ((row.state == STATE_CLOSED) + self.options.data)
 
     def _volume(self, row: VolumeRow, image: str) -> None:
         """Looks at a volume at hand, and keeps when, and what was found."""
@@ -104,14 +104,14 @@ class Checker:
             # Another process may have filled or closed it meanwhile.
             fresh, time = self.catalogue.volume(row.number) or row, now()
             data = time if self.options.data else fresh.data_checked
-            self.catalogue.save(fresh._replace(checked=time, data_checked=data, trouble=trouble if row.state == CLOSED else fresh.trouble))
+            self.catalogue.save(fresh._replace(checked=time, data_checked=data, trouble=trouble if row.state == STATE_CLOSED else fresh.trouble))
         if trouble:
             self.bad.add((row.label, ""))
             self.failures.append(f"{row.label}: {trouble}: {self._cure(row)}")
         self.tell.say_step(f"{row.label}: {trouble or 'is intact'}", did="checked", volume=row.label, trouble=trouble)
 
     def _trouble(self, row: VolumeRow, image: str) -> Optional[str]:
-        if row.state == CLOSED:
+        if row.state == STATE_CLOSED:
             try:
                 found = print_of_file(image, fresh=True, told=self.tell.passed)
             except OSError as error:
@@ -172,7 +172,7 @@ class Checker:
         if held is None or have != (held.first or 0):
             return same
         have += held.parts or 0
-        if held.parts is not None and have < part_count(held.size):
+        if held.parts is not None and have < mebibytes_of(held.size):
             self._begun[held.version()] = have, whole
             return same
         return same and bool(whole.digest() == held.sha256)
@@ -201,7 +201,7 @@ class Checker:
             return f"'udfburn-archive repair {row.label} --disc {good[0][len(DISC):]}' replaces it by the disc {good[0][len(DISC):]}"
         if good:
             return f"'udfburn-archive repair {row.label}' replaces it by the copy on {good[0]}"
-        if row.state != CLOSED:
+        if row.state != STATE_CLOSED:
             return f"'udfburn-archive close --without-damaged {row.label}' closes it without what is damaged, and then 'add' stores that again"
         return "no copy is known: 'udfburn-client salvage' copies out what is intact"
 
@@ -230,10 +230,10 @@ class Repairer:
             if row.state in GROWING and row.holder == self.config.id and self.config.copies:
                 self._open(row)
                 continue
-            if row.state != CLOSED and image_of(self.config, row) is None:
+            if row.state != STATE_CLOSED and image_of(self.config, row) is None:
                 self.failures.append(f"{row.label}: {loss(row, [], self.config)}")
                 continue
-            if row.state != CLOSED or row.sha256 is None:
+            if row.state != STATE_CLOSED or row.sha256 is None:
                 self.failures.append(f"{row.label}: is not closed, so there is nothing to compare it with")
                 continue
             try:

@@ -13,13 +13,13 @@ from ..base.errors import OutputFailed, UdfburnError, UsageError
 from ..base.sizes import capacity, percent
 from ..base.streams import drop_output, parsed, take_any_name, take_descriptors
 from ..protocol import limits, shown
-from .config import NODES, NODES_LEAST, node_count
+from .config import DEFAULT_NODES, LEAST_NODES, node_count
 from .tell import Tell
 
 if TYPE_CHECKING:
-    Subs = argparse._SubParsersAction[argparse.ArgumentParser]
+    from ..commands.arguments import Subs
 
-LONG = """examples:
+EPILOG = """examples:
   udfburn-archive init /srv/archive --label PHOTOS --copies /mnt/second
   udfburn-archive add ~/photos --archive /srv/archive
   udfburn-archive close --archive /srv/archive
@@ -35,7 +35,7 @@ def parser() -> argparse.ArgumentParser:
     """The words of each command."""
     top = argparse.ArgumentParser(
         prog="udfburn-archive", description="Keeps trees of any size on many UDF volumes, with a catalogue that can be rebuilt from the volumes alone.",
-        epilog=LONG, formatter_class=argparse.RawDescriptionHelpFormatter,
+        epilog=EPILOG, formatter_class=argparse.RawDescriptionHelpFormatter,
     )
     top.add_argument("--version", action="version", version=f"udfburn-archive {__version__}")
     subs = top.add_subparsers(dest="command", required=True, metavar="COMMAND")
@@ -61,7 +61,7 @@ def add_writers(subs: "Subs") -> None:
     init.add_argument("--catalogue", metavar="URL", default=None, help="a PostgreSQL database, postgresql://HOST/DATABASE (default: a SQLite file in the folder)")
     init.add_argument("--catalogue-file", metavar="FILE", help="a file that has the URL, which may have a password (or set UDFBURN_CATALOGUE)")
     init.add_argument("--capacity", type=capacity, default=limits.CAPACITY[1], metavar="N", help="the size of a volume: blocks of 2,048 bytes, from 512 to 450,000, or a size such as 700MiB (default: 450,000 blocks)")
-    init.add_argument("--nodes", type=node_count, default=NODES, metavar="N", help=f"how many files and folders a volume takes while its files have less than 64 KiB on average, from {NODES_LEAST} to {limits.NODES:,}; with fewer the archive takes less room, with more it has fewer volumes (default: {NODES:,})")
+    init.add_argument("--nodes", type=node_count, default=DEFAULT_NODES, metavar="N", help=f"how many files and folders a volume takes while its files have less than 64 KiB on average, from {LEAST_NODES} to {limits.NODES:,}; with fewer the archive takes less room, with more it has fewer volumes (default: {DEFAULT_NODES:,})")
     init.add_argument("--label", default="ARCHIVE", help="the name of the archive; its volumes are called LABEL-000001, LABEL-000002, .. (default: ARCHIVE)")
     init.add_argument("--copies", nargs="+", default=[], metavar="REMOTE", help="where closed volumes are copied to: absolute paths of folders, or rclone remotes as NAME:PATH")
     init.add_argument("--copies-wanted", type=int, metavar="N", help="how many remotes must have a volume before its sources are deleted (default: all)")
@@ -239,7 +239,7 @@ def main(words: Optional[List[str]] = None) -> int:
         complete_line(parser)
         closed = take_descriptors()
         arguments = parsed(parser(), words, closed)
-        return printed(arguments, Tell(arguments.quiet, arguments.json, closed=closed, verbose=arguments.verbose))
+        return run_printing(arguments, Tell(arguments.quiet, arguments.json, closed=closed, verbose=arguments.verbose))
     except SystemExit as end:
         return int(end.code or 0)
     except KeyboardInterrupt:
@@ -248,7 +248,7 @@ def main(words: Optional[List[str]] = None) -> int:
         return 130
 
 
-def printed(arguments: argparse.Namespace, tell: Tell) -> int:
+def run_printing(arguments: argparse.Namespace, tell: Tell) -> int:
     """Runs a command, and sees that what it printed was taken."""
     take_any_name()
     arguments.tell = tell

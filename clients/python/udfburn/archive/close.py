@@ -24,7 +24,7 @@ from ..wire.operations import Operation, now
 from . import same_rows
 from .bag import info, tag_manifest
 from .batch import locked
-from .catalogue import CLOSED, CLOSING, Catalogue, Copy, Held, VolumeRow, image_of
+from .catalogue import Catalogue, Copy, Held, STATE_CLOSED, STATE_CLOSING, VolumeRow, image_of
 from .claims import Claims
 from .config import Config
 from .contents import SIZE, Contents, File, number, read_fields
@@ -83,14 +83,14 @@ class Closer:
         image = image_of(self.config, row)
         if image is None:
             return 0
-        return os.path.getsize(image) * ((READ_TO_CLOSE if row.state != CLOSED else 0) + READ_TO_SEND * len(self._lacking(row)))
+        return os.path.getsize(image) * ((READ_TO_CLOSE if row.state != STATE_CLOSED else 0) + READ_TO_SEND * len(self._lacking(row)))
 
     def _run(self, row: VolumeRow) -> None:
         # Two processes that send to one remote would take each other's copies away.
-        if row.state != CLOSED or self._lacking(row) or self.parity is not None:
+        if row.state != STATE_CLOSED or self._lacking(row) or self.parity is not None:
             self.claims.volume(row.number, row.label)
             row = self.catalogue.volume(row.number) or row
-        if row.state != CLOSED:
+        if row.state != STATE_CLOSED:
             self._require_own(row)
             self.tell.working(f"closing {row.label}")
             row = self._close(row)
@@ -130,7 +130,7 @@ class Closer:
             closed = contents.closed()
             if closed is None:
                 raise VolumeDiffers(f"{shown(target)}: is among the closed volumes, but its bag was never finished")
-        row = row._replace(state=CLOSED, length=length, sha256=digest, closed=closed, checked=now(), data_checked=now(), trouble=None)
+        row = row._replace(state=STATE_CLOSED, length=length, sha256=digest, closed=closed, checked=now(), data_checked=now(), trouble=None)
         self.catalogue.save(row)
         self._forget_ledger(row)
         return row
@@ -143,7 +143,7 @@ class Closer:
             volume.remove_unfinished()
             if self.without_damaged:
                 self._remove_damaged(volume)
-            volume.row = volume.row._replace(state=CLOSING)
+            volume.row = volume.row._replace(state=STATE_CLOSING)
             self.catalogue.save(volume.row)
             with closing(Contents(volume.image)) as contents:
                 files = self._tag_files(volume, contents)

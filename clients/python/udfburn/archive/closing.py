@@ -8,8 +8,8 @@ from typing import Container, List, Sequence, Tuple
 
 from ..wire.operations import now
 from . import same_rows
-from .catalogue import CLOSED, CLOSING, FULL, RETIRED, Catalogue, VolumeRow, image_of
-from .check import Checker, Options, Repairer, chosen
+from .catalogue import STATE_CLOSED, STATE_CLOSING, STATE_FULL, STATE_RETIRED, Catalogue, VolumeRow, image_of
+from .check import CheckOptions, Checker, Repairer, chosen
 from .claims import claims_of
 from .close import Closer
 from .config import Config, config_of
@@ -24,9 +24,9 @@ def to_close(config: Config, catalogue: Catalogue, names: List[str], full: bool)
     """The volumes that are closed or sent."""
     rows = catalogue.volumes()
     if names:
-        return chosen(rows, names, Options())
+        return chosen(rows, names, CheckOptions())
     own = [row for row in rows if row.holder == config.id]
-    states = (FULL, CLOSING, CLOSED) if full else ("open", FULL, CLOSING, CLOSED)
+    states = (STATE_FULL, STATE_CLOSING, STATE_CLOSED) if full else ("open", STATE_FULL, STATE_CLOSING, STATE_CLOSED)
     return [row for row in own if row.state in states and (row.files or row.state != "open")]
 
 
@@ -44,7 +44,7 @@ def close(arguments: argparse.Namespace) -> int:
                 closer.run(row)
             except (ArchiveError, OSError) as error:
                 if isinstance(error, Claimed) and not arguments.volume:
-                    left = "left open" if row.state != CLOSED else "left to that one"
+                    left = "left open" if row.state != STATE_CLOSED else "left to that one"
                     tell.note(f"{error} (it is {left})", did=left, volume=row.label)
                     continue
                 closer.failures.append(f"{row.label}: {error}")
@@ -71,7 +71,7 @@ def check(arguments: argparse.Namespace) -> int:
         return check_disc(arguments)
     config, tell = config_of(arguments), tell_of(arguments)
     stale = None if arguments.stale is None else age(arguments.stale)
-    options = Options(arguments.data, arguments.remotes, arguments.sample, arguments.oldest)
+    options = CheckOptions(arguments.data, arguments.remotes, arguments.sample, arguments.oldest)
     with Catalogue(config) as catalogue:
         checker = Checker(config, catalogue, tell, options)
         checker.run(chosen(catalogue.volumes(), arguments.volume, options))
@@ -135,9 +135,9 @@ def repair(arguments: argparse.Namespace) -> int:
 
         def needs(row: VolumeRow) -> bool:
             lost = is_lost(row, config, image_of(config, row) is not None, places.get(row.number))
-            return row.state != RETIRED and (bool(row.trouble) or row.number in copies or lost)
+            return row.state != STATE_RETIRED and (bool(row.trouble) or row.number in copies or lost)
 
-        found = chosen(rows, arguments.volume, Options()) if arguments.volume else list(filter(needs, rows))
+        found = chosen(rows, arguments.volume, CheckOptions()) if arguments.volume else list(filter(needs, rows))
         repairer = Repairer(config, catalogue, claims, tell)
         repairer.run(found)
     words = f"repaired {plural(repairer.repaired, 'image or copy', 'images or copies')} of {plural(len(found), 'volume', 'volumes')}"
@@ -146,11 +146,11 @@ def repair(arguments: argparse.Namespace) -> int:
 
 def adopt(arguments: argparse.Namespace) -> int:
     """Takes a volume over."""
-    from .adopt import adopt as take
+    from .adopt import take_over as take
 
     config, tell = config_of(arguments), tell_of(arguments)
     with Catalogue(config) as catalogue, closing(claims_of(catalogue.base, config.path("locks"), config.catalogue)) as claims:
-        (row,) = chosen(catalogue.volumes(), [arguments.volume], Options())
+        (row,) = chosen(catalogue.volumes(), [arguments.volume], CheckOptions())
         failures: List[str] = []
         row = take(config, catalogue, claims, row, arguments.image, tell, failures)
     words = f"took over {row.label} with {plural(row.files, 'file', 'files')}"
@@ -161,8 +161,8 @@ def put_away(arguments: argparse.Namespace) -> int:
     """Keeps where the user has the image of a closed volume."""
     config, tell = config_of(arguments), tell_of(arguments)
     with Catalogue(config) as catalogue:
-        (row,) = chosen(catalogue.volumes(), [arguments.volume], Options())
-        if row.state != CLOSED:
+        (row,) = chosen(catalogue.volumes(), [arguments.volume], CheckOptions())
+        if row.state != STATE_CLOSED:
             raise ArchiveError(f"{row.label}: is not closed, and would be missed where it is filled: 'close {row.label}' first")
         catalogue.save_place(row.number, arguments.place, now())
     words = f"{row.label} is put away at {arguments.place}" if arguments.place is not None else f"{row.label} is not put away any more"
@@ -174,14 +174,14 @@ def retire(arguments: argparse.Namespace) -> int:
     """Takes a closed volume out of use."""
     config, tell = config_of(arguments), tell_of(arguments)
     with Catalogue(config) as catalogue, closing(claims_of(catalogue.base, config.path("locks"), config.catalogue)) as claims:
-        (row,) = chosen(catalogue.volumes(), [arguments.volume], Options())
+        (row,) = chosen(catalogue.volumes(), [arguments.volume], CheckOptions())
         claims.volume(row.number, row.label)
         row = catalogue.volume(row.number) or row
-        if row.state != CLOSED:
+        if row.state != STATE_CLOSED:
             raise ArchiveError(f"{row.label}: is not closed, so it cannot be retired")
         if not row.trouble and image_of(config, row) is not None:
             raise ArchiveError(f"{row.label}: is at hand, and no damage is known: 'check --data {row.label}' looks for it")
-        catalogue.save(row._replace(state=RETIRED))
+        catalogue.save(row._replace(state=STATE_RETIRED))
         others = same_rows.count_named(catalogue.base, row.number)
     words = f"retired {row.label}: 'add' stores its files again where their sources are there"
     words += f", and {plural(others, 'other file', 'other files')} that had the same bytes" if others else ""

@@ -12,9 +12,9 @@ from ..base.beneath import open_given
 from ..base.durable import make_folder
 from ..base.errors import UsageError
 from ..local.sources import shown
-from .add import Adder, Options
+from .add import AddOptions, Adder
 from .catalogue import Catalogue
-from .config import FILE, LOCAL, check_label, check_remote, checked, config_of, has_password, is_url, strange, volume_label, without_password, write
+from .config import CONFIG_FILE, LOCAL, check_label, check_remote, checked, config_of, has_password, is_url, strange, volume_label, without_password, write
 from .content import Content
 from .errors import BadConfig, NoArchive
 from .exclude import rules_of
@@ -25,7 +25,7 @@ from .preview import SAME_AS, Change, Preview
 from .rebuild import Rebuilder
 from .remake import open_or_make, open_to_compare
 from .remotes import owner_of
-from .scan import targets
+from .scan import archive_targets
 from .seen import Seen
 from .status import lacking_words
 from .tell import Tell, plural, printed_path, shown_path, size, tell_of
@@ -34,7 +34,7 @@ from .tell import Tell, plural, printed_path, shown_path, size, tell_of
 def init(arguments: argparse.Namespace) -> int:
     """Makes an archive. `archive.toml` comes last, so a folder that has it is whole."""
     folder = os.path.realpath(arguments.dir)
-    if os.path.exists(os.path.join(folder, FILE)):
+    if os.path.exists(os.path.join(folder, CONFIG_FILE)):
         raise NoArchive(f"{shown(folder)}: is an archive already")
     catalogue = catalogue_of(arguments)
     left = [name for name in strange(folder) if not name.startswith(LOCAL)]
@@ -84,8 +84,8 @@ def add(arguments: argparse.Namespace) -> int:
     if arguments.dry_run:
         return preview(arguments)
     config, tell = config_of(arguments), tell_of(arguments)
-    wanted = targets(arguments.folder, arguments.at)
-    options = Options(arguments.delete_source, arguments.skip_odd, arguments.each, rules_of(arguments), arguments.trust_times, arguments.deletions, not arguments.no_copy, arguments.again)
+    wanted = archive_targets(arguments.folder, arguments.at)
+    options = AddOptions(arguments.delete_source, arguments.skip_odd, arguments.each, rules_of(arguments), arguments.trust_times, arguments.deletions, not arguments.no_copy, arguments.again)
     with Catalogue(config) as catalogue:
         adder = Adder(config, catalogue, options, tell)
         try:
@@ -131,20 +131,20 @@ def diff(arguments: argparse.Namespace) -> int:
     """Prints how folders differ from the archive."""
     found, counts, _ = differing(arguments, True, True)
     counts.pop(SAME_AS)
-    words = [f"{counts[kind]} {kind}" for kind in KINDS] + [f"{found.same} the same"]
+    words = [f"{counts[kind]} {kind}" for kind in CHANGE_KINDS] + [f"{found.same} the same"]
     tell_of(arguments).result(", ".join(words), **counts, same=found.same, excluded=found.excluded)
     return 1 if found.failures or any(counts.values()) else 0
 
 
-KINDS = ("new", "changed", "gone")
+CHANGE_KINDS = ("new", "changed", "gone")
 
 
 def differing(arguments: argparse.Namespace, gone: bool, skip_odd: bool) -> "Tuple[Preview, Dict[str, int], Dict[str, int]]":
     """Prints the files that differ; gives how many of each kind, and their bytes. Where files that are gone are asked for, none counts as the
     same as another one: its path differs."""
     config, tell = config_of(arguments), tell_of(arguments)
-    wanted, rules = targets(arguments.folder, arguments.at), rules_of(arguments)
-    counts, sizes = dict.fromkeys((*KINDS, SAME_AS), 0), dict.fromkeys((*KINDS, SAME_AS), 0)
+    wanted, rules = archive_targets(arguments.folder, arguments.at), rules_of(arguments)
+    counts, sizes = dict.fromkeys((*CHANGE_KINDS, SAME_AS), 0), dict.fromkeys((*CHANGE_KINDS, SAME_AS), 0)
     again = gone or arguments.again
     with Catalogue(config) as catalogue, closing(Places(config, catalogue)) as places:
         with closing(Fresh(catalogue, places, Seen(config) if arguments.trust_times else None, again and not gone)) as fresh:

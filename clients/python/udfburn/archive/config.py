@@ -18,7 +18,7 @@ from ..protocol import is_bytes, limits
 from ..protocol.names import name_fault, spelled_size
 from .errors import BadConfig, NoArchive
 
-FILE = "archive.toml"
+CONFIG_FILE = "archive.toml"
 FORMAT = 1
 """The format of the folder that this program writes."""
 
@@ -34,7 +34,7 @@ REMOTE = re.compile("[A-Za-z0-9_.+@][A-Za-z0-9_.+@ -]*")
 DELETIONS = ("acknowledged", "copied")
 KEYS = {"format", "id", "label", "catalogue", "capacity", "nodes", "copies", "copies_wanted", "delete", "mode", "same_device"}
 
-NODES_LEAST, NODES = 100, 1000
+LEAST_NODES, DEFAULT_NODES = 100, 1000
 """Nodes of a volume of small files: the fewest that may be asked for, and those of a new archive."""
 
 
@@ -150,7 +150,7 @@ def field(table: Dict[str, Any], key: str, kind: type, where: str) -> Any:
 def read(folder: str) -> Config:
     """The archive of a folder."""
     folder = os.path.realpath(folder)
-    where = os.path.join(folder, FILE)
+    where = os.path.join(folder, CONFIG_FILE)
     # Python has it from 3.11 on.
     tomllib: Any = import_module("tomllib")
     try:
@@ -179,8 +179,8 @@ def checked(folder: str, table: Dict[str, Any], where: str) -> Config:
     copies = field(table, "copies", list, where)
     # Folders of archives that were made before have no such field.
     nodes = field({"nodes": limits.NODES, **table}, "nodes", int, where)
-    if not NODES_LEAST <= nodes <= limits.NODES:
-        raise BadConfig(f"{where}: nodes must be from {NODES_LEAST} to {limits.NODES}")
+    if not LEAST_NODES <= nodes <= limits.NODES:
+        raise BadConfig(f"{where}: nodes must be from {LEAST_NODES} to {limits.NODES}")
     same_device = table.get("same_device", False)
     if not isinstance(same_device, bool):
         raise BadConfig(f"{where}: same_device must be true or false")
@@ -209,14 +209,14 @@ def mode_named(value: object, where: str) -> int:
     return mode
 
 
-def text(config: Config) -> str:
+def config_text(config: Config) -> str:
     """`archive.toml` of an archive."""
     same_device = "\n# Folders for copies may be on the disk of the archive itself.\nsame_device = true" if config.same_device else ""
     return f"""# An archive of udfburn-archive(1). `copies_wanted`, `delete`, `capacity`, `nodes` and `mode` may be changed. 'remote' changes `copies`.
 format = {FORMAT}
-id = {quoted(config.id)}
-label = {quoted(config.label)}
-catalogue = {quoted(config.catalogue)}
+id = {toml_string(config.id)}
+label = {toml_string(config.label)}
+catalogue = {toml_string(config.catalogue)}
 # Blocks of 2,048 bytes of a new volume.
 capacity = {config.capacity}
 # Files and folders of a volume while its files have less than 64 KiB on average; of others 4,096. With fewer the archive takes less room.
@@ -226,21 +226,21 @@ copies = {quoted_list(config.copies)}
 # How many of them have to have a volume before a source is deleted, where delete is "copied".
 copies_wanted = {config.wanted}
 # When --delete-source deletes: "acknowledged" (the volume has the file) or "copied".
-delete = {quoted(config.delete)}
+delete = {toml_string(config.delete)}
 # The permissions of new images and of the catalogue, in octal.
-mode = {quoted(f"{config.mode:o}")}{same_device}
+mode = {toml_string(f"{config.mode:o}")}{same_device}
 """
 
 
 def quoted_list(values: Iterable[str]) -> str:
     """An array of strings of TOML."""
-    return "[" + ", ".join(map(quoted, values)) + "]"
+    return "[" + ", ".join(map(toml_string, values)) + "]"
 
 
 def node_count(text: str) -> int:
     """The nodes that a word asks for."""
-    if not (text.isascii() and text.isdigit() and len(text) <= 6 and NODES_LEAST <= int(text) <= limits.NODES):
-        raise argparse.ArgumentTypeError(f"{text!r} is not a number of files and folders from {NODES_LEAST} to {limits.NODES:,}")
+    if not (text.isascii() and text.isdigit() and len(text) <= 6 and LEAST_NODES <= int(text) <= limits.NODES):
+        raise argparse.ArgumentTypeError(f"{text!r} is not a number of files and folders from {LEAST_NODES} to {limits.NODES:,}")
     return int(text)
 
 
@@ -258,7 +258,7 @@ def with_field(text: str, key: str, value: str) -> str:
 
 def change(config: Config, **values: str) -> Config:
     """Changes fields of an archive's `archive.toml`, whose values are those of TOML."""
-    where = config.path(FILE)
+    where = config.path(CONFIG_FILE)
     with open(open_given(where), encoding="utf-8") as file:
         new = file.read()
         mode = os.fstat(file.fileno()).st_mode & 0o777
@@ -270,25 +270,25 @@ def change(config: Config, **values: str) -> Config:
     return found
 
 
-def quoted(value: str) -> str:
+def toml_string(value: str) -> str:
     """A basic string of TOML."""
     escaped = value.replace("\\", "\\\\").replace('"', '\\"')
     return '"' + "".join(letter if letter.isprintable() else f"\\U{ord(letter):08X}" for letter in escaped) + '"'
 
 
-FOLDERS = ("open", "closed", "locks")
+ARCHIVE_FOLDERS = ("open", "closed", "locks")
 
 
 def write(config: Config) -> None:
     """Makes the folder of an archive, and `archive.toml` in it, durable and whole."""
-    for name in FOLDERS:
+    for name in ARCHIVE_FOLDERS:
         make_folder(config.path(name))
-    write_file(config.path(FILE), text(config).encode(), 0o600 if has_password(config.catalogue) else 0o666)
+    write_file(config.path(CONFIG_FILE), config_text(config).encode(), 0o600 if has_password(config.catalogue) else 0o666)
 
 
 def strange(folder: str) -> List[str]:
     """What a folder holds that no archive has at its beginning."""
     try:
-        return sorted(set(os.listdir(folder)) - {*FOLDERS, FILE, FILE + ".new"})
+        return sorted(set(os.listdir(folder)) - {*ARCHIVE_FOLDERS, CONFIG_FILE, CONFIG_FILE + ".new"})
     except FileNotFoundError:
         return []

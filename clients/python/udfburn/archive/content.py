@@ -4,14 +4,14 @@ from __future__ import annotations
 
 from typing import Container, Dict, List, Sequence, Set
 
-from .catalogue import FILE, RETIRED, Catalogue, image_of
+from .catalogue import FILE_COLUMNS, STATE_RETIRED, Catalogue, image_of
 from .config import Config
 from .held import Held, folder_back, folder_text, held_row, is_whole
 from .names import kept_name
 from .schema import COMMITS
 from .status import is_lost
 
-ASKED = 100
+ROWS_READ = 100
 """Rows with the same bytes that are looked at, at most."""
 
 
@@ -34,8 +34,8 @@ class Content:
 
     def find(self, size: int, sha256: bytes) -> List[Held]:
         """The rows of a file that has these bytes, on volumes that count: one, or those of all its parts; none where there is no such file."""
-        statement = f"""SELECT {FILE}, folder.path FROM file JOIN folder ON folder.id = file.folder
-        WHERE file.size = ? AND substr(file.sha256, 1, 8) = ? AND file.sha256 = ? ORDER BY file.id LIMIT {ASKED}"""
+        statement = f"""SELECT {FILE_COLUMNS}, folder.path FROM file JOIN folder ON folder.id = file.folder
+        WHERE file.size = ? AND substr(file.sha256, 1, 8) = ? AND file.sha256 = ? ORDER BY file.id LIMIT {ROWS_READ}"""
         parts: Dict[object, List[Held]] = {}
         for row in self.catalogue.base.run(statement, (size, sha256[:8], sha256)):
             held = held_row(folder_back(row[-1]), row[:-1])
@@ -50,7 +50,7 @@ class Content:
         """Whether the archive has what the catalogue says of a volume: it is not retired, and neither damaged nor lost as far as that is known."""
         if number not in self._counts:
             row = self.catalogue.volume(number)
-            self._counts[number] = row is not None and row.state != RETIRED and row.trouble is None and number not in self.refused and not is_lost(
+            self._counts[number] = row is not None and row.state != STATE_RETIRED and row.trouble is None and number not in self.refused and not is_lost(
                 row, self.config, image_of(self.config, row) is not None, self.catalogue.put_away().get(number),
             )
         return self._counts[number]

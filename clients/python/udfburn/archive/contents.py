@@ -14,7 +14,7 @@ from ..protocol.units import Commit, Moment, Size
 from ..reader import FileType, Medium, NoVolume, Run, State, StateNode, Volume
 from ..reader.basics import address_of, blocks_of
 from .batch import sound_length
-from .catalogue import Held, part_count
+from .catalogue import Held, mebibytes_of
 from .errors import CannotStore, VolumeDiffers
 from .names import DESCRIPTION, kept_name, read_back, text_of
 from .older_parts import older_start
@@ -82,7 +82,7 @@ def first_piece(fields: Mapping[str, str], size: int) -> int:
     """With which mebibyte of a file the parts on a volume begin, by its description; `ValueError` or `KeyError` where it does not say so."""
     older = older_start(fields)
     if older is not None:
-        return number(older, part_count(size))
+        return number(older, mebibytes_of(size))
     start = number(fields["first byte"], size)
     if start % limits.FILE:
         raise ValueError(f"{start} is no multiple of {limits.FILE}")
@@ -312,7 +312,7 @@ class Contents:
 
     def has_all(self, file: File) -> bool:
         """Whether all bytes of a file are on this volume."""
-        return file.parts is None or not file.first and file.parts == part_count(file.size)
+        return file.parts is None or not file.first and file.parts == mebibytes_of(file.size)
 
     def rows(self, number: int, known: Optional[Dict[int, Held]] = None) -> List[Held]:
         """The rows of the catalogue. Digests of files that are known by their commits are not computed anew."""

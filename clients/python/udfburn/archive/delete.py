@@ -8,7 +8,7 @@ from ..base.errors import SourceError
 from ..local.sources import Source, delete, shown
 from .catalogue import Catalogue, Held, VolumeRow, is_whole
 from .config import Config
-from .job import Job
+from .job import VolumeJob
 from .open_copies import GROWING, OpenCopies
 from .places import Places
 
@@ -33,7 +33,7 @@ class Deleter:
     def close(self) -> None:
         self.places.close()
 
-    def stored(self, jobs: Sequence[Job]) -> None:
+    def stored(self, jobs: Sequence[VolumeJob]) -> None:
         """Files of which the last bytes were stored just now: the catalogue has all of them."""
         if self.config.delete == "copied" and self.copies is None:
             self._stay("until their volumes are closed and copied: run 'close', and then this command again", len(jobs))

@@ -18,10 +18,10 @@ from .held import below, folder_text, line_path, path_line
 from .names import kept_name, name_back, text_of
 from .schema import COMMITS
 
-TITLE = "udfburn-archive deletions 1"
+DELETIONS_TITLE = "udfburn-archive deletions 1"
 """The first line of a text of deletions."""
 
-MOST = 1 << 28
+DELETION_TEXTS_BYTES = 1 << 28
 """Bytes of all texts of a volume that are read, at most."""
 
 MARKS = {"-": False, "+": True}
@@ -45,26 +45,26 @@ def line_of(event: Event) -> bytes:
     return f"{'+' if event.back else '-'} {path_line(event.path)}\n".encode()
 
 
-def texts(events: Iterable[Event]) -> Iterator[Tuple[bytes, List[Event]]]:
+def deletion_texts(events: Iterable[Event]) -> Iterator[Tuple[bytes, List[Event]]]:
     """The texts that have events, each with what it has."""
-    data = bytearray(f"{TITLE}\n".encode())
+    data = bytearray(f"{DELETIONS_TITLE}\n".encode())
     some: List[Event] = []
     for event in events:
         line = line_of(event)
         if some and len(data) + len(line) > TEXT_BYTES:
             yield bytes(data), some
-            data, some = bytearray(f"{TITLE}\n".encode()), []
+            data, some = bytearray(f"{DELETIONS_TITLE}\n".encode()), []
         data += line
         some.append(event)
     if some:
         yield bytes(data), some
 
 
-def read_text(data: bytes, where: str) -> Iterator[Tuple[Path, bool]]:
+def read_deletions(data: bytes, where: str) -> Iterator[Tuple[Path, bool]]:
     """The paths that a text names, and whether each is there again; `VolumeDiffers` where it is none."""
     try:
         title, *lines = data.decode().split("\n")
-        if title != TITLE or lines.pop() != "":
+        if title != DELETIONS_TITLE or lines.pop() != "":
             raise ValueError("it is none")
         for line in lines:
             if line[:1] not in MARKS or line[1:3] != " /":
@@ -77,20 +77,20 @@ def read_text(data: bytes, where: str) -> Iterator[Tuple[Path, bool]]:
 def events_on(contents: Contents, number: int) -> List[Event]:
     """The events that a volume has."""
     nodes: List[StateNode] = [node for path, node in contents.nodes.items() if len(path) == 2 and path[0] == GONE and node.kind is FileType.FILE]
-    if sum(node.size for node in nodes) > MOST:
-        raise VolumeDiffers(f"{contents.image}: has more than {MOST} bytes of deletions")
+    if sum(node.size for node in nodes) > DELETION_TEXTS_BYTES:
+        raise VolumeDiffers(f"{contents.image}: has more than {DELETION_TEXTS_BYTES} bytes of deletions")
     found: List[Event] = []
     for node in nodes:
         commit = contents.commit_of(node)
         since = contents.added(commit)
-        for path, back in read_text(contents.bytes_of(node), f"{contents.image}: {text_of(node.path)}"):
+        for path, back in read_deletions(contents.bytes_of(node), f"{contents.image}: {text_of(node.path)}"):
             found.append(Event(path, back, number, commit, since))
     return found
 
 
 # ---- in the catalogue
 
-def insert(catalogue: Catalogue, events: Sequence[Event]) -> None:
+def insert_events(catalogue: Catalogue, events: Sequence[Event]) -> None:
     """Keeps events. Only inside a transaction."""
     rows = [
         (catalogue.folder_id(folder_text(event.path[:-1])), kept_name(event.path[-1]), event.volume, event.commit, event.since, int(event.back)) for event in events
@@ -100,11 +100,11 @@ def insert(catalogue: Catalogue, events: Sequence[Event]) -> None:
     catalogue.base.many(statement, rows)
 
 
-def replace(catalogue: Catalogue, number: int, events: Sequence[Event]) -> None:
+def replace_events(catalogue: Catalogue, number: int, events: Sequence[Event]) -> None:
     """Has these events in the place of all that the catalogue had of a volume, as one."""
     with catalogue.base.transaction():
         catalogue.base.run("DELETE FROM gone WHERE volume = ?", (number,))
-        insert(catalogue, events)
+        insert_events(catalogue, events)
 
 
 def are_known(catalogue: Catalogue) -> bool:
@@ -112,7 +112,7 @@ def are_known(catalogue: Catalogue) -> bool:
     return bool(catalogue.base.run("SELECT 1 FROM gone LIMIT 1"))
 
 
-def in_folder(catalogue: Catalogue, path: Path) -> Dict[str, List[Event]]:
+def events_in_folder(catalogue: Catalogue, path: Path) -> Dict[str, List[Event]]:
     """The events of each name in a folder, in their order."""
     statement = """SELECT name, back, volume, commit_number, since FROM gone JOIN folder ON folder.id = gone.folder WHERE folder.path = ?
     ORDER BY since, volume, commit_number"""
@@ -123,9 +123,9 @@ def in_folder(catalogue: Catalogue, path: Path) -> Dict[str, List[Event]]:
     return found
 
 
-def of_path(catalogue: Catalogue, path: Path) -> List[Event]:
+def events_of_path(catalogue: Catalogue, path: Path) -> List[Event]:
     """The events of a path, in their order."""
-    return in_folder(catalogue, path[:-1]).get(path[-1], []) if path else []
+    return events_in_folder(catalogue, path[:-1]).get(path[-1], []) if path else []
 
 
 def last_since(catalogue: Catalogue, path: Path) -> Moment:
@@ -134,10 +134,10 @@ def last_since(catalogue: Catalogue, path: Path) -> Moment:
     statement = """SELECT max(gone.since) FROM folder JOIN gone ON gone.folder = folder.id
     WHERE folder.path = ? OR (folder.path >= ? AND folder.path < ?)"""
     found = catalogue.base.run(statement, (folder_text(path), low, high))
-    return max([Moment(int(found[0][0] or 0)), *(event.since for event in of_path(catalogue, path))])
+    return max([Moment(int(found[0][0] or 0)), *(event.since for event in events_of_path(catalogue, path))])
 
 
-def runs(catalogue: Catalogue) -> Iterator[Tuple[Moment, int, Commit]]:
+def deletion_runs(catalogue: Catalogue) -> Iterator[Tuple[Moment, int, Commit]]:
     """The moments of the runs that found deletions, with the volume and the commit of each."""
     for since, id in catalogue.base.run(f"SELECT since, min(volume * {COMMITS} + commit_number) FROM gone GROUP BY since, volume"):
         volume, commit = volume_and_commit(int(id))
@@ -161,14 +161,14 @@ def present(groups: Sequence[List[Held]], events: Sequence[Event], moment: Optio
 
 def files_in(catalogue: Catalogue, path: Path, moment: Optional[Moment] = None) -> Dict[str, List[Held]]:
     """The files of a folder that are there now, or were at a moment, by their names in order."""
-    events = in_folder(catalogue, path)
+    events = events_in_folder(catalogue, path)
     found = {name: present(versions(rows), events.get(name, ()), moment) for name, rows in sorted(catalogue.in_folder(path).items())}
     return {name: group for name, group in found.items() if group is not None}
 
 
 def file_at(catalogue: Catalogue, path: Path, moment: Optional[Moment] = None) -> Optional[List[Held]]:
     """The version of a path that is there now, or was at a moment."""
-    return present(versions(catalogue.of_path(path)), of_path(catalogue, path), moment)
+    return present(versions(catalogue.of_path(path)), events_of_path(catalogue, path), moment)
 
 
 def has_below(catalogue: Catalogue, path: Path) -> bool:
@@ -177,5 +177,5 @@ def has_below(catalogue: Catalogue, path: Path) -> bool:
 
 
 __all__ = [
-    "Event", "are_known", "events_on", "file_at", "files_in", "has_below", "in_folder", "insert", "is_gone", "last_since", "of_path", "present", "replace", "runs", "texts",
+    "Event", "are_known", "deletion_runs", "deletion_texts", "events_in_folder", "events_of_path", "events_on", "file_at", "files_in", "has_below", "insert_events", "is_gone", "last_since", "present", "replace_events",
 ]

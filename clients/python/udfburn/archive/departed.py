@@ -6,9 +6,9 @@ from typing import Dict, List, Sequence, Set
 
 from ..protocol import Path
 from .catalogue import Catalogue, Held
-from .deletions import Event, are_known, files_in, is_gone, of_path
+from .deletions import Event, are_known, events_of_path, files_in, is_gone
 from .exclude import Rules
-from .scan import Found
+from .scan import ScannedFolder
 from .tell import plural, shown_path
 
 
@@ -26,13 +26,13 @@ class Departed:
         """A folder is walked."""
         self._there = {}
 
-    def found(self, found: Found) -> None:
+    def found(self, found: ScannedFolder) -> None:
         """Files that are there, whether they can be stored or not."""
         self._there.setdefault(found.folder, set()).update(source.path[-1] for source in found.files)
 
     def same(self, path: Path, rows: Sequence[Held]) -> None:
         """A file is there, and the archive has it. It may have been gone meanwhile."""
-        if self._known and is_gone(rows, of_path(self.catalogue, path), None):
+        if self._known and is_gone(rows, events_of_path(self.catalogue, path), None):
             self.events.append(Event(path, True))
 
     def end(self, path: Path, left_out: Sequence[Path]) -> None:

@@ -20,8 +20,8 @@ from ..discs.finish import track_of
 from ..local.sources import shown
 from ..protocol import limits
 from ..wire.operations import now
-from .catalogue import CLOSED, DISC, DISC_NAME, Catalogue, Copy, VolumeRow, image_of, is_disc_name
-from .check import Options, Repairer, chosen, has_print
+from .catalogue import DISC, DISC_NAME, STATE_CLOSED, Catalogue, Copy, VolumeRow, image_of, is_disc_name
+from .check import CheckOptions, Repairer, chosen, has_print
 from .claims import Claims, claims_of
 from .config import Config, config_of
 from .errors import CopyFailed, NotAtHand, VolumeDiffers
@@ -34,10 +34,10 @@ def disc_of(arguments: argparse.Namespace) -> Tuple[str, str]:
     name: Optional[str] = arguments.disc
     if name is None:
         raise UsageError("--device goes with --disc, which says what is written on the disc")
-    return check_name(name), arguments.device or DRIVE
+    return require_disc_name(name), arguments.device or DRIVE
 
 
-def check_name(name: str) -> str:
+def require_disc_name(name: str) -> str:
     """The name itself, where a disc can have it."""
     if not is_disc_name(name):
         raise UsageError(f"{printable(name)!r}: is not a name for a disc: use 1 to {DISC_NAME} letters, as you write them on it")
@@ -68,7 +68,7 @@ class Burner:
     def run(self, row: VolumeRow) -> None:
         """Burns a volume onto a blank disc; or compares a disc that has it already."""
         wanted = print_of_row(row)
-        if row.state != CLOSED:
+        if row.state != STATE_CLOSED:
             raise VolumeDiffers(f"{row.label}: is {row.state}, and only a closed volume is burned")
         self._require_free(row)
         disc = look_at(self.device)
@@ -128,7 +128,7 @@ def burn(arguments: argparse.Namespace) -> int:
     """Burns a closed volume."""
     (name, device), config, tell = disc_of(arguments), config_of(arguments), tell_of(arguments)
     with Catalogue(config) as catalogue:
-        (row,) = chosen(catalogue.volumes(), [arguments.volume], Options())
+        (row,) = chosen(catalogue.volumes(), [arguments.volume], CheckOptions())
         Burner(config, catalogue, tell, device, name).run(row)
     return 0
 

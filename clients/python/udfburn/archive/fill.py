@@ -9,26 +9,26 @@ from ..base.errors import Full, SourceError, UdfburnError
 from ..protocol import Code, Create, MakeDir, Path, limits
 from ..protocol.units import Commit, Moment
 from ..wire.operations import Operation, Outcome, clamped, now
-from .catalogue import FULL, Catalogue, is_whole
+from .catalogue import STATE_FULL, Catalogue, is_whole
 from .claims import Claims
 from .config import Config
 from .errors import VolumeDiffers
-from .job import Job
+from .job import VolumeJob
 from .sending import Sending
 from .tell import Tell, plural, shown_path
-from .tree import Tree
+from .tree import PlannedTree
 from .volume import OpenVolume, open_new, own_volumes
 
 BATCH_FILES, BATCH_BYTES = 512, 64 * limits.FILE
 """Files, and their bytes, that are planned on a volume before they are sent."""
 
-OPEN_MOST = 4
+OPEN_TO_WRITE = 4
 """Open volumes of one run. The files of a folder go to the first that has room for all of them."""
 
-Kept = Callable[[List[Job], int], None]
+OnKept = Callable[[List[VolumeJob], int], None]
 """Is called for files of which the catalogue has all, with the bytes that this run sent of them."""
 
-Failed = Callable[[Job, str], None]
+Failed = Callable[[VolumeJob, str], None]
 """Is called for a file that was not stored, with the reason."""
 
 
@@ -36,12 +36,12 @@ class Filler:
     """The open volumes of a run."""
 
     def __init__(
-        self, config: Config, catalogue: Catalogue, claims: Claims, tell: Tell, text: str, kept: Kept, failed: Failed, batches: bool = True,
+        self, config: Config, catalogue: Catalogue, claims: Claims, tell: Tell, text: str, kept: OnKept, failed: Failed, batches: bool = True,
     ):
         self.config, self.catalogue, self.claims, self.tell, self.text = config, catalogue, claims, tell, text
         self.kept, self.failed, self.batches = kept, failed, batches
         self.open: List[OpenVolume] = []
-        self.planned: Dict[int, List[Job]] = {}
+        self.planned: Dict[int, List[VolumeJob]] = {}
         self.weights: Dict[int, int] = {}
         self.sent: Dict[Path, int] = {}
         """The bytes that this run sent of files of which the archive has no more than parts."""
@@ -61,7 +61,7 @@ class Filler:
 
     # ---- where files go
 
-    def put(self, folder: Path, jobs: Sequence[Job]) -> None:
+    def put(self, folder: Path, jobs: Sequence[VolumeJob]) -> None:
         """Plans the files of a folder: on one volume where they fit on one, else on as many as they take."""
         waiting = self._resumed(list(jobs))
         if not waiting:
@@ -72,15 +72,15 @@ class Filler:
                 waiting = self._plan(volume, waiting)
                 break
         else:
-            if Tree.empty(self.config.capacity, self.config.nodes).fits(sizes, folder, names):
+            if PlannedTree.empty(self.config.capacity, self.config.nodes).fits(sizes, folder, names):
                 waiting = self._plan(self._new(), waiting)
         # They are too many for one volume, or took more than was computed.
         while waiting:
             waiting = self._spill(waiting)
 
-    def _resumed(self, jobs: List[Job]) -> List[Job]:
+    def _resumed(self, jobs: List[VolumeJob]) -> List[VolumeJob]:
         """Goes on with files of which a volume has the first parts, or something unfinished, on that volume; gives what is left."""
-        left: List[Job] = []
+        left: List[VolumeJob] = []
         for job in jobs:
             volume = next((volume for volume in self.open if has_begun(volume, job)), None)
             if volume is None:
@@ -90,14 +90,14 @@ class Filler:
                 left += self._plan(volume, [job], partly=onward, onward=onward)
         return left
 
-    def _spill(self, jobs: List[Job]) -> List[Job]:
+    def _spill(self, jobs: List[VolumeJob]) -> List[VolumeJob]:
         """Plans files wherever the first of them fits, else on a new volume; gives those that are left."""
         for volume in list(self.open):
             left = self._plan(volume, jobs)
             if not left or left[0] is not jobs[0]:
                 return left
         # Planned on nothing first, since a volume that was opened for nothing stays.
-        if jobs[0].again().plan(Tree.empty(self.config.capacity, self.config.nodes), True):
+        if jobs[0].again().plan(PlannedTree.empty(self.config.capacity, self.config.nodes), True):
             left = self._plan(self._new(), jobs, partly=True)
             if not left or left[0] is not jobs[0]:
                 return left
@@ -106,7 +106,7 @@ class Filler:
         self.failed(jobs[0], f"{shown_path(jobs[0].source.path)}: does not fit on an empty volume of {self.config.capacity} blocks")
         return jobs[1:]
 
-    def _as_parts(self, job: Job) -> List[Job]:
+    def _as_parts(self, job: VolumeJob) -> List[VolumeJob]:
         """A file that no volume has room for, in parts."""
         try:
             return [job.as_parts()]
@@ -114,7 +114,7 @@ class Filler:
             self.failed(job, str(error))
             return []
 
-    def _plan(self, volume: OpenVolume, jobs: List[Job], partly: bool = False, onward: bool = False) -> List[Job]:
+    def _plan(self, volume: OpenVolume, jobs: List[VolumeJob], partly: bool = False, onward: bool = False) -> List[VolumeJob]:
         """Plans files on a volume as long as they fit; gives those that are left."""
         for index, job in enumerate(jobs):
             self._mark(volume)
@@ -146,7 +146,7 @@ class Filler:
 
     def _new(self) -> OpenVolume:
         """A new volume. Where there are too many open ones, the fullest takes no more."""
-        if len(self.open) >= OPEN_MOST:
+        if len(self.open) >= OPEN_TO_WRITE:
             fullest = max(self.open, key=lambda volume: volume.tree.share())
             for job in self.flush(fullest):
                 self.put(job.source.path[:-1], [job])
@@ -159,7 +159,7 @@ class Filler:
 
     def _full(self, volume: OpenVolume) -> None:
         """Takes a volume as full."""
-        volume.row = volume.row._replace(state=FULL)
+        volume.row = volume.row._replace(state=STATE_FULL)
         self.catalogue.save(volume.row)
         volume.close()
         self.open.remove(volume)
@@ -207,13 +207,13 @@ class Filler:
             if volume.is_full():
                 self._full(volume)
 
-    def flush(self, volume: OpenVolume) -> List[Job]:
+    def flush(self, volume: OpenVolume) -> List[VolumeJob]:
         """Sends what is planned on a volume; gives files for which the medium had no room, which is rarely any."""
         jobs = self.planned.pop(volume.row.number, [])
         self.weights[volume.row.number] = 0
         if not jobs:
             return []
-        done: List[Job] = []
+        done: List[VolumeJob] = []
         full = False
         try:
             for outcome in volume.run(Sending(volume, jobs)):
@@ -228,10 +228,10 @@ class Filler:
         self._keep(volume, done, cut_short(jobs))
         return self._after(volume, jobs, full)
 
-    def _after(self, volume: OpenVolume, jobs: List[Job], full: bool) -> List[Job]:
+    def _after(self, volume: OpenVolume, jobs: List[VolumeJob], full: bool) -> List[VolumeJob]:
         """What is left of jobs that were sent; the volume is read again where not all went as planned."""
         volume.resync()
-        left: List[Job] = []
+        left: List[VolumeJob] = []
         for job in jobs:
             if job.failure is not None:
                 self.failed(job, job.failure)
@@ -247,7 +247,7 @@ class Filler:
             raise VolumeDiffers(f"{volume.row.label}: gave no answer for {plural(len(left), 'file', 'files')}: run the command again")
         return left
 
-    def _take(self, volume: OpenVolume, outcome: Outcome, done: List[Job]) -> None:
+    def _take(self, volume: OpenVolume, outcome: Outcome, done: List[VolumeJob]) -> None:
         """Takes the outcome of a request."""
         operation = outcome.operation
         volume.last_commit = outcome.commit
@@ -264,7 +264,7 @@ class Filler:
         if job.stored():
             done.append(job)
 
-    def _keep(self, volume: OpenVolume, done: List[Job], cut: Sequence[Job] = ()) -> None:
+    def _keep(self, volume: OpenVolume, done: List[VolumeJob], cut: Sequence[VolumeJob] = ()) -> None:
         """Has the catalogue keep what is stored, and then calls whoever deletes sources."""
         if volume.last_commit == volume.row.last_commit:
             return
@@ -283,12 +283,12 @@ class Filler:
         self.kept(whole, sum(sent))
 
 
-def cut_short(jobs: Sequence[Job]) -> List[Job]:
+def cut_short(jobs: Sequence[VolumeJob]) -> List[VolumeJob]:
     """Files of which a volume has only the first parts: what comes next goes on after them."""
     return [job for job in jobs if job.in_parts and job.commit and not job.stored()]
 
 
-def has_begun(volume: OpenVolume, job: Job) -> bool:
+def has_begun(volume: OpenVolume, job: VolumeJob) -> bool:
     """Whether a volume has the first parts of a file, or something unfinished of it."""
     if job.whole is not None:
         return job.volume == volume.row.number

@@ -55,7 +55,7 @@ def literal_end(pattern: str) -> str:
     return pattern[end:]
 
 
-def find(catalogue: Catalogue, pattern: str, any_case: bool = False) -> Iterator[Path]:
+def matching_paths(catalogue: Catalogue, pattern: str, any_case: bool = False) -> Iterator[Path]:
     """The paths that a pattern matches and that have a whole version: a whole path where it begins with a slash, else a name.
 
     `*` is any text, slashes among it, `?` a character, `[..]` one of some. With `any_case` capital and small letters are the same.

@@ -5,8 +5,8 @@ from __future__ import annotations
 from typing import Dict, List, Optional, Tuple
 
 from ..local.sources import Source
-from .catalogue import CLOSED, RETIRED, Catalogue, Held, VolumeRow
-from .job import Job, digest_of
+from .catalogue import STATE_CLOSED, STATE_RETIRED, Catalogue, Held, VolumeRow
+from .job import VolumeJob, digest_of
 from .places import Places
 from .seen import Seen
 
@@ -23,9 +23,9 @@ class Fresh:
         if self.seen is not None:
             self.seen.close()
 
-    def compared(self, source: Source, rows: List[Held]) -> Tuple[Job, List[Held]]:
+    def compared(self, source: Source, rows: List[Held]) -> Tuple[VolumeJob, List[Held]]:
         """A file as it would be stored, and the rows, of those that its path has, which have its size, its moment and its bytes."""
-        job = Job(source)
+        job = VolumeJob(source)
         alike = [row for row in rows if (row.size, row.moment) == (source.identity.size, source.moment())]
         if alike or job.in_parts:
             job.digest = self._digest(source)
@@ -48,15 +48,15 @@ class Fresh:
         if row.noted is not None and (self.again or not row.there or not self._says(row)):
             return False
         volume = self._volume(row.volume)
-        if volume is None or volume.state != CLOSED or volume.trouble is None:
-            return volume is None or volume.state != RETIRED
+        if volume is None or volume.state != STATE_CLOSED or volume.trouble is None:
+            return volume is None or volume.state != STATE_RETIRED
         return self.places.has(source, row, volume)
 
     def _says(self, row: Held) -> bool:
         """Whether the volume with a row's line counts."""
         volume = self._volume(row.written()[0])
-        if volume is None or volume.state != CLOSED or volume.trouble is None:
-            return volume is None or volume.state != RETIRED
+        if volume is None or volume.state != STATE_CLOSED or volume.trouble is None:
+            return volume is None or volume.state != STATE_RETIRED
         return self.places.says(row, volume)
 
     def _volume(self, number: int) -> Optional[VolumeRow]:

@@ -29,7 +29,7 @@ class Wanted(NamedTuple):
     names: RelativePath
 
 
-class Summary:
+class GetSummary:
     """What a run did."""
 
     def __init__(self) -> None:
@@ -66,7 +66,7 @@ def once(files: Iterable[Wanted]) -> List[Wanted]:
     return list(found.values())
 
 
-def is_there(root: Root, want: Wanted) -> bool:
+def has_version(root: Root, want: Wanted) -> bool:
     """Whether the local file has the bytes of a version already, by their count and their SHA-256."""
     held = want.rows[0]
     try:
@@ -84,11 +84,11 @@ class Getter:
 
     def __init__(self, config: Config, catalogue: Catalogue, tell: Tell, force: bool):
         self.config, self.catalogue, self.tell = config, catalogue, tell
-        self.summary = Summary()
+        self.summary = GetSummary()
         self._force = force
         self._reach = Reach(config, catalogue)
 
-    def run(self, files: Sequence[Wanted], folder: str) -> Summary:
+    def run(self, files: Sequence[Wanted], folder: str) -> GetSummary:
         """Copies versions into a folder, volume by volume."""
         mode = self._mode(files)
         with Root.make(folder, folder_mode(mode)) as root, Saver(root, self._force, mode) as saver:
@@ -108,7 +108,7 @@ class Getter:
 
     def _one(self, want: Wanted, saver: Saver) -> None:
         held = want.rows[0]
-        if not self._force and is_there(saver.root, want):
+        if not self._force and has_version(saver.root, want):
             self.summary.same += 1
             # An interrupted run may have given it its name without making that durable.
             saver.folder(want.names[:-1])
@@ -172,4 +172,4 @@ def require_folder(folder: str) -> None:
         raise SourceError(f"{shown(folder)}: is not a folder")
 
 
-__all__ = ["Getter", "Lacking", "Summary", "Wanted", "once", "require_folder", "wanted"]
+__all__ = ["GetSummary", "Getter", "Lacking", "Wanted", "once", "require_folder", "wanted"]

@@ -125,7 +125,7 @@ def as_of(groups: Sequence[List[Held]], moment: Optional[Moment]) -> Optional[Li
     return next((group for group in groups if group[0].version() == there[0][0].version()), None) if there else None
 
 
-def part_count(size: int) -> int:
+def mebibytes_of(size: int) -> int:
     """The mebibytes of a file of this size, the last of which may have fewer bytes."""
     return -(-size // limits.FILE)
 
@@ -139,7 +139,7 @@ def is_whole(group: Sequence[Held]) -> bool:
         if (row.first or 0) > have:
             return False
         have = max(have, (row.first or 0) + (row.parts or 0))
-    return have >= part_count(group[0].size)
+    return have >= mebibytes_of(group[0].size)
 
 
-__all__ = ["Held", "as_of", "below", "folder_back", "folder_text", "held_row", "is_whole", "line_path", "order", "part_count", "path_line", "versions", "volume_and_commit"]
+__all__ = ["Held", "as_of", "below", "folder_back", "folder_text", "held_row", "is_whole", "line_path", "mebibytes_of", "order", "path_line", "versions", "volume_and_commit"]

@@ -16,11 +16,11 @@ from ..protocol import Create, MakeDir, Path, Remove, Rename, limits
 from ..protocol.units import Commit, Moment, Size
 from ..trees.growing import naming, piece_request
 from ..wire.operations import Operation, Whole, now
-from .catalogue import Catalogue, Held, part_count
+from .catalogue import Catalogue, Held, mebibytes_of
 from .contents import Contents, File
-from .names import DESCRIPTION, part_name, spelled, stored_folder
-from .tree import Place, Tree
-from .unfinished import NOTHING, Left, Unfinished
+from .names import DESCRIPTION, spelled, stored_folder, stored_part_name
+from .tree import PlannedTree, StoredPlace
+from .unfinished import NOTHING_LEFT, Left, Unfinished
 
 WRITER = 0
 """The number in the names of unfinished files. It is no client's: a volume has one writer at a time, which goes on with what another left."""
@@ -46,7 +46,7 @@ class Part:
     One above a mebibyte is stored piece by piece under the path `unfinished`, where the volume may have some pieces, `left`, already.
     """
 
-    def __init__(self, place: Place, unfinished: Path, start: int, size: Size, left: Left):
+    def __init__(self, place: StoredPlace, unfinished: Path, start: int, size: Size, left: Left):
         self.place, self.unfinished = place, unfinished
         self.start, self.size, self.left = start, size, left
         self.stored = False
@@ -56,10 +56,10 @@ class Part:
 
     def count(self) -> int:
         """Its pieces."""
-        return max(part_count(self.size), 1)
+        return max(mebibytes_of(self.size), 1)
 
 
-class Job:
+class VolumeJob:
     """A file, or those of its parts that go to one volume.
 
     `first` is the first mebibyte that is sent. Where a volume has parts before it already, `begun` is the first of those, `whole`
@@ -92,28 +92,28 @@ class Job:
 
     def done(self) -> int:
         """The mebibytes of what is stored by now."""
-        return part_count(self.sent_bytes())
+        return mebibytes_of(self.sent_bytes())
 
     def stored(self) -> bool:
         """Whether all that was planned is stored."""
         return self.failure is None and self.commit > 0 and all(part.stored for part in self.parts)
 
-    def rest(self) -> Optional["Job"]:
+    def rest(self) -> Optional["VolumeJob"]:
         """The parts that are not planned here."""
-        first = self.first + part_count(self.planned_bytes())
-        return Job(self.source, self.digest, first, True) if self.in_parts and first < part_count(self.source.identity.size) else None
+        first = self.first + mebibytes_of(self.planned_bytes())
+        return VolumeJob(self.source, self.digest, first, True) if self.in_parts and first < mebibytes_of(self.source.identity.size) else None
 
-    def again(self) -> "Job":
+    def again(self) -> "VolumeJob":
         """What is not stored yet, to be planned anew."""
-        return Job(self.source, self.digest, self.first + (self.done() if self.in_parts else 0), self.in_parts)
+        return VolumeJob(self.source, self.digest, self.first + (self.done() if self.in_parts else 0), self.in_parts)
 
-    def as_parts(self) -> "Job":
+    def as_parts(self) -> "VolumeJob":
         """The same file in parts, since no volume has room for all of it; or `SourceError`, since its digest comes first."""
-        return Job(self.source, self.digest or digest_of(self.source), in_parts=True)
+        return VolumeJob(self.source, self.digest or digest_of(self.source), in_parts=True)
 
     # ---- planned
 
-    def plan(self, tree: Tree, partly: bool, unfinished: Optional[Unfinished] = None) -> bool:
+    def plan(self, tree: PlannedTree, partly: bool, unfinished: Optional[Unfinished] = None) -> bool:
         """Plans the whole file on a volume, or, where that is allowed, as many of its bytes as fit. Whether it was planned.
         `unfinished` has what the volume has that runs left which were cut."""
         if not self.in_parts:
@@ -133,13 +133,13 @@ class Job:
     def key(self, start: Optional[int] = None) -> Path:
         """The path that it has until it is whole, or the part of it that begins with a byte."""
         stored = (PAYLOAD_FOLDER,) + stored_folder(self.source.path[:-1]) + spelled(self.source.path[-1])
-        return unfinished_path(WRITER, stored if start is None else stored + (part_name(start),))
+        return unfinished_path(WRITER, stored if start is None else stored + (stored_part_name(start),))
 
-    def _plan_whole(self, tree: Tree, unfinished: Optional[Unfinished]) -> bool:
-        size, left = self.source.identity.size, NOTHING
+    def _plan_whole(self, tree: PlannedTree, unfinished: Optional[Unfinished]) -> bool:
+        size, left = self.source.identity.size, NOTHING_LEFT
         key = self.key() if size > limits.FILE else ()
         if key and unfinished is not None:
-            left = unfinished.of_file(self.source, key, parts_from(self.source, 0))
+            left = unfinished.of_file(self.source, key, mebibytes_from(self.source, 0))
         place = tree.place(self.source.path[:-1], self.source.path[-1], size, key, left.pieces())
         if place is None:
             return False
@@ -148,7 +148,7 @@ class Job:
             self.commit, self.added = left.commit, left.added
         return True
 
-    def _plan_parts(self, tree: Tree, partly: bool, unfinished: Optional[Unfinished]) -> bool:
+    def _plan_parts(self, tree: PlannedTree, partly: bool, unfinished: Optional[Unfinished]) -> bool:
         at, end = self.first * limits.FILE, self.source.identity.size
         while at < end:
             most = Size(min(end - at, limits.GREATEST_FILE))
@@ -166,17 +166,17 @@ class Job:
             return False
         return True
 
-    def _plan_part(self, tree: Tree, start: int, size: Size, unfinished: Optional[Unfinished]) -> Optional[Part]:
+    def _plan_part(self, tree: PlannedTree, start: int, size: Size, unfinished: Optional[Unfinished]) -> Optional[Part]:
         assert self.whole
-        key, left = self.key(start) if size > limits.FILE else (), NOTHING
+        key, left = self.key(start) if size > limits.FILE else (), NOTHING_LEFT
         if key and unfinished is not None:
-            left = unfinished.of_part(key, parts_from(self.source, start // limits.FILE), size)
+            left = unfinished.of_part(key, mebibytes_from(self.source, start // limits.FILE), size)
         place = tree.place_part(self.whole, start, size, key, left.pieces())
         return None if place is None else Part(place, key, start, size, left)
 
-    def _largest(self, tree: Tree, start: int, most: Size, unfinished: Optional[Unfinished]) -> Optional[Part]:
+    def _largest(self, tree: PlannedTree, start: int, most: Size, unfinished: Optional[Unfinished]) -> Optional[Part]:
         """The greatest part that fits, of whole mebibytes and fewer bytes than this."""
-        low, high = 0, part_count(most) - 1
+        low, high = 0, mebibytes_of(most) - 1
         while low < high:
             middle = (low + high + 1) // 2
             if self._plan_part(tree, start, Size(middle * limits.FILE), unfinished) is None:
@@ -197,7 +197,7 @@ class Job:
                 text = description(self.source, self.digest, self.begun)
                 yield Operation(Create, self.whole + (DESCRIPTION,), self.source.moment(), text, tag=(self, None))
             whole = sha256()
-            with closing(parts_from(self.source, self.first) if self.in_parts else read_parts(self.source)) as pieces:
+            with closing(mebibytes_from(self.source, self.first) if self.in_parts else read_parts(self.source)) as pieces:
                 for part in self.parts:
                     yield from self._folders(part.place.folders)
                     yield from self._pieces(part, pieces, whole)
@@ -280,7 +280,7 @@ def changed(source: Source) -> SourceChanged:
     return SourceChanged(f"{shown(source.local)}: changed while it was read, though its times did not: store it again")
 
 
-def parts_from(source: Source, first: int) -> Generator[bytes, None, None]:
+def mebibytes_from(source: Source, first: int) -> Generator[bytes, None, None]:
     """The mebibytes of a file from one on. Each is given only as long as the file is as it was seen."""
     try:
         descriptor = open_source(source)
@@ -301,13 +301,13 @@ def parts_from(source: Source, first: int) -> Generator[bytes, None, None]:
         raise SourceError(f"{shown(source.local)}: {error.strerror}") from error
 
 
-def same_parts(source: Source, contents: Contents, file: File) -> bool:
+def has_same_parts(source: Source, contents: Contents, file: File) -> bool:
     """Whether the parts that a volume has are those of the file."""
-    with closing(parts_from(source, file.first or 0)) as pieces:
+    with closing(mebibytes_from(source, file.first or 0)) as pieces:
         return all(there == piece for there, piece in zip(contents.pieces(file), pieces))
 
 
-def find_file(contents: Contents, held: Held) -> Optional[File]:
+def file_of_row(contents: Contents, held: Held) -> Optional[File]:
     """A file of a volume by its row; None where the volume does not have it."""
     for file in contents.files():
         if file.commit == held.commit:

@@ -9,9 +9,9 @@ from ..protocol import Path, limits
 from ..protocol.units import Moment
 from .catalogue import Catalogue, Held, image_of, versions
 from .config import config_of, volume_label
-from .deletions import Event, are_known, file_at, files_in, has_below, of_path
+from .deletions import Event, are_known, events_of_path, file_at, files_in, has_below
 from .errors import Lacking
-from .find import find as found_by
+from .find import matching_paths as found_by
 from .names import path_from
 from .tell import Tell, printed_path, shown_path, stamp, tell_of
 
@@ -40,7 +40,7 @@ def long_line(group: List[Held], labels: Dict[int, str], name: str) -> str:
     return f"{held.size:>12} {stamp(held.moment)} {held.sha256.hex()} {where} {name}"
 
 
-class Labels(Dict[int, str]):
+class VolumeLabels(Dict[int, str]):
     """The labels of volumes, by their numbers."""
 
     def __init__(self, catalogue: Catalogue):
@@ -56,7 +56,7 @@ def ls(arguments: argparse.Namespace) -> int:
     config, tell = config_of(arguments), tell_of(arguments)
     path = path_from(arguments.path)
     with Catalogue(config) as catalogue:
-        labels = Labels(catalogue)
+        labels = VolumeLabels(catalogue)
         file = file_at(catalogue, path)
         count = 0
         if file is not None:
@@ -103,7 +103,7 @@ def find(arguments: argparse.Namespace) -> int:
     config, tell = config_of(arguments), tell_of(arguments)
     count = 0
     with Catalogue(config) as catalogue:
-        labels = Labels(catalogue)
+        labels = VolumeLabels(catalogue)
         for path in found_by(catalogue, arguments.pattern, arguments.ignore_case):
             count += 1
             show_found(tell, arguments.long, catalogue, path, labels)
@@ -132,10 +132,10 @@ def history(arguments: argparse.Namespace) -> int:
     """Shows the versions of a file."""
     config, tell = config_of(arguments), tell_of(arguments)
     with Catalogue(config) as catalogue:
-        labels, path = Labels(catalogue), path_from(arguments.path)
+        labels, path = VolumeLabels(catalogue), path_from(arguments.path)
         entries: List[Tuple[Moment, Union[Event, List[Held]]]] = [(max(held.added for held in group), group) for group in groups_of(catalogue, path)]
-        entries += [(event.since, event) for event in of_path(catalogue, path)]
-        for moment, entry in sorted(entries, key=moment_of, reverse=True):
+        entries += [(event.since, event) for event in events_of_path(catalogue, path)]
+        for moment, entry in sorted(entries, key=entry_moment, reverse=True):
             if isinstance(entry, Event):
                 words = "there again" if entry.back else "deleted at its source"
                 tell.say(f"{words}, found {stamp(moment)}", did="back" if entry.back else "gone", path=shown_path(path), since=moment, volume=labels[entry.volume])
@@ -144,7 +144,7 @@ def history(arguments: argparse.Namespace) -> int:
     return 0
 
 
-def moment_of(entry: Tuple[Moment, object]) -> Moment:
+def entry_moment(entry: Tuple[Moment, object]) -> Moment:
     """When something became of a file."""
     return entry[0]
 
@@ -160,7 +160,7 @@ def where(arguments: argparse.Namespace) -> int:
     config, tell = config_of(arguments), tell_of(arguments)
     lacking = 0
     with Catalogue(config) as catalogue:
-        holders, labels = catalogue.holders(), Labels(catalogue)
+        holders, labels = catalogue.holders(), VolumeLabels(catalogue)
         for held in groups_of(catalogue, path_from(arguments.path))[0]:
             row = catalogue.volume(held.volume)
             if row is None and held.noted is None:
@@ -183,7 +183,7 @@ def where(arguments: argparse.Namespace) -> int:
     return 1 if lacking else 0
 
 
-def as_noted(held: Held, labels: Labels) -> Tuple[str, Dict[str, object]]:
+def as_noted(held: Held, labels: VolumeLabels) -> Tuple[str, Dict[str, object]]:
     """What a row says of a file whose bytes another one has, for people and for programs; nothing of others."""
     if held.noted is None:
         return "", {}

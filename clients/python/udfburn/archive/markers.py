@@ -15,10 +15,10 @@ from ..local.sources import shown
 from .contents import ARCHIVE, read_fields
 from .errors import CopyFailed
 
-TITLE = "udfburn-archive copies 1"
+MARKER_TITLE = "udfburn-archive copies 1"
 """The first line of a marker."""
 
-NAME = re.compile(f"udfburn-archive-({ARCHIVE.pattern})[.]txt")
+MARKER_NAME = re.compile(f"udfburn-archive-({ARCHIVE.pattern})[.]txt")
 """The names of markers."""
 
 LONGEST = 4096
@@ -42,7 +42,7 @@ def marker_name(id: str) -> str:
 def marker_text(owner: Owner) -> bytes:
     """The marker of an archive."""
     return (
-        f"{TITLE}\narchive: {owner.id}\nlabel: {owner.label}\n\n"
+        f"{MARKER_TITLE}\narchive: {owner.id}\nlabel: {owner.label}\n\n"
         "udfburn-archive copies volumes to this folder only while this file is in it.\n"
         "It shows that the disk is mounted. Leave it here.\n"
     ).encode()
@@ -54,7 +54,7 @@ def is_same_device(owner: Owner, root: Root) -> bool:
 
 
 @contextmanager
-def opened(folder: str) -> Iterator[Root]:
+def opened_folder(folder: str) -> Iterator[Root]:
     """A folder for copies. `CopyFailed` where it is not there, or the system refuses what is done with it."""
     try:
         root = Root.open(folder)
@@ -81,10 +81,10 @@ def read_marker(root: Root, name: str) -> Dict[str, str]:
     """The fields of a marker; none where it is no marker."""
     with open(root.open_file((name,)), "rb") as file:
         data = file.read(LONGEST)
-    return read_fields(data) if data.startswith(TITLE.encode() + b"\n") else {}
+    return read_fields(data) if data.startswith(MARKER_TITLE.encode() + b"\n") else {}
 
 
-SAME = "is on the same disk as the archive, so its copies are lost with it: mount another disk there. If this is what you want"
+SAME_DISK = "is on the same disk as the archive, so its copies are lost with it: mount another disk there. If this is what you want"
 
 
 def require_outside(owner: Owner, folder: str) -> None:
@@ -96,13 +96,13 @@ def require_outside(owner: Owner, folder: str) -> None:
 
 def require_place(owner: Owner, folder: str) -> None:
     """Raises where a folder is not there, or copies in it would be lost with the archive's own."""
-    with opened(folder) as root:
+    with opened_folder(folder) as root:
         require_outside(owner, folder)
         if is_same_device(owner, root) and not owner.same_device:
-            raise CopyFailed(f"{shown(folder)}: {SAME}, use --same-device")
+            raise CopyFailed(f"{shown(folder)}: {SAME_DISK}, use --same-device")
 
 
-def require_own(owner: Owner, root: Root) -> None:
+def require_taker(owner: Owner, root: Root) -> None:
     """Raises where a folder takes no copies of this archive now, as where its disk is not mounted."""
     folder = root.path
     require_outside(owner, folder)
@@ -112,14 +112,14 @@ def require_own(owner: Owner, root: Root) -> None:
         where = "this folder is on the disk of the archive" if same else "this folder has no marker of the archive"
         raise CopyFailed(f"{shown(folder)}: its disk is not mounted ({where}): mount it. If this is the folder for copies, {words}")
     if same and not owner.same_device:
-        raise CopyFailed(f"{shown(folder)}: {SAME}, {words}")
+        raise CopyFailed(f"{shown(folder)}: {SAME_DISK}, {words}")
 
 
 def write_marker(owner: Owner, folder: str) -> None:
     """Has a folder take copies of this archive from now on."""
     name = marker_name(owner.id)
     new = name + ".new"
-    with opened(folder) as root:
+    with opened_folder(folder) as root:
         if marked(owner.id, root):
             return
         with suppress(FileNotFoundError):
@@ -136,7 +136,7 @@ def write_marker(owner: Owner, folder: str) -> None:
 
 def move_marker(owner: Owner, id: str, folder: str) -> None:
     """Has a folder with the marker of an archive take copies under another id: `rebuild` found that the archive is that one."""
-    with opened(folder) as root:
+    with opened_folder(folder) as root:
         if not marked(owner.id, root):
             return
         write_marker(owner._replace(id=id), folder)
@@ -147,9 +147,9 @@ def move_marker(owner: Owner, id: str, folder: str) -> None:
 def markers_of(label: str, folder: str) -> Set[str]:
     """The ids of the archives with a label that have a marker in a folder."""
     found: Set[str] = set()
-    with opened(folder) as root:
+    with opened_folder(folder) as root:
         for name in root.names_in(()):
-            match = NAME.fullmatch(name)
+            match = MARKER_NAME.fullmatch(name)
             if match is None:
                 continue
             # One that cannot be read is none, and the others are as good without it.
@@ -160,4 +160,4 @@ def markers_of(label: str, folder: str) -> Set[str]:
     return found
 
 
-__all__ = ["Owner", "marker_name", "markers_of", "move_marker", "opened", "require_own", "require_place", "write_marker"]
+__all__ = ["Owner", "marker_name", "markers_of", "move_marker", "opened_folder", "require_place", "require_taker", "write_marker"]

@@ -6,16 +6,16 @@ from typing import Dict, Iterable, List, NamedTuple, Sequence, Tuple
 
 from ..local.saving import require_own, save
 from ..protocol import limits
-from .catalogue import CLOSED, CLOSING, FULL, NEW, OPEN, RETIRED
+from .catalogue import STATE_CLOSED, STATE_CLOSING, STATE_FULL, STATE_NEW, STATE_OPEN, STATE_RETIRED
 from .config import Config
-from .status import KINDS, Incomplete, Line
+from .status import NEED_KINDS, Incomplete, VolumeStatus
 
-BEGIN = b"# HELP udfburn_archive_"
+METRICS_BEGIN = b"# HELP udfburn_archive_"
 """How a file of this module begins."""
 
-STATES = (NEW, OPEN, FULL, CLOSING, CLOSED, "copied", "away", RETIRED)
+METRIC_STATES = (STATE_NEW, STATE_OPEN, STATE_FULL, STATE_CLOSING, STATE_CLOSED, "copied", "away", STATE_RETIRED)
 
-Labels = Tuple[Tuple[str, str], ...]
+MetricLabels = Tuple[Tuple[str, str], ...]
 
 
 class Metric(NamedTuple):
@@ -23,17 +23,17 @@ class Metric(NamedTuple):
 
     name: str
     help: str
-    samples: Sequence[Tuple[Labels, float]]
+    samples: Sequence[Tuple[MetricLabels, float]]
 
 
-def metrics(config: Config, lines: Sequence[Line], lacking: Sequence[Incomplete]) -> List[Metric]:
+def metrics(config: Config, lines: Sequence[VolumeStatus], lacking: Sequence[Incomplete]) -> List[Metric]:
     """What is told of an archive. Times are seconds from 1970 on."""
     needed = [need.kind for line in lines for need in line.needs] + [one.need().kind for one in lacking]
-    closed = [line for line in lines if line.row.state == CLOSED]
+    closed = [line for line in lines if line.row.state == STATE_CLOSED]
     checks = [line.row.checked or line.row.closed or 0 for line in closed if line.at_hand]
     return [
-        Metric("attention", "Things that need somebody, as udfburn-archive status --check lists them.", [((("kind", kind),), needed.count(kind)) for kind in KINDS]),
-        Metric("volumes", "Volumes by their state.", [((("state", state),), sum(line.state == state for line in lines)) for state in STATES]),
+        Metric("attention", "Things that need somebody, as udfburn-archive status --check lists them.", [((("kind", kind),), needed.count(kind)) for kind in NEED_KINDS]),
+        Metric("volumes", "Volumes by their state.", [((("state", state),), sum(line.state == state for line in lines)) for state in METRIC_STATES]),
         Metric("volume_files", "Files on all volumes, where one counts once on each volume that has a part of it, or says which other file has its bytes.", [((), sum(line.row.files for line in lines))]),
         Metric("volume_size_bytes", "Bytes of all images.", [((), sum(line.row.length or line.row.blocks * limits.BLOCK for line in lines))]),
         Metric("copies", "Good copies of closed volumes, by remote.", [((("remote", remote),), len(times)) for remote, times in copies(config, closed)]),
@@ -45,7 +45,7 @@ def metrics(config: Config, lines: Sequence[Line], lacking: Sequence[Incomplete]
     ]
 
 
-def copies(config: Config, closed: Sequence[Line]) -> Iterable[Tuple[str, List[int]]]:
+def copies(config: Config, closed: Sequence[VolumeStatus]) -> Iterable[Tuple[str, List[int]]]:
     """When the good copies on each remote were checked."""
     found: Dict[str, List[int]] = {remote: [] for remote in config.copies}
     for line in closed:
@@ -55,24 +55,24 @@ def copies(config: Config, closed: Sequence[Line]) -> Iterable[Tuple[str, List[i
     return found.items()
 
 
-def text(config: Config, found: Sequence[Metric]) -> str:
+def metrics_text(config: Config, found: Sequence[Metric]) -> str:
     """Metrics as Prometheus reads them. All have the label of the archive."""
     written: List[str] = []
     for metric in found:
         name = f"udfburn_archive_{metric.name}"
         written += [f"# HELP {name} {metric.help}", f"# TYPE {name} gauge"] if metric.samples else []
         for labels, value in metric.samples:
-            words = ",".join(f'{key}="{quoted(value)}"' for key, value in (("archive", config.label), *labels))
+            words = ",".join(f'{key}="{label_value(value)}"' for key, value in (("archive", config.label), *labels))
             written.append(f"{name}{{{words}}} {value:.15g}")
     return "\n".join(written) + "\n"
 
 
-def quoted(value: str) -> str:
+def label_value(value: str) -> str:
     """The value of a label."""
     return value.replace("\\", "\\\\").replace('"', '\\"').replace("\n", "\\n")
 
 
-def write_metrics(config: Config, path: str, lines: Sequence[Line], lacking: Sequence[Incomplete]) -> None:
+def write_metrics(config: Config, path: str, lines: Sequence[VolumeStatus], lacking: Sequence[Incomplete]) -> None:
     """Writes the file, which has its name once it is whole and on the disk. One that is not of this command is left alone."""
-    require_own(path, (BEGIN,), "a file of metrics")
-    save(path, [text(config, metrics(config, lines, lacking)).encode()], None, True, 0o644)
+    require_own(path, (METRICS_BEGIN,), "a file of metrics")
+    save(path, [metrics_text(config, metrics(config, lines, lacking)).encode()], None, True, 0o644)

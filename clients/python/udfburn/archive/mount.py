@@ -10,7 +10,7 @@ from ..base.beneath import mode_for, status_given
 from ..base.errors import MountFailed
 from ..mounting.fuse import require_able, serve
 from ..protocol import as_text, shown
-from .catalogue import NEW, image_of
+from .catalogue import STATE_NEW, image_of
 from .config import Config, config_of
 from .tell import plural, tell_of
 from .view import ArchiveView
@@ -22,7 +22,7 @@ def mount(arguments: argparse.Namespace) -> int:
     require_able(point)
     require_apart(config, point)
     with closing(ArchiveView(config, tell)) as view:
-        volumes = [row for row in view.catalogue.volumes() if row.state != NEW]
+        volumes = [row for row in view.catalogue.volumes() if row.state != STATE_NEW]
         # Nobody may read files who may not read the images that they are in.
         images = (image_of(config, row) for row in volumes)
         mode = mode_for(*(status_given(image) for image in images if image is not None)) & config.mode & 0o444

@@ -27,11 +27,11 @@ ESCAPED = "=="
 DESCRIPTION = "=file.txt"
 """The name of the text that describes a file in parts."""
 
-DEPTH = 9
+STORED_DEPTH = 9
 """Names of a folder of the archive as it is stored, at most. Above are `data` and a version, below are a spread folder, a
 file in parts, which may take a name more, and a part. In older archives a part is in one folder more: 16 names in all."""
 
-PIECE = 240
+NAME_PIECE = 240
 """Bytes of a piece of an escaped name, as it is spelled and in UTF-8, at most."""
 
 SHOWN = 254
@@ -41,7 +41,7 @@ CODED = "%\r\n"
 """Letters that a manifest writes otherwise (RFC 8493 2.1.3), which not all who check a bag know. So no stored name has them."""
 
 SPREAD = re.compile(r"=s([1-9][0-9]*)")
-VERSION = re.compile(r"=v([1-9][0-9]*)")
+VERSION_FOLDER = re.compile(r"=v([1-9][0-9]*)")
 PART = re.compile(r"=([0-9]{15,})")
 HEXED = re.compile(rb"=([0-9A-F]{2})")
 
@@ -56,7 +56,7 @@ def is_plain(name: str) -> bool:
 
 def spelled(name: str) -> Path:
     """The names, one below the other, under which a name is stored: most often itself alone."""
-    return (name,) if is_plain(name) else pieces(tokens(name))
+    return (name,) if is_plain(name) else name_pieces(tokens(name))
 
 
 def tokens(name: str) -> List[str]:
@@ -68,11 +68,11 @@ def tokens(name: str) -> List[str]:
     return found
 
 
-def pieces(parts: Iterable[str]) -> Path:
+def name_pieces(parts: Iterable[str]) -> Path:
     """An escaped name as names that fit. Each but the last ends with `=`."""
     names, piece = [], ESCAPED
     for part in parts:
-        if max(spelled_size(piece + part), len((piece + part).encode())) > PIECE:
+        if max(spelled_size(piece + part), len((piece + part).encode())) > NAME_PIECE:
             names.append(piece + MARK)
             piece = ESCAPED
         piece += part
@@ -106,12 +106,12 @@ def stored_folder(path: Path) -> Path:
     deep, the first names of the path are joined to one escaped name."""
     whole = [spelled(name) for name in path]
     below = [name for names in whole for name in names]
-    if len(below) <= DEPTH:
+    if len(below) <= STORED_DEPTH:
         return tuple(below)
     for count in range(2, len(path) + 1):
-        joined = pieces(token for token in tokens_of_path(path[:count]))
+        joined = name_pieces(token for token in tokens_of_path(path[:count]))
         rest = [name for names in whole[count:] for name in names]
-        if len(joined) + len(rest) <= DEPTH:
+        if len(joined) + len(rest) <= STORED_DEPTH:
             return joined + tuple(rest)
     raise CannotStore(f"{text_of(path)}: the path is too long for a volume, even with its names joined")
 
@@ -140,7 +140,7 @@ def read_back(names: Path) -> Optional[Stored]:
     if not names or names[0] != PAYLOAD_FOLDER:
         return None
     names, version, part = names[1:], 1, None
-    found = VERSION.fullmatch(names[0]) if names else None
+    found = VERSION_FOLDER.fullmatch(names[0]) if names else None
     if found:
         names, version = names[1:], int(found.group(1))
     if names and names[-1] == DESCRIPTION:
@@ -160,7 +160,7 @@ def part_back(names: Path) -> Tuple[Path, Optional[int]]:
     return (names[:-1], int(found.group(1))) if found else older_part(names)
 
 
-def part_name(start: int) -> str:
+def stored_part_name(start: int) -> str:
     """The name of a part in the folder of its file: the byte with which it begins, in fifteen digits and more."""
     return f"={start:015}"
 
@@ -170,7 +170,7 @@ def part_name(start: int) -> str:
 LOW, HIGH = 0xDC80, 0x10FF80
 """Bytes that are not UTF-8 are surrogates in Python, which no database keeps; it has private characters in their place."""
 
-KEPT = {LOW + index: HIGH + index for index in range(128)}
+KEPT_LETTERS = {LOW + index: HIGH + index for index in range(128)}
 BACK = {HIGH + index: LOW + index for index in range(128)}
 
 
@@ -180,7 +180,7 @@ def kept_name(name: str) -> str:
         return name
     if any(HIGH <= ord(character) for character in name):
         raise CannotStore(f"{name!r}: has a private character that the catalogue uses for bytes that are not UTF-8")
-    return name.translate(KEPT)
+    return name.translate(KEPT_LETTERS)
 
 
 def name_back(kept: str) -> str:
@@ -201,4 +201,4 @@ def path_from(text: str) -> Path:
     return names
 
 
-assert 1 + 1 + DEPTH + 1 + 2 + 1 + 1 <= limits.DEPTH
+assert 1 + 1 + STORED_DEPTH + 1 + 2 + 1 + 1 <= limits.DEPTH

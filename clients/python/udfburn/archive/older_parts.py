@@ -11,12 +11,12 @@ from typing import Mapping, Optional, Tuple
 
 from ..protocol import Path, limits
 
-FOLDER = re.compile(r"=p(0|[1-9][0-9]*)")
+PART_FOLDER = re.compile(r"=p(0|[1-9][0-9]*)")
 
 
 def older_part(names: Path) -> Tuple[Path, Optional[int]]:
     """The stored names of a file, and the byte with which the part of it begins that has these names; None where they are no part's."""
-    if len(names) < 2 or not FOLDER.fullmatch(names[-2]) or not (names[-1].isascii() and names[-1].isdigit()):
+    if len(names) < 2 or not PART_FOLDER.fullmatch(names[-2]) or not (names[-1].isascii() and names[-1].isdigit()):
         return names, None
     return names[:-2], int(names[-1]) * limits.FILE
 

@@ -10,7 +10,7 @@ from ..base.beneath import is_own, open_own
 from ..local.sources import Source, shown
 from ..protocol import limits
 from ..protocol.units import Commit
-from .catalogue import CLOSING, FULL, OPEN, Catalogue, Held, VolumeRow
+from .catalogue import STATE_CLOSING, STATE_FULL, STATE_OPEN, Catalogue, Held, VolumeRow
 from .claims import Claims
 from .config import Config
 from .contents import Contents
@@ -19,7 +19,7 @@ from .places import Places
 from .remotes import Remote, remote_of
 from .tell import Tell, size
 
-GROWING = (OPEN, FULL, CLOSING)
+GROWING = (STATE_OPEN, STATE_FULL, STATE_CLOSING)
 """The states of a volume that is not closed and has files."""
 
 
@@ -33,7 +33,7 @@ class Image(NamedTuple):
 
 
 @contextmanager
-def opened(config: Config, row: VolumeRow) -> Iterator[Image]:
+def opened_image(config: Config, row: VolumeRow) -> Iterator[Image]:
     """The image of a volume that nobody else writes, as its disk has it. `VolumeDiffers` where it is another volume, or an older copy."""
     path = config.path("open", row.label + ".img")
     with Contents(path) as contents:
@@ -102,7 +102,7 @@ class OpenCopies:
         """Copies what a volume has more to each remote."""
         if self._commits.get(row.number, -1) >= row.last_commit:
             return
-        with opened(self.config, row) as image:
+        with opened_image(self.config, row) as image:
             for name in self.config.copies:
                 self._told.pop((row.number, name), None)
                 try:
@@ -134,7 +134,7 @@ class OpenCopies:
                 self.tell.note(f"{row.label}: another process is writing it, and its copies were not checked", did="left", volume=row.label)
                 continue
             try:
-                with opened(self.config, row) as image:
+                with opened_image(self.config, row) as image:
                     for name in self.config.copies:
                         self._check(row, image, name)
             except (ArchiveError, OSError) as error:
@@ -203,11 +203,11 @@ class OpenCopies:
     def _why_not_whole(self, commit: int, row: VolumeRow, name: str) -> Optional[str]:
         """Why a remote of rclone does not have all of an image up to a commit."""
         if self._whole.get((row.number, name), -1) < commit:
-            with opened(self.config, row) as image:
+            with opened_image(self.config, row) as image:
                 if self.remote(name).begun(image.descriptor, os.path.basename(image.path), image.length) != image.length:
                     return f"the copy on {name} lacks the newest files"
                 self._whole[row.number, name] = image.last_commit
         return None if self._whole[row.number, name] >= commit else f"the copy on {name} lacks the newest files"
 
 
-__all__ = ["GROWING", "Image", "OpenCopies", "opened"]
+__all__ = ["GROWING", "Image", "OpenCopies", "opened_image"]

@@ -15,7 +15,7 @@ from ..base.own_files import copy_file, from_top, move, set_mode
 from ..base.scratch import room, sweep
 from ..local.sources import shown
 from ..protocol import limits
-from .assemble import PIECE, blocks_at, write_at
+from .assemble import COMPARED_BYTES, blocks_at, write_at
 from .config import Config
 from .errors import ArchiveError, CopyFailed
 from .remote import Print, Remote, last_line, print_of_file
@@ -47,7 +47,7 @@ def parity_beside(image: str) -> List[str]:
     return []
 
 
-def run(words: Sequence[str]) -> "subprocess.CompletedProcess[str]":
+def run_par2(words: Sequence[str]) -> "subprocess.CompletedProcess[str]":
     """Runs par2, which prints nothing but errors. It takes a file's name for an option of its own only before `--`."""
     return subprocess.run([PROGRAM, *words], stdin=subprocess.DEVNULL, capture_output=True, text=True, errors="replace", check=False)
 
@@ -62,7 +62,7 @@ def make(config: Config, image: str, redundancy: int) -> bool:
     sweep(config.folder, config.room_name("parity"))
     with room(config.folder, config.room_name("parity")) as folder:
         base = os.path.dirname(image)
-        done = run(["create", "-q", "-q", f"-s{block_size(os.path.getsize(image))}", f"-r{redundancy}", "-n1", "-B", base, "--", os.path.join(folder, index), image])
+        done = run_par2(["create", "-q", "-q", f"-s{block_size(os.path.getsize(image))}", f"-r{redundancy}", "-n1", "-B", base, "--", os.path.join(folder, index), image])
         names = parity_names(label, os.listdir(folder))
         if done.returncode or len(names) < 2:
             raise ArchiveError(f"{shown(image)}: no parity was made: {last_line(done.stderr + done.stdout) or f'par2 ended with {done.returncode}'}")
@@ -117,7 +117,7 @@ def mended(damaged: str, files: Sequence[str], folder: str, wanted: Print, name:
     copy_readable(damaged, path, wanted.length)
     # The index may be damaged, and any file of parity has what it says.
     for file in sorted(files, key=os.path.getsize):
-        if not run(["repair", "-q", "-q", "-B", folder, "--", file]).returncode and is_own(path) and print_of_file(path, fresh=True) == wanted:
+        if not run_par2(["repair", "-q", "-q", "-B", folder, "--", file]).returncode and is_own(path) and print_of_file(path, fresh=True) == wanted:
             return True
     return False
 
@@ -130,8 +130,8 @@ def copy_readable(source: str, target: str, length: int) -> None:
             place.unlink()
             new = place.root.new_file(place.names, 0o600)
         try:
-            for at in range(0, length, PIECE):
-                found = blocks_at(descriptor, min(PIECE, length - at), at)
+            for at in range(0, length, COMPARED_BYTES):
+                found = blocks_at(descriptor, min(COMPARED_BYTES, length - at), at)
                 sizes = (min(limits.BLOCK, length - at - index * limits.BLOCK) for index in range(len(found)))
                 write_at(new, b"".join(block if block is not None else bytes(size) for block, size in zip(found, sizes)), at)
         finally:

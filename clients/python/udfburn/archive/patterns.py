@@ -5,10 +5,10 @@ from __future__ import annotations
 
 from typing import Iterator, List, NamedTuple, Tuple
 
-ESCAPE = "!"
+LIKE_ESCAPE = "!"
 """What is before a letter of a LIKE that would be a wildcard."""
 
-ASKED = 8
+TRIGRAMS_ASKED = 8
 """The most trigrams of a pattern that are asked for."""
 
 
@@ -28,7 +28,7 @@ def wildcard(pattern: str, at: int) -> Tuple[str, int]:
     return ("?", close + 1) if close >= 0 else ("", at + 1)
 
 
-def pieces(pattern: str) -> Iterator[Piece]:
+def pattern_pieces(pattern: str) -> Iterator[Piece]:
     """The parts of a pattern."""
     run, at = "", 0
     while at < len(pattern):
@@ -47,9 +47,9 @@ def pieces(pattern: str) -> Iterator[Piece]:
 
 def trigrams(pattern: str) -> List[str]:
     """Letters in a row, three each, that all names of the pattern have: some of all its parts, where they are many."""
-    runs = [piece.text for piece in pieces(pattern) if not piece.wild]
+    runs = [piece.text for piece in pattern_pieces(pattern) if not piece.wild]
     found = sorted({run[at : at + 3] for run in runs for at in range(len(run) - 2)})
-    return [found[index * len(found) // ASKED] for index in range(ASKED)] if len(found) > ASKED else found
+    return [found[index * len(found) // TRIGRAMS_ASKED] for index in range(TRIGRAMS_ASKED)] if len(found) > TRIGRAMS_ASKED else found
 
 
 def match(pattern: str) -> str:
@@ -60,13 +60,13 @@ def match(pattern: str) -> str:
 def like(pattern: str) -> str:
     """The pattern for LIKE, with its ESCAPE."""
     wild = {"*": "%", "?": "_"}
-    letters = {letter: ESCAPE + letter for letter in ("%", "_", ESCAPE)}
-    return "".join(wild[piece.text] if piece.wild else "".join(letters.get(letter, letter) for letter in piece.text) for piece in pieces(pattern))
+    letters = {letter: LIKE_ESCAPE + letter for letter in ("%", "_", LIKE_ESCAPE)}
+    return "".join(wild[piece.text] if piece.wild else "".join(letters.get(letter, letter) for letter in piece.text) for piece in pattern_pieces(pattern))
 
 
 def glob(pattern: str) -> str:
     """The pattern for SQLite's GLOB. It has no escape, so a bracket that is a letter is any letter."""
-    return "".join(piece.text if piece.wild else piece.text.replace("[", "?") for piece in pieces(pattern))
+    return "".join(piece.text if piece.wild else piece.text.replace("[", "?") for piece in pattern_pieces(pattern))
 
 
-__all__ = ["ESCAPE", "Piece", "glob", "like", "match", "pieces", "trigrams"]
+__all__ = ["LIKE_ESCAPE", "Piece", "glob", "like", "match", "pattern_pieces", "trigrams"]

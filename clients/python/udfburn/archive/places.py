@@ -11,15 +11,15 @@ from typing import Callable, Dict, Iterator, List, Optional, Sequence, Set
 
 from ..base.beneath import is_own
 from ..local.sources import Source, read_parts, shown
-from .catalogue import CLOSED, RETIRED, Catalogue, Copy, Held, VolumeRow, image_of, odd_image, part_count
+from .catalogue import STATE_CLOSED, STATE_RETIRED, Catalogue, Copy, Held, VolumeRow, image_of, mebibytes_of, odd_image
 from .config import Config
 from .contents import Contents, File
 from .errors import CopyFailed, VolumeDiffers
-from .job import digest_of, same_parts
+from .job import digest_of, has_same_parts
 from .remotes import Print, remote_of
 from .same import rows_on
 
-OPEN_MOST = 4
+OPEN_TO_READ = 4
 """Volumes that are kept open to be read."""
 
 
@@ -63,14 +63,14 @@ class Reading:
         if held.noted is None and file.moment != held.moment:
             return False
         if held.parts is not None:
-            return file.sha256 == held.sha256 and same_parts(source, self.contents, file)
-        return same_bytes(source, self.contents.pieces(file))
+            return file.sha256 == held.sha256 and has_same_parts(source, self.contents, file)
+        return has_same_bytes(source, self.contents.pieces(file))
 
     def close(self) -> None:
         self.contents.close()
 
 
-def same_bytes(source: Source, pieces: Iterator[bytes]) -> bool:
+def has_same_bytes(source: Source, pieces: Iterator[bytes]) -> bool:
     """Whether a source has these bytes, and no others."""
     return all(one == other for one, other in zip_longest(read_parts(source), pieces))
 
@@ -93,7 +93,7 @@ def readable(config: Config, catalogue: Catalogue, volume: VolumeRow) -> List[st
     otherwise, so those of this one are looked at too."""
     image, name = image_of(config, volume), volume.label + ".img"
     found = [] if image is None else [image]
-    if volume.state in (CLOSED, RETIRED):
+    if volume.state in (STATE_CLOSED, STATE_RETIRED):
         copies = sorted(catalogue.copies(volume.number), key=lambda copy: copy.trouble is not None)
         for remote in filter(os.path.isabs, dict.fromkeys([copy.remote for copy in copies] + list(config.copies))):
             path = remote_of(catalogue, remote).path_of(name)
@@ -191,16 +191,16 @@ class Places:
             self._open.pop(image).close()
             reading = None
         if reading is None:
-            if len(self._open) >= OPEN_MOST:
+            if len(self._open) >= OPEN_TO_READ:
                 self._open.pop(next(iter(self._open))).close()
             reading = self._open[image] = Reading(image)
         return reading
 
     def _why_not_remote(self, held: Held, volume: VolumeRow, names: Sequence[str]) -> Optional[str]:
         """Why no remote that is no folder shows that it has a volume."""
-        if volume.state != CLOSED or not names:
+        if volume.state != STATE_CLOSED or not names:
             return f"since {volume.label} is not at hand"
-        if held.parts not in (None, part_count(held.size)):
+        if held.parts not in (None, mebibytes_of(held.size)):
             # Whose parts they are only the bytes of all the volumes say.
             return f"since {volume.label}, which has parts of them, is on {names[0]} alone: 'repair {volume.label}' brings it back"
         if volume.number not in self._said:
@@ -223,9 +223,9 @@ class Places:
     def why_not_copied(self, volume: VolumeRow) -> Optional[str]:
         """Why a volume does not count as copied: each copy that counts is asked now whether it is there, with its length."""
         wanted = self.config.wanted
-        if volume.state == RETIRED:
+        if volume.state == STATE_RETIRED:
             return f"since {volume.label} is retired"
-        if volume.state != CLOSED:
+        if volume.state != STATE_CLOSED:
             return f"until {volume.label} is closed and on {wanted} remotes"
         good: List[Optional[str]] = []
         told: List[str] = []
@@ -260,4 +260,4 @@ class Places:
         return f"the copy on {copy.remote} {why} 'repair {volume.label}'"
 
 
-__all__ = ["Places", "Reading", "readable", "same_bytes"]
+__all__ = ["Places", "Reading", "has_same_bytes", "readable"]

@@ -16,7 +16,7 @@ from .exclude import Rules
 from .fresh import Fresh
 from .job import digest_of
 from .names import kept_name, stored_folder
-from .scan import Found, Walk
+from .scan import ScannedFolder, Walk
 
 
 SAME_AS = "same as"
@@ -57,7 +57,7 @@ class Preview:
             if gone and not walk.faults:
                 yield from self._gone(path)
 
-    def _folder(self, found: Found) -> Iterator[Change]:
+    def _folder(self, found: ScannedFolder) -> Iterator[Change]:
         self._found.update(source.path for source in found.files)
         try:
             stored_folder(found.folder)

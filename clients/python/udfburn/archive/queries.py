@@ -14,11 +14,11 @@ from .catalogue import Catalogue
 from .config import config_of
 from .get import Getter, once, require_folder, wanted
 from .names import path_from
-from .status import STALE, Line, age, incomplete, lines, needed_lines
+from .status import STALE, VolumeStatus, age, incomplete, lines, needed_lines
 from .tell import plural, size, stamp, tell_of
 
 
-def moment_of(text: Optional[str]) -> Optional[Moment]:
+def moment_asked(text: Optional[str]) -> Optional[Moment]:
     """Microseconds of a time that a user writes; without a zone it is UTC, and a date alone is its end."""
     if text is None:
         return None
@@ -37,7 +37,7 @@ def get(arguments: argparse.Namespace) -> int:
     require_folder(arguments.dir)
     with Catalogue(config) as catalogue:
         known = {row.label: row.number for row in catalogue.volumes()}
-        files = once(wanted(catalogue, [path_from(path) for path in arguments.path], moment_of(arguments.as_of)))
+        files = once(wanted(catalogue, [path_from(path) for path in arguments.path], moment_asked(arguments.as_of)))
         tell.begin(len(files), sum(want.rows[0].size for want in files))
         summary = Getter(config, catalogue, tell, arguments.force).run(files, arguments.dir)
         remotes = {label: [copy.remote for copy in catalogue.on_remotes(known[label])] for label in summary.lacking if label in known}
@@ -97,7 +97,7 @@ def status(arguments: argparse.Namespace) -> int:
     return 1 if lost or arguments.check and needed else 0
 
 
-def status_line(line: Line, elsewhere: str) -> str:
+def status_line(line: VolumeStatus, elsewhere: str) -> str:
     """A volume, for people."""
     row = line.row
     full = " ".join(f"{name} {share:.0%}" for name, share in line.fullness.items())
@@ -110,7 +110,7 @@ def status_line(line: Line, elsewhere: str) -> str:
     return words + (f", at {elsewhere}" if elsewhere else "")
 
 
-def status_fields(line: Line, holders: Dict[str, str]) -> Dict[str, object]:
+def status_fields(line: VolumeStatus, holders: Dict[str, str]) -> Dict[str, object]:
     """A volume, for programs."""
     row = line.row
     return {

@@ -57,7 +57,7 @@ def print_of_range(descriptor: int, start: int, end: int) -> Print:
 
 
 @contextmanager
-def fetched(target: Place) -> Iterator[BinaryIO]:
+def new_copy(target: Place) -> Iterator[BinaryIO]:
     """A new file for a copy, which is durable at the end. Where it cannot be whole, nothing is left of it."""
     target.unlink()
     descriptor = target.root.new_file(target.names, 0o600)
@@ -110,7 +110,7 @@ class RcloneRemote(Remote):
             raise
 
     def fetch(self, name: str, target: Place) -> None:
-        with fetched(target) as new:
+        with new_copy(target) as new:
             self._receive(name, new)
 
     def _receive(self, name: str, new: BinaryIO) -> None:
@@ -233,7 +233,7 @@ class RcloneRemote(Remote):
         self._read.add(file)
 
     def fetch_grown(self, name: str, target: Place) -> None:
-        with fetched(target) as new:
+        with new_copy(target) as new:
             for tail in tails_of(name, self.names()):
                 self._receive(tail.name(name), new)
                 if new.tell() != tail.end:

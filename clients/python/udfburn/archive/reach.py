@@ -4,12 +4,12 @@ from __future__ import annotations
 
 from typing import Dict, List, Optional, Sequence, Tuple
 
-from .catalogue import RETIRED, Catalogue, Held, VolumeRow, is_whole
+from .catalogue import STATE_RETIRED, Catalogue, Held, VolumeRow, is_whole
 from .config import Config, volume_label
 from .contents import Contents, File
 from .places import readable
 
-OPEN_MOST = 4
+OPEN_TO_SHOW = 4
 """The volumes that are kept open."""
 
 Way = List[Tuple[Held, str]]
@@ -68,13 +68,13 @@ class Reach:
 
     def _is_sound(self, number: int) -> bool:
         row = self.row(number)
-        return row is not None and row.trouble is None and row.state != RETIRED
+        return row is not None and row.trouble is None and row.state != STATE_RETIRED
 
     def volume(self, image: str) -> Tuple[Contents, Dict[int, File]]:
         """A volume and its files by their commits. A few are kept open: those that were asked for last."""
         found = self._open.pop(image, None)
         if found is None:
-            if len(self._open) >= OPEN_MOST:
+            if len(self._open) >= OPEN_TO_SHOW:
                 self.drop(next(iter(self._open)))
             contents = Contents(image)
             try:

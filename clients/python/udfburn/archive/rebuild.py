@@ -22,15 +22,15 @@ from ..protocol import limits
 from ..wire.operations import now
 from . import same_rows
 from .bag import manifest_size
-from .catalogue import CLOSED, CLOSING, FULL, NEW, OPEN, RETIRED, Catalogue, Copy, Held, VolumeRow
+from .catalogue import STATE_CLOSED, STATE_CLOSING, STATE_FULL, STATE_NEW, STATE_OPEN, STATE_RETIRED, Catalogue, Copy, Held, VolumeRow
 from .claims import claims_of
 from .close import beside, sidecar
 from .config import Config, traces, volume_label
 from .contents import ABOUT, ARCHIVE, About, Contents, about_of, read_fields
-from .deletions import Event, events_on, replace
+from .deletions import Event, events_on, replace_events
 from .errors import ArchiveError, CatalogueError, Claimed, CopyFailed, VolumeDiffers
 from .markers import markers_of, move_marker
-from .remake import NOTHING, Kept
+from .remake import NO_CATALOGUE, KeptCatalogue
 from .remotes import Print, Remote, owner_of, print_of_file, remote_of
 from .same import count_of, rows_on
 from .same_rows import WithoutBytes
@@ -45,7 +45,7 @@ class Difference(NamedTuple):
     how: str
 
 
-class Summary:
+class RebuildSummary:
     """What was found."""
 
     def __init__(self) -> None:
@@ -76,7 +76,7 @@ STDERR = 2
 """The descriptor of the standard error."""
 
 
-class Read(NamedTuple):
+class VolumeRead(NamedTuple):
     """A volume as it was read: what it says of itself, its row but for what only a catalogue knows, and the rows of its files."""
 
     about: About
@@ -86,7 +86,7 @@ class Read(NamedTuple):
     lines: List[Held]
 
 
-def read_volume(image: str, closed: bool, holder: str) -> Optional[Read]:
+def read_volume(image: str, closed: bool, holder: str) -> Optional[VolumeRead]:
     """Reads a volume; None where it holds none of an archive yet. One that cannot be read, or says what no volume says, is `VolumeDiffers`."""
     try:
         return _read_volume(image, closed, holder)
@@ -94,7 +94,7 @@ def read_volume(image: str, closed: bool, holder: str) -> Optional[Read]:
         raise VolumeDiffers(f"{shown(image)}: cannot be read as a volume of an archive ({error})") from error
 
 
-def _read_volume(image: str, closed: bool, holder: str) -> Optional[Read]:
+def _read_volume(image: str, closed: bool, holder: str) -> Optional[VolumeRead]:
     with Contents(image) as contents:
         if (ABOUT,) not in contents.nodes:
             return None
@@ -105,18 +105,18 @@ def _read_volume(image: str, closed: bool, holder: str) -> Optional[Read]:
             if path:
                 names[path[:-1]] = names.get(path[:-1], 0) + 1
         row = VolumeRow(
-            about.number, contents.label, OPEN, holder, contents.capacity, contents.formatted, last_commit=contents.last_commit, files=len(rows) + count_of(lines),
+            about.number, contents.label, STATE_OPEN, holder, contents.capacity, contents.formatted, last_commit=contents.last_commit, files=len(rows) + count_of(lines),
             nodes=len(contents.nodes), blocks=contents.medium.blocks, clients=len(contents.clients()),
             manifest=sum(manifest_size(node.path) for node in contents.payload()), fullest_folder=max(names.values(), default=0),
         )
         # Those that are named may be open ones of another folder.
         if closed and contents.is_bag():
             length, digest = sidecar(image)
-            row = row._replace(state=CLOSED, length=length, sha256=digest, closed=contents.closed())
-        return Read(about, row, rows, events_on(contents, about.number), lines)
+            row = row._replace(state=STATE_CLOSED, length=length, sha256=digest, closed=contents.closed())
+        return VolumeRead(about, row, rows, events_on(contents, about.number), lines)
 
 
-def read_all(wanted: Iterable[Tuple[str, bool]], holder: str, several: bool) -> Generator[Tuple[str, Callable[[], Optional[Read]]], None, None]:
+def read_all(wanted: Iterable[Tuple[str, bool]], holder: str, several: bool) -> Generator[Tuple[str, Callable[[], Optional[VolumeRead]]], None, None]:
     """Reads volumes, some at once where they are several. Each is given with a call that gives what was read, or raises why not."""
     if not several:
         for image, closed in wanted:
@@ -127,7 +127,7 @@ def read_all(wanted: Iterable[Tuple[str, bool]], holder: str, several: bool) -> 
     resource_tracker.ensure_running()
     pool = ProcessPoolExecutor(count, get_context("spawn"), begin_reading)
     try:
-        waiting: Deque[Tuple[str, "Future[Optional[Read]]"]] = deque()
+        waiting: Deque[Tuple[str, "Future[Optional[VolumeRead]]"]] = deque()
         for image, closed in wanted:
             with uninterrupted():
                 waiting.append((image, submitted(pool, image, closed, holder)))
@@ -145,7 +145,7 @@ def read_all(wanted: Iterable[Tuple[str, bool]], holder: str, several: bool) -> 
             reader.join()
 
 
-def submitted(pool: ProcessPoolExecutor, image: str, closed: bool, holder: str) -> "Future[Optional[Read]]":
+def submitted(pool: ProcessPoolExecutor, image: str, closed: bool, holder: str) -> "Future[Optional[VolumeRead]]":
     """Has a reader read a volume. `BrokenProcessPool` if a reader was killed."""
     try:
         return pool.submit(read_volume, image, closed, holder)
@@ -178,7 +178,7 @@ def begin_reading() -> None:
     signal.pthread_sigmask(signal.SIG_UNBLOCK, {signal.SIGINT})
 
 
-def length_of(image: str) -> int:
+def known_length(image: str) -> int:
     """The bytes of an image, where they are known."""
     try:
         return os.path.getsize(image)
@@ -211,9 +211,9 @@ def fetched(remote: Remote, base: str, folder: str) -> str:
 class Rebuilder:
     """A run of `rebuild`."""
 
-    def __init__(self, config: Config, catalogue: Catalogue, tell: Tell, dry_run: bool, kept: Kept = NOTHING):
+    def __init__(self, config: Config, catalogue: Catalogue, tell: Tell, dry_run: bool, kept: KeptCatalogue = NO_CATALOGUE):
         self.config, self.catalogue, self.tell, self.dry_run, self.kept = config, catalogue, tell, dry_run, kept
-        self.summary = Summary()
+        self.summary = RebuildSummary()
         self.claims = claims_of(catalogue.base, config.path("locks"), config.catalogue)
         self._seen: Dict[int, Tuple[int, int]] = {}
         """The moment of the format and the last commit of each volume that was read, by its number."""
@@ -222,13 +222,13 @@ class Rebuilder:
         self._listed: Optional[Dict[str, List[int]]] = None
         """What remotes have, once they were asked."""
 
-    def run(self, others: List[str]) -> Summary:
+    def run(self, others: List[str]) -> RebuildSummary:
         """Reads each volume at hand, and has the catalogue say what it says."""
         found = list(images(self.config, others))
         sweep(self.config.folder, self.config.room_name("rebuild"))
         try:
             self._choose_archive(found)
-            self.tell.begin(0, sum(length_of(image) for image, _ in found))
+            self.tell.begin(0, sum(known_length(image) for image, _ in found))
             self._all(found)
             if not self.dry_run:
                 self._look_on_remotes()
@@ -239,7 +239,7 @@ class Rebuilder:
                 self.summary.without_bytes = same_rows.lacking(self.catalogue)
         finally:
             self.claims.close()
-        self.summary.away = [row.label for row in self.catalogue.volumes() if row.number not in self._seen and row.state != NEW]
+        self.summary.away = [row.label for row in self.catalogue.volumes() if row.number not in self._seen and row.state != STATE_NEW]
         return self.summary
 
     def _all(self, found: List[Tuple[str, bool]]) -> None:
@@ -248,7 +248,7 @@ class Rebuilder:
             with closing(read_all(self._claimed(found), self.config.id, len(found) > 2)) as volumes:
                 for image, read in volumes:
                     try:
-                        with self.tell.portion(length_of(image)):
+                        with self.tell.portion(known_length(image)):
                             self._one(image, read())
                     except CatalogueError:
                         raise
@@ -300,7 +300,7 @@ class Rebuilder:
                     read = read_volume(image, True, self.config.id)
                     if read is None or read.about.number != number:
                         raise VolumeDiffers(f"{remote.name}: {base}: is not this volume, and was left out")
-                    if read.row.state != CLOSED:
+                    if read.row.state != STATE_CLOSED:
                         self._open_copy(image, read)
                         return
                     self._forget_copied(number)
@@ -314,7 +314,7 @@ class Rebuilder:
         except (UdfburnError, ValueError, OverflowError, OSError) as error:
             self.summary.failures.append(str(error))
 
-    def _open_copy(self, image: str, read: Read) -> None:
+    def _open_copy(self, image: str, read: VolumeRead) -> None:
         """Learns the files of a copy of an open volume, where no catalogue says more of it: then its image is lost."""
         number = read.about.number
         known = self.catalogue.volume(number)
@@ -331,7 +331,7 @@ class Rebuilder:
 
     def _take_over(self) -> None:
         """Keeps what could be read of the copies in a damaged catalogue, of the volumes that are known."""
-        closed = {row.number for row in self.catalogue.volumes() if row.state in (CLOSED, RETIRED)}
+        closed = {row.number for row in self.catalogue.volumes() if row.state in (STATE_CLOSED, STATE_RETIRED)}
         have = {(copy.volume, copy.remote) for copy in self.catalogue.copies()}
         for copy in self.kept.copies:
             if copy.volume in closed and (copy.volume, copy.remote) not in have:
@@ -367,7 +367,7 @@ class Rebuilder:
             if (ABOUT,) in contents.nodes and not self.claims.try_volume(contents.about().number):
                 raise Claimed(f"{contents.label}: another process is writing it, so it was left out: run 'rebuild' again")
 
-    def _one(self, image: str, read: Optional[Read]) -> None:
+    def _one(self, image: str, read: Optional[VolumeRead]) -> None:
         """Keeps what was read of a volume; of one that was read before nothing, as of a copy of it."""
         if read is None:
             return
@@ -382,7 +382,7 @@ class Rebuilder:
                 raise VolumeDiffers(f"{shown(image)}: is another state of {read.row.label} than the image that was read before, and was left out")
             return
         known = self.catalogue.of_volume(number)
-        old, closed = self.catalogue.volume(number), read.row.state == CLOSED
+        old, closed = self.catalogue.volume(number), read.row.state == STATE_CLOSED
         is_new, old = old is None and not known, old or self.kept.volumes.get(number)
         if old is not None and not closed and self._is_older(old, read.row):
             raise VolumeDiffers(f"{shown(image)}: is an older copy of {old.label}, which was closed or taken over since, and was left out")
@@ -392,8 +392,8 @@ class Rebuilder:
         else:
             self._compare(read.row.label, known + same_rows.of_volume(self.catalogue.base, number), read.rows + read.lines)
         if not self.dry_run:
-            replace(self.catalogue, number, read.events)
-            same_rows.replace(self.catalogue, number, read.lines)
+            replace_events(self.catalogue, number, read.events)
+            same_rows.replace_lines(self.catalogue, number, read.lines)
             self.catalogue.replace(self._row(read.row, closed, old), read.rows)
         self.summary.volumes += 1
         self.summary.files += read.row.files
@@ -401,7 +401,7 @@ class Rebuilder:
 
     def _is_older(self, old: VolumeRow, row: VolumeRow) -> bool:
         """Whether an open image is not the volume any more: that one was closed, or another folder has it and has filled it since."""
-        return old.state in (CLOSED, RETIRED) or old.holder != self.config.id and row.last_commit < old.last_commit
+        return old.state in (STATE_CLOSED, STATE_RETIRED) or old.holder != self.config.id and row.last_commit < old.last_commit
 
     def _is_ours(self, archive: str) -> bool:
         """Whether a volume is of this archive."""
@@ -478,8 +478,8 @@ class Rebuilder:
         """What the volume says of itself; what it cannot say is kept."""
         if old is None:
             return row
-        state = row.state if closed or old.state not in (FULL, CLOSING) else old.state
-        state = RETIRED if old.state == RETIRED else state
+        state = row.state if closed or old.state not in (STATE_FULL, STATE_CLOSING) else old.state
+        state = STATE_RETIRED if old.state == STATE_RETIRED else state
         row = row._replace(state=state, holder=old.holder, checked=old.checked, data_checked=old.data_checked, trouble=old.trouble)
         return row._replace(closed=old.closed or row.closed) if closed else row._replace(length=old.length, sha256=old.sha256, closed=old.closed)
 

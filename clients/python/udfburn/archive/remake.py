@@ -17,18 +17,18 @@ from ..base.own_files import move
 from ..local.sources import shown
 from ..protocol import limits
 from .base import SqliteBase
-from .catalogue import CLOSED, CLOSING, FULL, NEW, OPEN, RETIRED, VOLUME, Catalogue, Copy, VolumeRow, is_disc_name
+from .catalogue import STATE_CLOSED, STATE_CLOSING, STATE_FULL, STATE_NEW, STATE_OPEN, STATE_RETIRED, VOLUME, Catalogue, Copy, VolumeRow, is_disc_name
 from .config import LOCAL, Config, check_remote, volume_label
 from .contents import ARCHIVE, SIZE
 from .errors import BadConfig, CatalogueError
-from .schema import NUMBERS, VERSION
+from .schema import CATALOGUE_VERSION, NUMBERS
 from .tell import Tell
 
 PERM, BUSY, LOCKED, NOMEM, READONLY, INTERRUPT, IOERR, FULL_DISK, CANTOPEN = 3, 5, 6, 7, 8, 9, 10, 13, 14
 TROUBLES = (PERM, BUSY, LOCKED, NOMEM, INTERRUPT, IOERR, FULL_DISK, CANTOPEN)
 """The errors of SQLite that say nothing about the file itself: the disk, the memory, another process."""
 
-STATES = (NEW, OPEN, FULL, CLOSING, CLOSED, RETIRED)
+VOLUME_STATES = (STATE_NEW, STATE_OPEN, STATE_FULL, STATE_CLOSING, STATE_CLOSED, STATE_RETIRED)
 
 INTEGERS = ("folder", "id", "size", "moment", "added")
 ODD_FILES = " OR ".join(
@@ -49,7 +49,7 @@ ODD_LINES = " OR ".join(
 """What no row of a line is."""
 
 
-class Kept(NamedTuple):
+class KeptCatalogue(NamedTuple):
     """What could still be read of a catalogue that was put aside."""
 
     volumes: Dict[int, VolumeRow]
@@ -58,7 +58,7 @@ class Kept(NamedTuple):
     aside: str
 
 
-NOTHING = Kept({}, [], None, "")
+NO_CATALOGUE = KeptCatalogue({}, [], None, "")
 
 
 # ---- what a row may be
@@ -74,10 +74,10 @@ def is_volume(config: Config, row: VolumeRow) -> bool:
         row.data_checked or 0,
     )
     return (
-        is_count(row.number, NUMBERS) and row.label == volume_label(config.label, row.number) and row.state in STATES and isinstance(row.holder, str)
+        is_count(row.number, NUMBERS) and row.label == volume_label(config.label, row.number) and row.state in VOLUME_STATES and isinstance(row.holder, str)
         and is_count(row.capacity, limits.CAPACITY[1]) and is_count(row.formatted, limits.MOMENT) and all(map(is_count, counts))
         and (row.sha256 is None or isinstance(row.sha256, bytes) and len(row.sha256) == 32) and isinstance(row.trouble or "", str)
-        and (row.state not in (CLOSED, RETIRED) or None not in (row.length, row.sha256, row.closed))
+        and (row.state not in (STATE_CLOSED, STATE_RETIRED) or None not in (row.length, row.sha256, row.closed))
     )
 
 
@@ -118,7 +118,7 @@ def why_odd(config: Config, base: SqliteBase) -> Optional[str]:
     rows = base.run("SELECT id, version, label, next_volume FROM archive")
     if len(rows) != 1 or not isinstance(rows[0][0], str) or not ARCHIVE.fullmatch(rows[0][0]) or not is_count(rows[0][1]) or not is_count(rows[0][3], NUMBERS + 1):
         return "its row of the archive is none"
-    if rows[0][1] != VERSION or rows[0][2] != config.label:
+    if rows[0][1] != CATALOGUE_VERSION or rows[0][2] != config.label:
         # What an older program made is converted; one of another archive is refused.
         return None if isinstance(rows[0][2], str) else "its row of the archive is none"
     for volume in base.run(f"SELECT {VOLUME} FROM volume"):
@@ -142,14 +142,14 @@ def why_odd(config: Config, base: SqliteBase) -> Optional[str]:
 
 # ---- put aside
 
-def open_or_make(config: Config, tell: Tell) -> "Tuple[Catalogue, Kept]":
+def open_or_make(config: Config, tell: Tell) -> "Tuple[Catalogue, KeptCatalogue]":
     """The catalogue; a new one where it is lost. One that is damaged is put aside, with what can still be read of it."""
     path = config.sqlite()
     why = why_broken(config, path) if path is not None and os.path.isfile(path) else None
     if path is None or why is None:
         catalogue = Catalogue(config, make=True)
         catalogue.mend_index()
-        return catalogue, NOTHING
+        return catalogue, NO_CATALOGUE
     # The user may keep it in a folder that a link leads to.
     path = os.path.join(os.path.realpath(os.path.dirname(path)), os.path.basename(path))
     aside = f"{path}.damaged-{time.time_ns()}"
@@ -166,22 +166,22 @@ def open_or_make(config: Config, tell: Tell) -> "Tuple[Catalogue, Kept]":
     return catalogue, kept
 
 
-def open_to_compare(config: Config, tell: Tell) -> "Tuple[Catalogue, Kept]":
+def open_to_compare(config: Config, tell: Tell) -> "Tuple[Catalogue, KeptCatalogue]":
     """The catalogue, for a run that changes nothing. In the place of one that is lost or damaged it is an empty one, which goes with this
     process."""
     path = config.sqlite()
     if path is None:
-        return Catalogue(config), NOTHING
+        return Catalogue(config), NO_CATALOGUE
     why = why_broken(config, path) if os.path.isfile(path) else "it is missing"
     if why is None:
-        return Catalogue(config), NOTHING
+        return Catalogue(config), NO_CATALOGUE
     tell.note(f"{shown(path)}: the catalogue cannot be used ({why}): the volumes are compared with an empty one", did="no catalogue", path=path)
     folder = os.path.realpath(mkdtemp())
     atexit.register(rmtree, folder, ignore_errors=True)
-    return Catalogue(config._replace(catalogue=os.path.join(folder, LOCAL)), make=True), NOTHING
+    return Catalogue(config._replace(catalogue=os.path.join(folder, LOCAL)), make=True), NO_CATALOGUE
 
 
-def read_kept(config: Config, path: str) -> Kept:
+def read_kept(config: Config, path: str) -> KeptCatalogue:
     """What can still be read of a damaged catalogue, by rows that may be rows."""
     volumes: Dict[int, VolumeRow] = {}
     copies: Dict[Tuple[int, str], Copy] = {}
@@ -199,7 +199,7 @@ def read_kept(config: Config, path: str) -> Kept:
             copy = Copy(*row)
             if is_copy(copy) and is_clean(row):
                 copies[copy.volume, copy.remote] = copy
-    return Kept(volumes, list(copies.values()), archive, path)
+    return KeptCatalogue(volumes, list(copies.values()), archive, path)
 
 
 def is_clean(row: Sequence[Any]) -> bool:
@@ -223,4 +223,4 @@ def quoted_path(path: str) -> str:
     return quote(os.fsencode(path))
 
 
-__all__ = ["Kept", "NOTHING", "open_or_make", "open_to_compare", "why_broken"]
+__all__ = ["KeptCatalogue", "NO_CATALOGUE", "open_or_make", "open_to_compare", "why_broken"]

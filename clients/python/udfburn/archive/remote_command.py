@@ -6,7 +6,7 @@ import argparse
 import os
 
 from ..base.errors import UsageError
-from .catalogue import CLOSED, Catalogue
+from .catalogue import Catalogue, STATE_CLOSED
 from .config import Config, change, check_remote, config_of, quoted_list
 from .errors import BadConfig, CopyFailed
 from .markers import require_place, write_marker
@@ -30,7 +30,7 @@ def remote(arguments: argparse.Namespace) -> int:
 
 def listed(config: Config, catalogue: Catalogue, tell: Tell) -> int:
     """Shows each place, whether it is there, and how many of the closed volumes it has."""
-    closed = {row.number for row in catalogue.volumes() if row.state == CLOSED}
+    closed = {row.number for row in catalogue.volumes() if row.state == STATE_CLOSED}
     failures = 0
     for name in config.copies:
         have = sum(1 for copy in catalogue.copies() if copy.remote == name and copy.trouble is None and copy.volume in closed)

@@ -16,7 +16,7 @@ from . import grow
 from .batch import tail_note
 from .catalogue import DISC, Catalogue
 from .errors import CopyFailed
-from .markers import Owner, opened, require_own
+from .markers import Owner, opened_folder, require_taker
 from .rclone import RcloneRemote
 from .remote import UNREADABLE, Print, Remote, failed, forget, print_of, print_of_file, print_of_open
 
@@ -32,23 +32,23 @@ class FolderRemote(Remote):
         self._compared: grow.Compared = {}
 
     def require_own(self) -> None:
-        with opened(self.name) as root:
-            require_own(self.owner, root)
+        with opened_folder(self.name) as root:
+            require_taker(self.owner, root)
 
     def path_of(self, name: str) -> Optional[str]:
         return os.path.join(self.name, name)
 
     def names(self) -> List[str]:
-        with opened(self.name) as root:
+        with opened_folder(self.name) as root:
             found = [(name, root.find((name,))) for name in root.names_in(())]
         return [name for name, status in found if status is not None and stat.S_ISREG(status.st_mode)]
 
     def length(self, name: str) -> Optional[int]:
-        with opened(self.name) as root:
+        with opened_folder(self.name) as root:
             status = root.find((name,))
             if status is None:
                 # Of a disk that is not mounted nothing is known.
-                require_own(self.owner, root)
+                require_taker(self.owner, root)
                 return None
         if not stat.S_ISREG(status.st_mode):
             # A link may lead to the image, or to another copy.
@@ -56,9 +56,9 @@ class FolderRemote(Remote):
         return status.st_size
 
     def send(self, local: str, name: str) -> None:
-        with opened(self.name) as root:
+        with opened_folder(self.name) as root:
             # The marker is in the folder that is written to, so nothing is written where no disk is mounted.
-            require_own(self.owner, root)
+            require_taker(self.owner, root)
             new = Place(root, (name + ".new",))
             try:
                 copy_file(local, new, told=self.told)
@@ -76,12 +76,12 @@ class FolderRemote(Remote):
             raise failed(target.local() if is_full(error) else os.path.join(self.name, name), error) from error
 
     def look(self, name: str) -> Optional[Print]:
-        with opened(self.name) as root:
+        with opened_folder(self.name) as root:
             try:
                 return print_of_open(root.open_file((name,)), fresh=True, told=self.told)
             except FileNotFoundError:
                 # Of a disk that is not mounted nothing is known, and nothing is written in its place.
-                require_own(self.owner, root)
+                require_taker(self.owner, root)
                 return None
             except OSError as error:
                 if error.errno in (errno.EIO, errno.ELOOP, errno.EINVAL):
@@ -92,9 +92,9 @@ class FolderRemote(Remote):
     @contextmanager
     def _copy(self, name: str) -> Iterator[Tuple[Root, Optional[int]]]:
         """The folder, and the descriptor of a copy in it; None where there is none, though the folder takes copies of this archive."""
-        with opened(self.name) as root:
+        with opened_folder(self.name) as root:
             if root.find((name,)) is None:
-                require_own(self.owner, root)
+                require_taker(self.owner, root)
                 yield root, None
                 return
             descriptor = root.open_file((name,))
@@ -104,8 +104,8 @@ class FolderRemote(Remote):
                 os.close(descriptor)
 
     def extend(self, image: int, name: str, length: int) -> int:
-        with opened(self.name) as root:
-            require_own(self.owner, root)
+        with opened_folder(self.name) as root:
+            require_taker(self.owner, root)
             return grow.extend(root, name, image, length, self._compared, self.told)
 
     def begun(self, image: int, name: str, length: int) -> Optional[int]:
@@ -125,12 +125,12 @@ class FolderRemote(Remote):
             raise failed(target.local() if is_full(error) else os.path.join(self.name, name), error) from error
 
     def first_bytes(self, name: str, count: int) -> bytes:
-        with opened(self.name) as root, open(root.open_file((name,)), "rb") as file:
+        with opened_folder(self.name) as root, open(root.open_file((name,)), "rb") as file:
             return file.read(count)
 
     def set_aside(self, name: str, end: str) -> None:
-        with opened(self.name) as root:
-            require_own(self.owner, root)
+        with opened_folder(self.name) as root:
+            require_taker(self.owner, root)
             for each in (name, tail_note(name)):
                 if root.find((each,)) is not None:
                     root.rename((each,), each + end)

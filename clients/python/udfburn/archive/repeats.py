@@ -12,23 +12,23 @@ from .config import Config
 from .content import Content
 from .contents import SAME, TEXT_BYTES
 from .fill import Filler
-from .job import Job, digest_of
-from .same import MOST, Entry, entry, text_size, texts
-from .same_rows import insert, kept_files
+from .job import VolumeJob, digest_of
+from .same import SAME_TEXTS_BYTES, SameEntry, entry, same_texts, text_size
+from .same_rows import insert_lines, kept_files
 from .tell import shown_path
 
-WAITING = 4096
+LINES_WAITING = 4096
 """Files that wait for others, at most: then all that is planned is sent."""
 
 
-class Line(NamedTuple):
+class LineToWrite(NamedTuple):
     """A file that gets a line."""
 
-    job: Job
-    entry: Entry
+    job: VolumeJob
+    entry: SameEntry
 
 
-Written = Callable[[List[Line], Commit, str], None]
+Written = Callable[[List[LineToWrite], Commit, str], None]
 """Is called for files whose lines the catalogue has, with the commit and the label of the volume of their text."""
 
 
@@ -38,23 +38,23 @@ class Repeats:
     def __init__(self, config: Config, catalogue: Catalogue, written: Written, again: bool, trusts: bool):
         self.config, self.catalogue, self.written, self.again, self.trusts = config, catalogue, written, again, trusts
         self.content = Content(config, catalogue)
-        self.left: List[Job] = []
+        self.left: List[VolumeJob] = []
         """Files that waited for another one, which was not stored."""
         self.failures: List[str] = []
-        self._lines: List[Line] = []
+        self._lines: List[LineToWrite] = []
         self._bytes = 0
         self._planned: Dict[Path, int] = {}
         """The sizes of files that are to be stored."""
-        self._unread: Dict[int, Dict[Path, Job]] = {}
+        self._unread: Dict[int, Dict[Path, VolumeJob]] = {}
         """Those of them of which no digest is known, by their sizes."""
         self._read: Dict[int, Dict[bytes, Path]] = {}
         self._digests: Dict[Path, bytes] = {}
-        self._waiting: Dict[Path, List[Job]] = {}
-        self._waits, self._most = 0, WAITING
+        self._waiting: Dict[Path, List[VolumeJob]] = {}
+        self._waits, self._most = 0, LINES_WAITING
 
     # ---- found
 
-    def takes(self, job: Job) -> bool:
+    def takes(self, job: VolumeJob) -> bool:
         """Whether a file gets a line, now or once another file is stored that has its bytes; else it is to be stored."""
         size = job.source.identity.size
         # A line is no shorter than nothing.
@@ -78,7 +78,7 @@ class Repeats:
         self._waits += 1
         return True
 
-    def _has(self, job: Job) -> bool:
+    def _has(self, job: VolumeJob) -> bool:
         """Whether the archive has the bytes of a file, which gets a line then."""
         size = job.source.identity.size
         group = self.content.find(size, job.digest)
@@ -89,11 +89,11 @@ class Repeats:
             held._replace(path=source.path, moment=source.moment(), added=Moment(0), at=held.path, noted=(0, Commit(0))) for held in group
         ]
         found = entry(rows, self.config.label, list(map(self.content.version_there, group)))
-        self._lines.append(Line(job, found))
+        self._lines.append(LineToWrite(job, found))
         self._bytes += len(found.data)
         return True
 
-    def _plan(self, job: Job) -> None:
+    def _plan(self, job: VolumeJob) -> None:
         size = job.source.identity.size
         self._planned[job.source.path] = size
         self._unread.setdefault(size, {})[job.source.path] = job
@@ -108,7 +108,7 @@ class Repeats:
                 self._unread[size].pop(job.source.path, None)
         return self._read.get(size, {}).get(digest)
 
-    def _hash(self, job: Job) -> None:
+    def _hash(self, job: VolumeJob) -> None:
         """Reads a planned file for its digest."""
         size = job.source.identity.size
         digest = job.digest or digest_of(job.source)
@@ -118,16 +118,16 @@ class Repeats:
 
     # ---- what became of planned files
 
-    def kept(self, jobs: Sequence[Job]) -> None:
+    def kept(self, jobs: Sequence[VolumeJob]) -> None:
         """Files were stored: those that waited for them get their lines."""
         for job in jobs:
             self.left += [other for other in self._done(job) if not self._has(other)]
 
-    def failed(self, job: Job) -> None:
+    def failed(self, job: VolumeJob) -> None:
         """A file was not stored."""
         self.left += self._done(job)
 
-    def _done(self, job: Job) -> List[Job]:
+    def _done(self, job: VolumeJob) -> List[VolumeJob]:
         """Forgets a planned file; gives those that wait for it."""
         path = job.source.path
         size = self._planned.pop(path, None)
@@ -166,21 +166,21 @@ class Repeats:
         filler.send()
         lines, self._lines, self._bytes = self._lines, [], 0
         # Those that wait for files of a folder that is being walked still do.
-        self._most = self._waits + WAITING
+        self._most = self._waits + LINES_WAITING
         by_entry = {id(line.entry): line for line in lines}
-        for data, some in texts((line.entry for line in lines), text_size(self.config.capacity)):
+        for data, some in same_texts((line.entry for line in lines), text_size(self.config.capacity)):
             self._write(filler, data, [by_entry[id(each)] for each in some])
 
-    def _write(self, filler: Filler, data: bytes, lines: List[Line]) -> None:
-        volume, commit = filler.write_text(SAME, data, MOST)
+    def _write(self, filler: Filler, data: bytes, lines: List[LineToWrite]) -> None:
+        volume, commit = filler.write_text(SAME, data, SAME_TEXTS_BYTES)
         filler.claims.require()
         rows: List[Held] = [row._replace(noted=(volume.row.number, commit), added=volume.began) for line in lines for row in line.entry.rows]
         volume.row = volume.filled(commit, volume.row.files + len(lines))
         with self.catalogue.base.transaction():
             there = kept_files(self.catalogue.base, {row.target() for row in rows})
-            insert(self.catalogue, rows)
+            insert_lines(self.catalogue, rows)
             self.catalogue.save(volume.row)
-        good: List[Line] = []
+        good: List[LineToWrite] = []
         for line in lines:
             if all(row.target() in there for row in line.entry.rows):
                 good.append(line)
@@ -189,4 +189,4 @@ class Repeats:
         self.written(good, commit, volume.row.label)
 
 
-__all__ = ["Line", "Repeats"]
+__all__ = ["LineToWrite", "Repeats"]

@@ -17,16 +17,16 @@ from .close import beside
 from .config import Config, volume_label
 from .contents import Contents
 from .errors import VolumeDiffers
-from .status import Line, lines
+from .status import VolumeStatus, lines
 from .tell import shown_path
 
-PLACE = "/*DATA*/"
+DATA_PLACE = "/*DATA*/"
 """Where the page has its data."""
 
-BEGIN = b"<!DOCTYPE html>\n<html lang=\"en\">\n"
+PAGE_BEGIN = b"<!DOCTYPE html>\n<html lang=\"en\">\n"
 
 
-def ends(config: Config, line: Line) -> List[Address]:
+def ends(config: Config, line: VolumeStatus) -> List[Address]:
     """The address of the last block of each commit, the format's first; none where nothing of the medium is at hand."""
     found = logged(beside(config.path("closed", line.row.label + ".img"), ".log"))
     image = image_of(config, line.row)
@@ -48,7 +48,7 @@ def logged(log: str) -> List[Address]:
         return []
 
 
-def volume(config: Config, catalogue: Catalogue, line: Line, folders: Dict[str, int]) -> Dict[str, Any]:
+def volume(config: Config, catalogue: Catalogue, line: VolumeStatus, folders: Dict[str, int]) -> Dict[str, Any]:
     """What the page has of a volume. Its files are in lists of one length, in order of their commits."""
     row = line.row
     stored = catalogue.of_volume(row.number)
@@ -81,12 +81,12 @@ def page(config: Config, catalogue: Catalogue) -> str:
     data = {"label": config.label, "made": time.time_ns() // 1000, **counts, "volumes": volumes, "folders": list(folders)}
     # So that no name ends the script.
     text = dumps(data, ensure_ascii=False, separators=(",", ":")).replace("<", "\\u003c").replace("\u2028", "\\u2028")
-    return files(__package__ or "udfburn.archive").joinpath("report.html").read_text("utf-8").replace(PLACE, text)
+    return files(__package__ or "udfburn.archive").joinpath("report.html").read_text("utf-8").replace(DATA_PLACE, text)
 
 
 def write_report(config: Config, catalogue: Catalogue, path: str) -> int:
     """Writes the page, and gives its bytes. A file that is no page of this command is left alone."""
-    require_own(path, (BEGIN,), "a page")
+    require_own(path, (PAGE_BEGIN,), "a page")
     data = page(config, catalogue).encode()
     save(path, [data], None, True, config.mode)
     return len(data)

@@ -19,10 +19,10 @@ from .held import Held, is_whole, line_path, path_line
 from .names import kept_name, read_back, spelled, stored_folder, text_of
 from .schema import COMMITS, NUMBERS
 
-TITLE = "udfburn-archive same 1"
+SAME_TITLE = "udfburn-archive same 1"
 """The first line of a text of such files."""
 
-WORDS = f"""{TITLE}
+WORDS = f"""{SAME_TITLE}
 The archive had the bytes of these files already, so they are not stored again.
 A file has a line with its SHA-256, its size in bytes, its time of modification
 in microseconds from 1970-01-01 UTC, and its path in the archive. Below it is
@@ -33,28 +33,28 @@ its manifest-sha256.txt has it. In paths %25 is a percent sign.
 
 """
 
-MOST = 1 << 26
+SAME_TEXTS_BYTES = 1 << 26
 """Bytes of all texts of a volume, at most. A volume that has as many takes no more of them."""
 
 HEAD = re.compile("([0-9a-f]{64}) ([0-9]{1,19}) ([0-9]{1,19}) (/.+)")
-PLACE = re.compile("([0-9]{6,9}), commit ([0-9]{1,6})(?:, bytes ([0-9]{1,19}) to ([0-9]{1,19}))?: (.+)")
+PLACE_LINE = re.compile("([0-9]{6,9}), commit ([0-9]{1,6})(?:, bytes ([0-9]{1,19}) to ([0-9]{1,19}))?: (.+)")
 
 
-class Entry(NamedTuple):
+class SameEntry(NamedTuple):
     """A file in a text: its rows, one for each volume that has bytes of it, and what the text has."""
 
     rows: List[Held]
     data: bytes
 
 
-def entry(rows: Sequence[Held], label: str, places: Sequence[int]) -> Entry:
+def entry(rows: Sequence[Held], label: str, places: Sequence[int]) -> SameEntry:
     """A file for a text, by its rows and, of each, the number of the version at the path there."""
     held = rows[0]
     lines = [f"{held.sha256.hex()} {held.size} {held.moment} {path_line(held.path)}"]
     for row, version in zip(rows, places):
         path = (PAYLOAD_FOLDER,) + ((f"=v{version}",) if version > 1 else ()) + stored_folder(row.stored_as()[:-1]) + spelled(row.stored_as()[-1])
         lines.append(f"  the same as {volume_label(label, row.volume)}, commit {row.commit}{span(row)}: {path_line(path)[1:]}")
-    return Entry(list(rows), ("\n".join(lines) + "\n").encode())
+    return SameEntry(list(rows), ("\n".join(lines) + "\n").encode())
 
 
 def span(row: Held) -> str:
@@ -70,10 +70,10 @@ def text_size(capacity: int) -> int:
     return min(TEXT_BYTES, capacity * limits.BLOCK // 8)
 
 
-def texts(entries: Iterable[Entry], most: int = TEXT_BYTES) -> Iterator[Tuple[bytes, List[Entry]]]:
+def same_texts(entries: Iterable[SameEntry], most: int = TEXT_BYTES) -> Iterator[Tuple[bytes, List[SameEntry]]]:
     """The texts that have files, each with what it has. None but of a single file has more than so many bytes."""
     data = bytearray(WORDS.encode())
-    some: List[Entry] = []
+    some: List[SameEntry] = []
     for each in entries:
         if some and len(data) + len(each.data) > most:
             yield bytes(data), some
@@ -86,24 +86,24 @@ def texts(entries: Iterable[Entry], most: int = TEXT_BYTES) -> Iterator[Tuple[by
 
 # ---- read back
 
-def read_text(data: bytes, where: str, label: str) -> Iterator[List[Held]]:
+def read_same(data: bytes, where: str, label: str) -> Iterator[List[Held]]:
     """The files of a text of the archive with this label, each with its rows, which lack the text's own commit; `VolumeDiffers` where it is
     no such text."""
     try:
         title, *lines = data.decode().split("\n")
-        if title != TITLE or lines.pop() != "" or "" not in lines:
+        if title != SAME_TITLE or lines.pop() != "" or "" not in lines:
             raise ValueError("it is none")
         rows: List[Held] = []
         head = None
         for line in lines[lines.index("") + 1 :]:
             if not line.startswith("  "):
-                yield from [checked(rows)] if head is not None else []
+                yield from [whole_rows(rows)] if head is not None else []
                 head, rows = head_of(line), []
             elif head is None:
                 raise ValueError(f"{line[:60]!r} belongs to no file")
             else:
-                rows.append(place_of(line, head, label))
-        yield from [checked(rows)] if head is not None else []
+                rows.append(row_of_place(line, head, label))
+        yield from [whole_rows(rows)] if head is not None else []
     except (ValueError, CannotStore) as error:
         raise VolumeDiffers(f"{where}: is no text of files whose bytes are elsewhere ({error})") from error
 
@@ -120,10 +120,10 @@ def head_of(line: str) -> Held:
     return Held(0, Commit(0), path, size, moment, bytes.fromhex(found.group(1)), Moment(0))
 
 
-def place_of(line: str, head: Held, label: str) -> Held:
+def row_of_place(line: str, head: Held, label: str) -> Held:
     """The row of a file, by a line that says where bytes of it are."""
     begin = f"  the same as {label}-"
-    found = PLACE.fullmatch(line[len(begin) :]) if line.startswith(begin) else None
+    found = PLACE_LINE.fullmatch(line[len(begin) :]) if line.startswith(begin) else None
     stored = read_back(line_path("/" + found.group(5))) if found is not None else None
     if found is None or stored is None or stored.part is not None:
         raise ValueError(f"{line[:60]!r} names no file of a volume of {label}")
@@ -138,7 +138,7 @@ def place_of(line: str, head: Held, label: str) -> Held:
     return row._replace(first=start // limits.FILE, parts=-(-end // limits.FILE) - start // limits.FILE)
 
 
-def checked(rows: List[Held]) -> List[Held]:
+def whole_rows(rows: List[Held]) -> List[Held]:
     """The rows of a file, which have all of it, or `ValueError`."""
     if not rows or not is_whole(rows):
         raise ValueError("a file has not all of its bytes anywhere")
@@ -148,13 +148,13 @@ def checked(rows: List[Held]) -> List[Held]:
 def rows_on(contents: Contents, volume: int) -> List[Held]:
     """The rows of all lines that a volume has."""
     nodes = nodes_on(contents)
-    if sum(node.size for node in nodes) > MOST:
-        raise VolumeDiffers(f"{contents.image}: has more than {MOST} bytes of files whose bytes are elsewhere")
+    if sum(node.size for node in nodes) > SAME_TEXTS_BYTES:
+        raise VolumeDiffers(f"{contents.image}: has more than {SAME_TEXTS_BYTES} bytes of files whose bytes are elsewhere")
     found: List[Held] = []
     for node in nodes:
         noted = volume, contents.commit_of(node)
         added = contents.added(noted[1])
-        for rows in read_text(contents.bytes_of(node), f"{contents.image}: {text_of(node.path)}", contents.about().label):
+        for rows in read_same(contents.bytes_of(node), f"{contents.image}: {text_of(node.path)}", contents.about().label):
             found += [row._replace(noted=noted, added=added) for row in rows]
     return found
 
@@ -169,4 +169,4 @@ def count_of(rows: Iterable[Held]) -> int:
     return len({(row.noted, row.path) for row in rows})
 
 
-__all__ = ["Entry", "MOST", "TITLE", "count_of", "entry", "nodes_on", "read_text", "rows_on", "text_size", "texts"]
+__all__ = ["SAME_TEXTS_BYTES", "SAME_TITLE", "SameEntry", "count_of", "entry", "nodes_on", "read_same", "rows_on", "same_texts", "text_size"]

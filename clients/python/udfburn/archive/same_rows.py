@@ -14,7 +14,7 @@ from .schema import COMMITS
 if TYPE_CHECKING:
     from .catalogue import Catalogue
 
-ASKED = 500
+IDS_ASKED = 500
 """Ids that one statement asks for."""
 
 LINE = """same.name, same.volume, same.commit_number, same.size, same.moment, same.sha256, same.added, same.target, same.target_path,
@@ -22,7 +22,7 @@ same.first_part, same.part_count, there.id"""
 THERE = "LEFT JOIN file AS there ON there.id = same.target AND there.size = same.size AND there.sha256 = same.sha256"
 """The file that a line names, where the catalogue has it."""
 
-KEPT = """
+INSERT_LINE = """
 INSERT INTO same (folder, name, volume, commit_number, size, moment, sha256, added, target, target_path, first_part, part_count)
 VALUES (?, ?, ?, ?, ?, ?, ?, ?, ?, ?, ?, ?) ON CONFLICT (folder, name, volume, commit_number, target) DO UPDATE SET size = excluded.size,
 moment = excluded.moment, sha256 = excluded.sha256, added = excluded.added, target_path = excluded.target_path,
@@ -40,10 +40,10 @@ def line_row(folder: Path, row: Row) -> Held:
 
 # ---- kept
 
-def insert(catalogue: "Catalogue", rows: Sequence[Held]) -> None:
+def insert_lines(catalogue: "Catalogue", rows: Sequence[Held]) -> None:
     """Keeps lines. Only inside a transaction."""
     folders = {text: catalogue.folder_id(text) for text in sorted({folder_text(row.path[:-1]) for row in rows})}
-    catalogue.base.many(KEPT, [
+    catalogue.base.many(INSERT_LINE, [
         (
             folders[folder_text(row.path[:-1])], kept_name(row.path[-1]), *row.written(), row.size, row.moment, row.sha256, row.added, row.target(),
             folder_text(row.stored_as()), row.first, row.parts,
@@ -53,7 +53,7 @@ def insert(catalogue: "Catalogue", rows: Sequence[Held]) -> None:
     catalogue.keep_names(rows)
 
 
-def replace(catalogue: "Catalogue", number: int, rows: Sequence[Held]) -> None:
+def replace_lines(catalogue: "Catalogue", number: int, rows: Sequence[Held]) -> None:
     """Has these lines in the place of all that the catalogue had of a volume, as one. Lines that stay as they are are not written."""
     with catalogue.base.transaction():
         old = {held.key(): held._replace(there=True) for held in of_volume(catalogue.base, number)}
@@ -62,18 +62,18 @@ def replace(catalogue: "Catalogue", number: int, rows: Sequence[Held]) -> None:
         statement = "DELETE FROM same WHERE folder = (SELECT id FROM folder WHERE path = ?) AND name = ? AND volume = ? AND commit_number = ? AND target = ?"
         catalogue.base.many(statement, [(folder_text(held.path[:-1]), kept_name(held.path[-1]), *held.written(), held.target()) for held in stale])
         catalogue.forget_names(stale)
-        insert(catalogue, [held for key, held in new.items() if old.get(key) != held])
+        insert_lines(catalogue, [held for key, held in new.items() if old.get(key) != held])
 
 
 # ---- looked up
 
-def in_folder(base: Base, path: Path) -> List[Held]:
+def lines_in_folder(base: Base, path: Path) -> List[Held]:
     """The lines of a folder."""
     rows = base.run(f"SELECT {LINE} FROM folder JOIN same ON same.folder = folder.id {THERE} WHERE folder.path = ?", (folder_text(path),))
     return [line_row(path, row) for row in rows]
 
 
-def of_path(base: Base, path: Path) -> List[Held]:
+def lines_of_path(base: Base, path: Path) -> List[Held]:
     """The lines of a path."""
     statement = f"SELECT {LINE} FROM folder JOIN same ON same.folder = folder.id {THERE} WHERE folder.path = ? AND same.name = ?"
     return [line_row(path[:-1], row) for row in base.run(statement, (folder_text(path[:-1]), kept_name(path[-1])))]
@@ -94,7 +94,7 @@ def last_added(base: Base, path: Path) -> Moment:
     return Moment(int(base.run(statement, (folder_text(path), low, high))[0][0] or 0))
 
 
-def runs(base: Base) -> Iterator[Tuple[Moment, int, Commit]]:
+def line_runs(base: Base) -> Iterator[Tuple[Moment, int, Commit]]:
     """The moments of the runs that wrote lines, with the volume and the commit of the first of each."""
     for added, id in base.run(f"SELECT added, min(volume * {COMMITS} + commit_number) FROM same GROUP BY added, volume"):
         yield (Moment(int(added)), *volume_and_commit(int(id)))
@@ -104,8 +104,8 @@ def of_targets(base: Base, rows: Iterable[Held]) -> List[Held]:
     """The lines that name files of rows."""
     wanted = [row.target() for row in rows]
     found: List[Held] = []
-    for at in range(0, len(wanted), ASKED):
-        some = wanted[at : at + ASKED]
+    for at in range(0, len(wanted), IDS_ASKED):
+        some = wanted[at : at + IDS_ASKED]
         statement = f"SELECT {LINE}, folder.path FROM same JOIN folder ON folder.id = same.folder {THERE} WHERE same.target IN ({', '.join('?' * len(some))})"
         found += [line_row(folder_back(row[-1]), row[:-1]) for row in base.run(statement, some)]
     return found
@@ -121,8 +121,8 @@ def kept_files(base: Base, ids: Set[int]) -> Set[int]:
     """Those of some files that the catalogue has on volumes that count. Only inside a transaction, in which nobody removes them."""
     found: Set[int] = set()
     wanted = sorted(ids)
-    for at in range(0, len(wanted), ASKED):
-        some = wanted[at : at + ASKED]
+    for at in range(0, len(wanted), IDS_ASKED):
+        some = wanted[at : at + IDS_ASKED]
         statement = f"""SELECT file.id FROM file JOIN volume ON volume.number = file.id / {COMMITS}
         WHERE file.id IN ({', '.join('?' * len(some))}) AND volume.state <> 'retired' AND volume.trouble IS NULL{base.for_share}"""
         found |= {int(id) for (id,) in base.run(statement, some)}
@@ -146,17 +146,17 @@ def lacking(catalogue: "Catalogue") -> List[WithoutBytes]:
     found: Dict[int, Set[Path]] = {}
     for row in catalogue.base.run(statement):
         held = line_row(folder_back(row[-1]), row[:-1])
-        if not has_bytes(catalogue, held, retired):
+        if not has_stored_bytes(catalogue, held, retired):
             found.setdefault(held.volume, set()).add(held.path)
     return [WithoutBytes(number, number in retired, len(paths), min(paths)) for number, paths in sorted(found.items())]
 
 
-def has_bytes(catalogue: "Catalogue", held: Held, retired: Set[int]) -> bool:
+def has_stored_bytes(catalogue: "Catalogue", held: Held, retired: Set[int]) -> bool:
     """Whether a version has a row whose bytes are on a volume that counts."""
     rows = [row for row in catalogue.of_path(held.path) if row.version() == held.version() and row.there and row.volume not in retired]
     return bool(rows) and is_whole(rows)
 
 
 __all__ = [
-    "WithoutBytes", "count_named", "in_folder", "insert", "kept_files", "lacking", "last_added", "of_path", "of_targets", "of_volume", "replace", "runs",
+    "WithoutBytes", "count_named", "insert_lines", "kept_files", "lacking", "last_added", "line_runs", "lines_in_folder", "lines_of_path", "of_targets", "of_volume", "replace_lines",
 ]

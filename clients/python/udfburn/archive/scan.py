@@ -14,7 +14,7 @@ from .exclude import Rules
 from .names import path_from, text_of
 
 
-class Found(NamedTuple):
+class ScannedFolder(NamedTuple):
     """A folder of the archive, with the files that are to be in it."""
 
     folder: Path
@@ -37,7 +37,7 @@ class Walk:
         self.empty = 0
         self.left_out: List[Path] = []
 
-    def below(self, local: str, at: Path) -> Iterator[Found]:
+    def below(self, local: str, at: Path) -> Iterator[ScannedFolder]:
         """A file, or a folder and all below it."""
         try:
             place = place_of(local)
@@ -49,18 +49,18 @@ class Walk:
         if stat.S_ISDIR(status.st_mode):
             yield from self._folder(place, at)
         elif stat.S_ISREG(status.st_mode):
-            yield Found(at[:-1], [Source(place, at, FileIdentity.of(status))])
+            yield ScannedFolder(at[:-1], [Source(place, at, FileIdentity.of(status))])
         else:
             self.odd.append(f"{shown(local)}: is {odd(status)}, which is not kept")
 
-    def _folder(self, place: Place, at: Path) -> Iterator[Found]:
+    def _folder(self, place: Place, at: Path) -> Iterator[ScannedFolder]:
         """Folder by folder, the files of each before the folders in it."""
         waiting = [(place, at)]
         while waiting:
             place, at = waiting.pop()
             files, folders = self._names(place, at)
             if files:
-                yield Found(at, files)
+                yield ScannedFolder(at, files)
             waiting += reversed(folders)
 
     def _names(self, place: Place, at: Path) -> Tuple[List[Source], List[Tuple[Place, Path]]]:
@@ -102,14 +102,14 @@ class Walk:
         return is_folder and self._rules.one_file_system and status.st_dev != self._device or self._rules.excludes(place.names[self._top :], is_folder)
 
 
-def targets(locals_: Sequence[str], at: str) -> List[Tuple[str, Path]]:
+def archive_targets(locals_: Sequence[str], at: str) -> List[Tuple[str, Path]]:
     """The path that each local file or folder becomes. One becomes AT; with a slash at its end, or with several, each gets its
     own name below AT. No two become one path, or one a part of the other."""
     names = path_from(at)
     if len(locals_) == 1 and not at.endswith("/"):
         found = [(locals_[0], names)]
     else:
-        found = [(local, names + own_name(local)) for local in locals_]
+        found = [(local, names + top_name(local)) for local in locals_]
     taken: Set[Path] = set()
     for local, path in found:
         if not path and not os.path.isdir(local):
@@ -121,7 +121,7 @@ def targets(locals_: Sequence[str], at: str) -> List[Tuple[str, Path]]:
     return found
 
 
-def own_name(local: str) -> Path:
+def top_name(local: str) -> Path:
     """The name of a local file or folder; none for the root of the system."""
     name = os.path.basename(os.path.abspath(local))
     return (name,) if name else ()

@@ -13,7 +13,7 @@ from __future__ import annotations
 
 from typing import List
 
-VERSION = 7
+CATALOGUE_VERSION = 7
 """The version of the tables that this program reads and writes."""
 
 COMMITS = 1 << 18
@@ -22,7 +22,7 @@ COMMITS = 1 << 18
 NUMBERS = 10**9 - 1
 """The greatest number of a volume."""
 
-FIRST = """
+FIRST_TABLES = """
 CREATE TABLE archive (id {text} PRIMARY KEY, version INTEGER NOT NULL, label {text} NOT NULL, next_volume BIGINT NOT NULL);
 CREATE TABLE holder (id {text} PRIMARY KEY, host {text} NOT NULL, place {text} NOT NULL);
 CREATE TABLE volume (
@@ -147,13 +147,13 @@ UNION ALL SELECT ending, path, -(volume * {COMMITS} + commit_number), part_count
 """
 
 MIGRATIONS = {
-    "sqlite": [FIRST, SECOND_SQLITE, THIRD.rstrip() + " WITHOUT ROWID", FOURTH, FIFTH_SQLITE, SIXTH, SEVENTH_SQLITE],
-    "postgresql": [FIRST, SECOND_POSTGRESQL, THIRD, FOURTH, FIFTH_POSTGRESQL, SIXTH, SEVENTH_POSTGRESQL],
+    "sqlite": [FIRST_TABLES, SECOND_SQLITE, THIRD.rstrip() + " WITHOUT ROWID", FOURTH, FIFTH_SQLITE, SIXTH, SEVENTH_SQLITE],
+    "postgresql": [FIRST_TABLES, SECOND_POSTGRESQL, THIRD, FOURTH, FIFTH_POSTGRESQL, SIXTH, SEVENTH_POSTGRESQL],
 }
 """The statements of an engine that make version n + 1 of version n, from the empty one on."""
 
 
-def statements(engine: str, version: int, text: str, blob: str, serial: str) -> List[str]:
+def upgrade_statements(engine: str, version: int, text: str, blob: str, serial: str) -> List[str]:
     """What makes this program's tables of those of a version, by the words that an engine has for its types."""
     whole = ";\n".join(part.strip() for part in MIGRATIONS[engine][version:])
     return [statement for statement in whole.format(text=text, bytes=blob, serial=serial).split(";\n") if statement.strip()]

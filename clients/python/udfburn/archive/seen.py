@@ -16,9 +16,9 @@ from ..base.beneath import is_own, new_given
 from ..local.sources import Source
 from .config import Config
 
-NAME = "seen.sqlite"
+SEEN_FILE = "seen.sqlite"
 
-WAITING = 500
+FILES_WAITING = 500
 """Files that are kept at once."""
 
 MADE = """
@@ -31,7 +31,7 @@ class Seen:
     """The base of an archive's folder; what cannot be read of it was not seen."""
 
     def __init__(self, config: Config):
-        path = config.path(NAME)
+        path = config.path(SEEN_FILE)
         if not os.path.lexists(path):
             new_given(path, 0o600)
         # A link in its place is not followed: then all files are read.
@@ -66,7 +66,7 @@ class Seen:
     def keep(self, source: Source, digest: bytes) -> None:
         """Keeps the digest of a file, all of which was read just now."""
         self._waiting.append((*key(source), identity_of(source), digest))
-        if len(self._waiting) >= WAITING:
+        if len(self._waiting) >= FILES_WAITING:
             self._flush()
 
     def _flush(self) -> None:
@@ -86,4 +86,4 @@ def identity_of(source: Source) -> str:
     return " ".join(map(str, source.identity))
 
 
-__all__ = ["NAME", "Seen"]
+__all__ = ["SEEN_FILE", "Seen"]

@@ -9,18 +9,18 @@ from ..base.errors import Full
 from ..protocol import Code, Rename
 from ..trees.client import Client
 from ..wire.operations import Operation, Outcome
-from .job import Job, Part
+from .job import Part, VolumeJob
 from .volume import OpenVolume
 
 
 class Sending:
     """Files that were planned on a volume."""
 
-    def __init__(self, volume: OpenVolume, jobs: Sequence[Job]):
+    def __init__(self, volume: OpenVolume, jobs: Sequence[VolumeJob]):
         self.volume, self.jobs = volume, jobs
         self._acknowledged: Dict[Part, int] = {}
-        self._ready: Deque[Tuple[Job, Part]] = deque()
-        self._refused: Set[Job] = set()
+        self._ready: Deque[Tuple[VolumeJob, Part]] = deque()
+        self._refused: Set[VolumeJob] = set()
 
     def size(self) -> int:
         """The bytes that are sent."""

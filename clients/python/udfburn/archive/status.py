@@ -11,13 +11,13 @@ from ..base.errors import UsageError
 
 from ..protocol import limits
 from .batch import sound_length
-from .catalogue import CLOSED, CLOSING, FILE, FULL, NEW, RETIRED, Catalogue, Copy, Held, VolumeRow, folder_back, held_row, image_of, is_whole
+from .catalogue import FILE_COLUMNS, STATE_CLOSED, STATE_CLOSING, STATE_FULL, STATE_NEW, STATE_RETIRED, Catalogue, Copy, Held, VolumeRow, folder_back, held_row, image_of, is_whole
 from .config import Config, volume_label
 from .errors import LOST, VolumeDiffers
 from .same_rows import WithoutBytes
 from .same_rows import lacking as without_bytes
 from .tell import plural, shown_path
-from .tree import MANIFEST, most_nodes
+from .tree import GREATEST_MANIFEST, most_nodes
 from .volume import look
 
 HOUR = 3_600_000_000
@@ -27,7 +27,7 @@ UNITS = {"h": HOUR, "d": 24 * HOUR, "w": 168 * HOUR}
 STALE = 400 * UNITS["d"]
 """Microseconds after which a closed volume or a copy should be looked at again, where no other age is asked for."""
 
-KINDS = (
+NEED_KINDS = (
     "lost", "damaged", "copy_damaged", "not_closed", "not_copied", "not_checked", "copy_not_checked", "older_image", "cut_short", "incomplete",
 )
 """What somebody may be needed for."""
@@ -37,14 +37,14 @@ HURT = ("lost", "damaged", "copy_damaged")
 
 
 class Need(NamedTuple):
-    """Something that needs somebody: one of `KINDS`, what is said of it, and the remote of the copy that it is about."""
+    """Something that needs somebody: one of `NEED_KINDS`, what is said of it, and the remote of the copy that it is about."""
 
     kind: str
     text: str
     remote: str = ""
 
 
-class Line(NamedTuple):
+class VolumeStatus(NamedTuple):
     """A volume: its state, and how full it is in each limit, from 0 to 1."""
 
     row: VolumeRow
@@ -79,7 +79,7 @@ def fullness(row: VolumeRow, nodes: int) -> Dict[str, float]:
     """How full a volume is in each limit, where one of small files takes so many nodes."""
     return {
         "nodes": min(row.nodes / most_nodes(nodes, row.nodes, row.blocks), 1.0), "names": row.fullest_folder / limits.NAMES, "blocks": row.blocks / row.capacity,
-        "clients": row.clients / limits.CLIENTS, "manifest": row.manifest / MANIFEST,
+        "clients": row.clients / limits.CLIENTS, "manifest": row.manifest / GREATEST_MANIFEST,
     }
 
 
@@ -90,12 +90,12 @@ def good(copies: List[Copy], config: Config) -> int:
 
 def is_lost(row: VolumeRow, config: Config, at_hand: bool, place: Optional[str]) -> bool:
     """Whether the image of a volume of this folder is gone, and the user has not put it away."""
-    return row.holder == config.id and not at_hand and place is None and row.state not in (NEW, RETIRED) and (row.files > 0 or row.state == CLOSED)
+    return row.holder == config.id and not at_hand and place is None and row.state not in (STATE_NEW, STATE_RETIRED) and (row.files > 0 or row.state == STATE_CLOSED)
 
 
 def loss(row: VolumeRow, copies: List[Copy], config: Config) -> str:
     """What is said of an image that is lost."""
-    if row.state != CLOSED:
+    if row.state != STATE_CLOSED:
         return "its image is lost, and it was never closed: bring the image back"
     remotes = [copy.remote for copy in copies if copy.trouble is None and copy.remote in config.copies]
     discs = [copy.disc() for copy in copies if copy.trouble is None and copy.disc()]
@@ -109,9 +109,9 @@ def loss(row: VolumeRow, copies: List[Copy], config: Config) -> str:
 
 def state_of(row: VolumeRow, at_hand: bool, copies: int, config: Config, own: bool) -> str:
     """The state as users see it."""
-    if own and not at_hand and row.state not in (NEW, RETIRED):
+    if own and not at_hand and row.state not in (STATE_NEW, STATE_RETIRED):
         return "away"
-    if row.state == CLOSED and config.copies and copies == len(config.copies):
+    if row.state == STATE_CLOSED and config.copies and copies == len(config.copies):
         return "copied"
     return row.state
 
@@ -119,7 +119,7 @@ def state_of(row: VolumeRow, at_hand: bool, copies: int, config: Config, own: bo
 def needs(row: VolumeRow, at_hand: bool, copies: List[Copy], config: Config, now: int, stale: int) -> List[Need]:
     """What needs somebody, by the catalogue. `stale` is the age in microseconds from which a check is too old."""
     found: List[Need] = []
-    if row.state == RETIRED:
+    if row.state == STATE_RETIRED:
         return found
     if row.trouble:
         found.append(Need("damaged", f"{row.trouble}: 'repair {row.label}'"))
@@ -129,10 +129,10 @@ def needs(row: VolumeRow, at_hand: bool, copies: List[Copy], config: Config, now
             found.append(Need("copy_damaged", f"the disc {disc}: {copy.trouble}: 'burn {row.label}' onto another one", copy.remote))
         elif copy.trouble:
             found.append(Need("copy_damaged", f"the copy on {copy.remote}: {copy.trouble}: 'repair {row.label}'", copy.remote))
-    if row.state in (FULL, CLOSING):
+    if row.state in (STATE_FULL, STATE_CLOSING):
         found.append(Need("not_closed", f"is {row.state}: 'close {row.label}'"))
     missing = [remote for remote in config.copies if remote not in [copy.remote for copy in copies]]
-    if row.state == CLOSED and at_hand and missing:
+    if row.state == STATE_CLOSED and at_hand and missing:
         found.append(Need("not_copied", f"is not on {', '.join(missing)}: 'close {row.label}'"))
     return found + unchecked(row, at_hand, copies, now, stale)
 
@@ -141,10 +141,10 @@ def unchecked(row: VolumeRow, at_hand: bool, copies: List[Copy], now: int, stale
     """What was not looked at for longer than an age: a closed image at hand, and its good copies."""
     found: List[Need] = []
     checked = row.checked or row.closed or 0
-    if row.state == CLOSED and at_hand and now - checked > stale:
+    if row.state == STATE_CLOSED and at_hand and now - checked > stale:
         found.append(Need("not_checked", f"was not checked for {days(now - checked)}: 'check {row.label}'"))
     for copy in copies:
-        if row.state == CLOSED and not copy.trouble and now - copy.checked > stale:
+        if row.state == STATE_CLOSED and not copy.trouble and now - copy.checked > stale:
             disc = copy.disc()
             what, how = (f"the disc {disc}", f"'check --disc {disc}'") if disc else (f"the copy on {copy.remote}", f"'check --remotes {row.label}'")
             found.append(Need("copy_not_checked", f"{what} was not checked for {days(now - copy.checked)}: {how}", copy.remote))
@@ -156,7 +156,7 @@ def days(count: int) -> str:
     return plural(count // UNITS["d"], "day", "days") if count >= 2 * UNITS["d"] else plural(count // HOUR, "hour", "hours")
 
 
-def cut_short(config: Config, row: VolumeRow) -> List[Need]:
+def batch_words(config: Config, row: VolumeRow) -> List[Need]:
     """What is to be known of an open image that a batch is being added to, or was when its process was killed."""
     image = image_of(config, row)
     try:
@@ -172,7 +172,7 @@ def cut_short(config: Config, row: VolumeRow) -> List[Need]:
 def damaged(config: Config, row: VolumeRow) -> List[Need]:
     """What is to be known of an open image that no command can fill or close."""
     image = config.path("open", row.label + ".img")
-    if row.holder != config.id or row.state == CLOSED or not os.path.isfile(image):
+    if row.holder != config.id or row.state == STATE_CLOSED or not os.path.isfile(image):
         return []
     found = look(image)
     if found.damaged:
@@ -183,7 +183,7 @@ def damaged(config: Config, row: VolumeRow) -> List[Need]:
     return []
 
 
-def lines(config: Config, catalogue: Catalogue, stale: int = STALE) -> List[Line]:
+def lines(config: Config, catalogue: Catalogue, stale: int = STALE) -> List[VolumeStatus]:
     """All volumes, those that need attention first."""
     copies: Dict[int, List[Copy]] = {}
     for copy in catalogue.copies():
@@ -196,8 +196,8 @@ def lines(config: Config, catalogue: Catalogue, stale: int = STALE) -> List[Line
         state = state_of(row, at_hand, good(have, config), config, own)
         lost = is_lost(row, config, at_hand, places.get(row.number))
         needed = [Need("lost", loss(row, have, config))] if lost else []
-        needed += needs(row, at_hand, have, config, now, stale) + (cut_short(config, row) or damaged(config, row))
-        found.append(Line(row, state, at_hand, fullness(row, config.nodes), have, needed, places.get(row.number)))
+        needed += needs(row, at_hand, have, config, now, stale) + (batch_words(config, row) or damaged(config, row))
+        found.append(VolumeStatus(row, state, at_hand, fullness(row, config.nodes), have, needed, places.get(row.number)))
     return sorted(found, key=lambda line: (not line.needs, line.row.number))
 
 
@@ -216,7 +216,7 @@ class Incomplete(NamedTuple):
 def incomplete(catalogue: Catalogue) -> List[Incomplete]:
     """The files in parts of which the archive lacks some."""
     groups: Dict[object, List[Held]] = {}
-    statement = f"SELECT {FILE}, folder.path FROM file JOIN folder ON folder.id = file.folder WHERE file.part_count IS NOT NULL"
+    statement = f"SELECT {FILE_COLUMNS}, folder.path FROM file JOIN folder ON folder.id = file.folder WHERE file.part_count IS NOT NULL"
     for row in catalogue.base.run(statement):
         held = held_row(folder_back(row[-1]), row[:-1])
         groups.setdefault(held.version(), []).append(held)
@@ -233,6 +233,6 @@ def lacking_words(label: str, one: WithoutBytes) -> str:
     return f"its bytes{others} were stored on {volume_label(label, one.volume)}, which {how}"
 
 
-def needed_lines(found: Sequence[Line], lacking: Sequence[Incomplete]) -> List[str]:
+def needed_lines(found: Sequence[VolumeStatus], lacking: Sequence[Incomplete]) -> List[str]:
     """A line for each thing that needs somebody."""
     return [f"{line.row.label}: {text}" for line in found for text in line.attention] + [f"{one.path}: {one.need().text}" for one in lacking]

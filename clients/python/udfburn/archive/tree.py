@@ -9,7 +9,7 @@ from ..image.blocks import Layout, Reckoner, Space, blocks_for, data_blocks, tab
 from ..protocol import Path, limits
 from ..protocol.units import Address
 from .bag import manifest_size
-from .names import DESCRIPTION, SPREAD, part_name, spelled, stored_folder
+from .names import DESCRIPTION, SPREAD, spelled, stored_folder, stored_part_name
 
 KEPT_NODES = 10
 """Nodes that are kept for what `close` writes and for the next run."""
@@ -17,7 +17,7 @@ KEPT_NODES = 10
 KEPT_NAMES = 9
 """Names that a folder keeps for the folders that spread it: there are at most eight, since a volume has 4,096 nodes."""
 
-MANIFEST = limits.FILE - 1024
+GREATEST_MANIFEST = limits.FILE - 1024
 """Bytes of a manifest, at most."""
 
 SPARE = 64
@@ -27,10 +27,10 @@ SPARE = 64
 ENDING = 34
 """Blocks that are kept for the end of a disc: three copies of the VAT ICB, and what 31 blocks lack to a unit of 32."""
 
-FIRST = Address(262)
+FIRST_BLOCK = Address(262)
 """The first block after a format."""
 
-LARGE = 32
+LARGE_NODE = 32
 """Blocks a node, on average, from which on a volume takes as many nodes as the format allows: what its tables take is little beside them."""
 
 DESCRIBED = 160
@@ -40,14 +40,14 @@ Undo = Tuple[Tuple[Address, int, int, int], List[Path], Dict[Path, Optional[Tupl
 """What is needed to undo a plan: the counts before it, what it named, how the folders of that were laid, and the names of the root."""
 
 
-class Place(NamedTuple):
+class StoredPlace(NamedTuple):
     """Where a file goes: the folders that are made for it, and its own path, which is a folder's where it has parts."""
 
     folders: Tuple[Path, ...]
     path: Path
 
 
-class Tree:
+class PlannedTree:
     """An open volume as it will be when all that was planned is written."""
 
     def __init__(self, space: Space, manifest: int = 0, nodes: int = limits.NODES):
@@ -63,9 +63,9 @@ class Tree:
         self._keep_room()
 
     @staticmethod
-    def empty(capacity: int, nodes: int) -> "Tree":
+    def empty(capacity: int, nodes: int) -> "PlannedTree":
         """A volume right after it was opened."""
-        tree = Tree(Space(capacity, FIRST, {1}), 0, nodes)
+        tree = PlannedTree(Space(capacity, FIRST_BLOCK, {1}), 0, nodes)
         tree.small(("volume.txt",), 2000)
         for folder in ("runs", PAYLOAD_FOLDER):
             tree.reckoner.make((folder,))
@@ -130,7 +130,7 @@ class Tree:
             growing = -(-size // limits.FILE) if size > limits.FILE else 0
             blocks += growing * (table + 2) + (max(parts, 1) * 2 * root + 2 * table if growing else 0) + (parts + 2) * 6 * bool(parts)
             manifest += max(parts, 1) * (base + 2 + sum(len(piece.encode()) for piece in spelled(name))) + 18 * parts + 80 * bool(parts)
-            if nodes > limits.NODES - KEPT_NODES or manifest > MANIFEST:
+            if nodes > limits.NODES - KEPT_NODES or manifest > GREATEST_MANIFEST:
                 return False
         most = most_nodes(self.nodes, nodes, self.space.next + blocks)
         return nodes <= most - KEPT_NODES and self.space.next + blocks + 2 * blocks_for(manifest - self.manifest) + SPARE <= self.space.capacity
@@ -148,20 +148,20 @@ class Tree:
 
     # ---- what is planned
 
-    def place(self, folder: Path, name: str, size: int, unfinished: Path = (), kept: int = 0) -> Optional[Place]:
+    def place(self, folder: Path, name: str, size: int, unfinished: Path = (), kept: int = 0) -> Optional[StoredPlace]:
         """Plans a file in the first version that has its path free; None where it does not fit. One above a mebibyte has the path
         `unfinished` before, at which the volume has so many pieces of it already."""
         whole = self._free(folder, name)
         return None if whole is None else self._plan(whole, size, unfinished, kept)
 
-    def place_in_parts(self, folder: Path, name: str) -> Optional[Place]:
+    def place_in_parts(self, folder: Path, name: str) -> Optional[StoredPlace]:
         """Plans the description of a file in parts, in the same way."""
         whole = self._free(folder, name)
         return None if whole is None else self._plan(whole + (DESCRIPTION,), DESCRIBED)
 
-    def place_part(self, whole: Path, start: int, size: int, unfinished: Path, kept: int) -> Optional[Place]:
+    def place_part(self, whole: Path, start: int, size: int, unfinished: Path, kept: int) -> Optional[StoredPlace]:
         """Plans a part of a file, from a byte of it on, whose folder is there or planned."""
-        return self._plan(logical(whole) + (part_name(start),), size, unfinished, kept)
+        return self._plan(logical(whole) + (stored_part_name(start),), size, unfinished, kept)
 
     def _free(self, folder: Path, name: str) -> Optional[Path]:
         """The path of a file in the first version in which nothing else has it."""
@@ -171,7 +171,7 @@ class Tree:
                 return whole
         return None
 
-    def small(self, path: Path, size: int) -> Optional[Place]:
+    def small(self, path: Path, size: int) -> Optional[StoredPlace]:
         """Plans a small file of this program's own."""
         return self._plan(path, size)
 
@@ -179,7 +179,7 @@ class Tree:
         """Whether something has this path, or a file is where a folder of it would be."""
         return self.at(whole) is not None or any(self.at(whole[:depth]) is False for depth in range(1, len(whole)))
 
-    def _plan(self, whole: Path, size: int, unfinished: Path = (), kept: int = 0) -> Optional[Place]:
+    def _plan(self, whole: Path, size: int, unfinished: Path = (), kept: int = 0) -> Optional[StoredPlace]:
         """Plans the folders above and the file; None where a limit would be passed, and then nothing is planned."""
         before = self._kept()
         made: List[Path] = []
@@ -193,8 +193,8 @@ class Tree:
             fits = (self.reckoner.grow(last, size, kept, unfinished, False) if grows else self.reckoner.create(last, size)) and fits
             self.manifest += manifest_size(last) if whole[0] == PAYLOAD_FOLDER else 0
             self._keep_room()
-            if fits and self.space.nodes <= self.most_nodes() - KEPT_NODES and self.manifest <= MANIFEST and self.space.next <= self.space.capacity:
-                return Place(tuple(made), last)
+            if fits and self.space.nodes <= self.most_nodes() - KEPT_NODES and self.manifest <= GREATEST_MANIFEST and self.space.next <= self.space.capacity:
+                return StoredPlace(tuple(made), last)
         self.back()
         return None
 
@@ -230,7 +230,7 @@ class Tree:
 
     def share(self) -> float:
         """How full it is, in the limit that is nearest: from 0 to 1."""
-        return max(self.space.next / max(self.space.capacity, 1), self.space.nodes / (self.most_nodes() - KEPT_NODES), self.manifest / MANIFEST)
+        return max(self.space.next / max(self.space.capacity, 1), self.space.nodes / (self.most_nodes() - KEPT_NODES), self.manifest / GREATEST_MANIFEST)
 
     def _step(self, logic: Path, is_folder: bool, made: List[Path]) -> Optional[Path]:
         """The actual path of a name, which is put where there is room for it."""
@@ -254,7 +254,7 @@ class Tree:
 
 def most_nodes(small: int, nodes: int, blocks: int) -> int:
     """The nodes that a volume with so many nodes and blocks takes: with small files so many, since each commit writes a table of all."""
-    return small if blocks < LARGE * nodes else limits.NODES
+    return small if blocks < LARGE_NODE * nodes else limits.NODES
 
 
 def kept_layout(layout: Optional[Layout]) -> Optional[Tuple[int, int, int]]:

@@ -15,7 +15,7 @@ from ..local.sources import Source
 from ..protocol import Path
 from ..protocol.units import Commit, Moment
 from ..trees.growing import may_go_on
-from .catalogue import Catalogue, part_count
+from .catalogue import Catalogue, mebibytes_of
 from .contents import Contents
 
 
@@ -35,10 +35,10 @@ class Left(NamedTuple):
 
     def is_whole(self, size: int) -> bool:
         """Whether nothing but its name is left to be given to a file of this size."""
-        return 0 < self.pieces() == part_count(size)
+        return 0 < self.pieces() == mebibytes_of(size)
 
 
-NOTHING, OTHERS = Left(), Left(others=True)
+NOTHING_LEFT, OTHERS = Left(), Left(others=True)
 
 
 class Unfinished:
@@ -59,7 +59,7 @@ class Unfinished:
         with closing(pieces):
             there = self.sizes.get(path)
             if there is None:
-                return NOTHING
+                return NOTHING_LEFT
             if not may_go_on(there, size):
                 return OTHERS
             if path not in self._found:
@@ -92,4 +92,4 @@ class Unfinished:
             return Left(tuple(digests), False, node.moment or Moment(0), commit, contents.added(commit))
 
 
-__all__ = ["Left", "NOTHING", "Unfinished"]
+__all__ = ["Left", "NOTHING_LEFT", "Unfinished"]

@@ -15,18 +15,18 @@ from ..mounting.shown_tree import NoMedium, ShownFile, ShownFolder, ShownItem, S
 from ..protocol import Path
 from ..protocol.units import Commit, Moment
 from . import same_rows
-from .catalogue import NEW, Catalogue, Held, below, folder_text, versions, volume_and_commit
+from .catalogue import STATE_NEW, Catalogue, Held, below, folder_text, versions, volume_and_commit
 from .config import Config
-from .deletions import Event, are_known, in_folder, of_path, present, runs
+from .deletions import Event, are_known, deletion_runs, events_in_folder, events_of_path, present
 from .errors import CannotStore, CatalogueLost, VolumeDiffers
 from .names import kept_name
 from .reach import Reach, Way
 from .schema import COMMITS
 from .tell import Tell, printed_path, shown_path
 
-LATEST, VOLUMES, RUNS = b"latest", b"volumes", b"runs"
+LATEST_NAME, VOLUMES_NAME, RUNS_NAME = b"latest", b"volumes", b"runs"
 
-PATIENCE = 1.0
+LOOKED_AT_AGAIN = 1.0
 """Seconds after which it is looked again where volumes are."""
 
 TREES = 4
@@ -45,13 +45,13 @@ class ArchiveView(ShownFolder):
     def __init__(self, config: Config, tell: Tell):
         self.config, self.tell = config, tell
         self._open()
-        rows = [row for row in self.catalogue.volumes() if row.state != NEW]
+        rows = [row for row in self.catalogue.volumes() if row.state != STATE_NEW]
         self.labels = {os.fsencode(row.label): row.number for row in rows}
         self._limits = {row.number: row.last_commit for row in rows}
         self.moment = Moment(int(time.time() * 1_000_000))
         self._runs: Optional[Dict[bytes, Moment]] = None
         self._events: Optional[bool] = None
-        self._trees: "OrderedDict[int, Tree]" = OrderedDict()
+        self._trees: "OrderedDict[int, NewestTree]" = OrderedDict()
         self._twice: Dict[Path, None] = {}
 
     def _open(self) -> None:
@@ -66,7 +66,7 @@ class ArchiveView(ShownFolder):
 
     def base(self) -> Catalogue:
         """The catalogue. Where its server was lost, it is asked for again."""
-        if time.monotonic() - self._looked > PATIENCE:
+        if time.monotonic() - self._looked > LOOKED_AT_AGAIN:
             self._looked = time.monotonic()
             self.reach.look_again()
             try:
@@ -77,7 +77,7 @@ class ArchiveView(ShownFolder):
         return self.catalogue
 
     def names(self) -> Dict[bytes, ShownItem]:
-        return {LATEST: State(self, None, ()), VOLUMES: Volumes(self), RUNS: Runs(self)}
+        return {LATEST_NAME: FolderState(self, None, ()), VOLUMES_NAME: Volumes(self), RUNS_NAME: Runs(self)}
 
     def shown(self, rows: Iterable[Held]) -> List[List[Held]]:
         """The versions that were there at the mount, the newest first."""
@@ -92,7 +92,7 @@ class ArchiveView(ShownFolder):
         if self._runs is None:
             statement = f"SELECT added, min(id) FROM file GROUP BY added, id / {COMMITS}"
             moments = {Moment(int(added)) for added, id in self.base().base.run(statement) if self.was_there(*volume_and_commit(int(id)))}
-            for others in (runs(self.base()), same_rows.runs(self.base().base)):
+            for others in (deletion_runs(self.base()), same_rows.line_runs(self.base().base)):
                 moments |= {since for since, volume, commit in others if self.was_there(volume, commit)}
             self._runs = {run_name(moment).encode(): moment for moment in sorted(moments)}
         return self._runs
@@ -118,7 +118,7 @@ class ArchiveView(ShownFolder):
     def files_in(self, path: Path, moment: Optional[Moment]) -> Dict[str, List[Held]]:
         """The files of a folder that were there at a moment, or are."""
         catalogue = self.base()
-        events = in_folder(catalogue, path) if self.has_events() else {}
+        events = events_in_folder(catalogue, path) if self.has_events() else {}
         found = {name: self.there(rows, events.get(name, ()), moment) for name, rows in catalogue.in_folder(path).items()}
         return {name: group for name, group in found.items() if group is not None}
 
@@ -126,12 +126,12 @@ class ArchiveView(ShownFolder):
         """The version of a path that was there at a moment, or is."""
         return present(self.shown(rows), [event for event in events if self.was_there(event.volume, event.commit)], moment)
 
-    def tree(self, number: int) -> "Tree":
+    def tree(self, number: int) -> "NewestTree":
         """The paths of a volume. A few are kept."""
         if number not in self._trees:
             if len(self._trees) >= TREES:
                 self._trees.popitem(last=False)
-            self._trees[number] = Tree(self, number)
+            self._trees[number] = NewestTree(self, number)
         self._trees.move_to_end(number)
         return self._trees[number]
 
@@ -146,7 +146,7 @@ class ArchiveView(ShownFolder):
                 self.tell.note(f"{printed_path(path + (name,))}: is a file and a folder: the folder is shown, and 'get' has both", did="twice", path=shown_path(path + (name,)))
 
 
-class State(ShownFolder):
+class FolderState(ShownFolder):
     """A folder of the archive as it is, or as it was at a moment."""
 
     def __init__(self, view: ArchiveView, at: Optional[Moment], path: Path):
@@ -156,7 +156,7 @@ class State(ShownFolder):
     def names(self) -> Dict[bytes, ShownItem]:
         catalogue = self.view.base()
         folders = [name for name in catalogue.children(self.path) if self.view.has_below(self.path + (name,), self.at)]
-        found: Dict[bytes, ShownItem] = {os.fsencode(name): State(self.view, self.at, self.path + (name,)) for name in folders}
+        found: Dict[bytes, ShownItem] = {os.fsencode(name): FolderState(self.view, self.at, self.path + (name,)) for name in folders}
         files = self.view.files_in(self.path, self.at)
         found.update((os.fsencode(name), ArchiveFile(self.view, files[name])) for name in self.view.without_doubles(self.path, files, folders))
         return found
@@ -168,8 +168,8 @@ class State(ShownFolder):
         except CannotStore:
             return None
         if self.view.has_below(path, self.at):
-            return State(self.view, self.at, path)
-        events = of_path(self.view.base(), path) if self.view.has_events() else []
+            return FolderState(self.view, self.at, path)
+        events = events_of_path(self.view.base(), path) if self.view.has_events() else []
         group = self.view.there(self.view.base().of_path(path), events, self.at)
         return None if group is None else ArchiveFile(self.view, group)
 
@@ -181,11 +181,11 @@ class Runs(ShownFolder):
         self.view, self.moment = view, view.moment
 
     def names(self) -> Dict[bytes, ShownItem]:
-        return {name: State(self.view, moment, ()) for name, moment in self.view.runs().items()}
+        return {name: FolderState(self.view, moment, ()) for name, moment in self.view.runs().items()}
 
     def find(self, name: bytes) -> Optional[ShownItem]:
         moment = self.view.runs().get(name)
-        return None if moment is None else State(self.view, moment, ())
+        return None if moment is None else FolderState(self.view, moment, ())
 
 
 class Volumes(ShownFolder):
@@ -198,7 +198,7 @@ class Volumes(ShownFolder):
         return {name: OnVolume(self.view, number, ()) for name, number in self.view.labels.items()}
 
 
-class Tree:
+class NewestTree:
     """The newest versions of paths that have bytes on a volume, by their folders."""
 
     def __init__(self, view: ArchiveView, number: int):

@@ -22,16 +22,16 @@ from ..wire.operations import Operation, Outcome, now
 from . import same_rows
 from .bag import manifest_size
 from .batch import Batch, NoBatch, cut_tail, has_room, is_worth, memory_folder, sound_length
-from .catalogue import NEW, OPEN, Catalogue, VolumeRow, image_of, is_whole
+from .catalogue import STATE_NEW, STATE_OPEN, Catalogue, VolumeRow, image_of, is_whole
 from .claims import Claims
 from .config import Config, traces, volume_label
 from .contents import ABOUT, GONE, RUNS, SAME, TITLE, Contents, File
-from .deletions import events_on, replace
+from .deletions import events_on, replace_events
 from .errors import LOST, CatalogueError, VolumeDiffers
 from .same import count_of, rows_on
 from .schema import NUMBERS
 from .tell import plural, stamp
-from .tree import Tree
+from .tree import PlannedTree
 from .unfinished import Unfinished
 
 if TYPE_CHECKING:
@@ -97,7 +97,7 @@ class OpenVolume:
         self.marker: Optional[Operation] = None
         self._sent = False
         self.began, self.last_commit, self.runs = Moment(0), Commit(0), 0
-        self.tree = Tree(Space(row.capacity, Address(row.capacity), set()))
+        self.tree = PlannedTree(Space(row.capacity, Address(row.capacity), set()))
         self.unfinished = Unfinished(self.image, catalogue, {})
         self.texts: Dict[str, int] = {}
         """The bytes of this program's own texts, by their folder."""
@@ -106,7 +106,7 @@ class OpenVolume:
 
     def make(self) -> None:
         """Makes the image of a new volume, where it is not there. It gets its name once it is a volume."""
-        if self.row.state != NEW or os.path.lexists(self.image):
+        if self.row.state != STATE_NEW or os.path.lexists(self.image):
             return
         new = self.image + ".new"
         for left in (new, self.ledger):
@@ -194,7 +194,7 @@ class OpenVolume:
         self.tree = self._tree(contents)
         self.unfinished = Unfinished(self.image, self.catalogue, left_in(contents))
         self.texts = {folder: sum(node.size for path, node in contents.nodes.items() if len(path) == 2 and path[0] == folder) for folder in (GONE, SAME)}
-        if contents.last_commit != self.row.last_commit or self.row.state == NEW:
+        if contents.last_commit != self.row.last_commit or self.row.state == STATE_NEW:
             self._agree(contents)
         self.runs, self.last_commit = contents.runs(), contents.last_commit
 
@@ -240,19 +240,19 @@ class OpenVolume:
         if lost:
             paths = [held.path for held in known if held.key() in lost]
             raise VolumeDiffers(f"{self.image}: lacks {plural(len(lost), 'file', 'files')} that the catalogue has, the first is {paths[0]}: bring the right image back, or 'rebuild'")
-        state = OPEN if self.row.state == NEW else self.row.state
-        replace(self.catalogue, self.row.number, events_on(contents, self.row.number))
-        same_rows.replace(self.catalogue, self.row.number, lines)
+        state = STATE_OPEN if self.row.state == STATE_NEW else self.row.state
+        replace_events(self.catalogue, self.row.number, events_on(contents, self.row.number))
+        same_rows.replace_lines(self.catalogue, self.row.number, lines)
         # The row comes last: it says that the catalogue has all up to the last commit.
         self.row = self.filled(contents.last_commit, len(rows) + count_of(lines))._replace(state=state)
         self.catalogue.replace(self.row, rows)
 
-    def _tree(self, contents: Contents) -> Tree:
+    def _tree(self, contents: Contents) -> PlannedTree:
         """What the volume has, to plan more on it."""
         clients = contents.clients() | {self.client.session().ledger.client}
         space = Space(self.row.capacity, Address(contents.medium.blocks), clients, len(contents.state.entries), len(contents.nodes))
         manifest = sum(manifest_size(node.path) for node in contents.payload())
-        tree = Tree(space, manifest, self.config.nodes)
+        tree = PlannedTree(space, manifest, self.config.nodes)
         for path, node in contents.nodes.items():
             if path:
                 tree.has(path, node.kind is FileType.DIRECTORY)
@@ -399,7 +399,7 @@ def new_row(config: Config, catalogue: Catalogue) -> VolumeRow:
             # Its number would be that of another volume, which it would replace one day.
             label = volume_label(config.label, max(later))
             raise CatalogueError(f"there are files of {label}, which the catalogue does not know: it is older than the volumes: {REBUILD}")
-        row = VolumeRow(number, volume_label(config.label, number), NEW, config.id, config.capacity, now())
+        row = VolumeRow(number, volume_label(config.label, number), STATE_NEW, config.id, config.capacity, now())
         catalogue.save(row)
     return row
 
@@ -408,12 +408,12 @@ def own_volumes(config: Config, catalogue: Catalogue, claims: Claims, batches: b
     """The open volumes of this archive's folder that no other process has, each claimed and taken up. `refused` gets the numbers of
     those that cannot be, with why: nothing is written to them, and the others are as good without them."""
     for row in catalogue.volumes():
-        if row.holder == config.id and row.state in (NEW, OPEN) and claims.try_volume(row.number):
+        if row.holder == config.id and row.state in (STATE_NEW, STATE_OPEN) and claims.try_volume(row.number):
             # What another process did until it let go. A volume that was moved away is not written.
             fresh = catalogue.volume(row.number)
-            if fresh is not None and fresh.state in (NEW, OPEN) and is_closed(config, fresh):
+            if fresh is not None and fresh.state in (STATE_NEW, STATE_OPEN) and is_closed(config, fresh):
                 raise CatalogueError(f"{fresh.label} is closed, which the catalogue does not know: it is older than the volumes: {REBUILD}")
-            if fresh is not None and (fresh.state == NEW or fresh.state == OPEN and image_of(config, fresh)):
+            if fresh is not None and (fresh.state == STATE_NEW or fresh.state == STATE_OPEN and image_of(config, fresh)):
                 try:
                     volume = taken_up(OpenVolume(config, catalogue, fresh, batches))
                 except VolumeDiffers as error:
@@ -432,7 +432,7 @@ def open_new(config: Config, catalogue: Catalogue, claims: Claims, batches: bool
     while True:
         row = new_row(config, catalogue)
         fresh = catalogue.volume(row.number) if claims.try_volume(row.number) else None
-        if fresh is not None and fresh.state == NEW:
+        if fresh is not None and fresh.state == STATE_NEW:
             return taken_up(OpenVolume(config, catalogue, fresh, batches))
 
 
