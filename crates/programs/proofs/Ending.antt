@@ -13,7 +13,8 @@ use Rattle.programs.specs.declared.fault.Fault.{Fault}
 use Rattle.programs.specs.FaultLines.{Said, Reports}
 use Rattle.programs.specs.Images.{Images}
 use Rattle.programs.specs.Status.{status_of}
-use Rattle.programs.specs.Tasks.{Task, task_of, IsTaskDone, Ends, IsReading}
+use Rattle.programs.specs.Inputs.{Input}
+use Rattle.programs.specs.Tasks.{Task, task_of, CountsTaskReads, IsTaskDone, Ends, IsReading}
 use Rattle.programs.specs.Tasks.Task.{Format, Apply_to_image, Apply_in_memory, List_names, Get_bytes, Log, Check, Send}
 use Rattle.programs.proofs.Reading.{reading_same}
 
@@ -60,14 +61,26 @@ asked_task words (commands.Send socket) h = ap task_for h
 
 -- ---- by the outcome of what was read
 
-pub ends : (outcome : Result (Unit {0}) Fault) (words : List (List ℕ)) (asked other : Command) (status : ℕ) (old new : Images) (i l o w : Option (List ℕ)) (e f : Said) → status ≡ status_of outcome → Reports (codes "udfburn") outcome e f → Asks words asked
-    → IsTaskDone (task_of asked) outcome old new i l o w → Asks words other → Ends (task_of other) status old new i l o w e f
-ends outcome words asked other status old new i l o w e f is reports reads does asks = record {
+ends : (outcome : Result (Unit {0}) Fault) (words : List (List ℕ)) (asked other : Command) (status : ℕ) (old new : Images) (i l : Input) (o w : Option (List ℕ)) (e f : Said) → status ≡ status_of outcome → Reports (codes "udfburn") outcome e f → Asks words asked
+    → IsTaskDone (task_of asked) outcome old new i.remaining l.remaining o w → CountsTaskReads (task_of asked) outcome i.failures l.failures → Asks words other → Ends (task_of other) status old new i l o w e f
+ends outcome words asked other status old new i l o w e f is reports reads does counts asks = record {
   outcome = outcome;
-  does = subst (λ (t : Task). IsTaskDone t outcome old new i l o w) (sym (asked_task words asked reads) ∙ asked_task words other asks) does;
+  does = subst (λ (t : Task). IsTaskDone t outcome old new i.remaining l.remaining o w) (sym (asked_task words asked reads) ∙ asked_task words other asks) does;
+  reads = subst (λ (t : Task). CountsTaskReads t outcome i.failures l.failures) (sym (asked_task words asked reads) ∙ asked_task words other asks) counts;
   status_is = is;
   reports = reports;
 }
+
+-- the same from where a call left all of it
+pub ends_after : {M I O : Type 0} (images : M → Images) (inputs : I → Input) (contents : O → Option (List ℕ)) (outcome told : Result (Unit {0}) Fault) (words : List (List ℕ)) (asked other : Command) (status : ℕ) (old : Images) (m n : M) (i : Input) (j k : I)
+    (o : Option (List ℕ)) (v w : O) (e f : Said) → told ≡ outcome → m ≡ n → j ≡ k → v ≡ w → status ≡ status_of told → Reports (codes "udfburn") told e f → Asks words asked
+    → IsTaskDone (task_of asked) outcome old (images n) i.remaining (inputs k).remaining o (contents w) → CountsTaskReads (task_of asked) outcome i.failures (inputs k).failures → Asks words other
+    → Ends (task_of other) status old (images m) i (inputs j) o (contents v) e f
+ends_after {M = M} {I = I} {O = O} images inputs contents outcome told words asked other status old m n i j k o v w e f same media input output is reports reads does counts asks =
+    subst (λ (x : M). Ends (task_of other) status old (images x) i (inputs j) o (contents v) e f) (sym media)
+    (subst (λ (x : I). Ends (task_of other) status old (images n) i (inputs x) o (contents v) e f) (sym input)
+    (subst (λ (x : O). Ends (task_of other) status old (images n) i (inputs k) o (contents x) e f) (sym output)
+    (ends outcome words asked other status old (images n) i (inputs k) o (contents w) e f (is ∙ ap (λ (x : Result (Unit {0}) Fault). status_of x) same) (subst (λ (x : Result (Unit {0}) Fault). Reports (codes "udfburn") x e f) same reports) reads does counts asks)))
 
 -- a command that writes to no image leaves what is held
 pub unchanged : (outcome : Result (Unit {0}) Fault) (words : List (List ℕ)) (asked other : Command) (old new : Images) (i l o w : Option (List ℕ)) → Asks words asked

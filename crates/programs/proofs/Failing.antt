@@ -4,7 +4,6 @@ use Rattle.std.specs.Prelude.{⊤, IsErrAnd}
 use Rattle.drive.specs.Reads.{CountsFailures}
 use Rattle.recover.specs.Faults.{device_failures}
 use Rattle.recover.specs.declared.fault.StoreFault.{StoreFault}
-use Rattle.recover.specs.declared.fault.StoreFault.TheVariants as stores
 use Rattle.programs.specs.declared.fault.Fault.{Fault}
 use Rattle.programs.specs.declared.fault.Fault.TheVariants.{Usage, Path, Socket, Store, Stream}
 use Rattle.programs.specs.Lines.{PutsBytes}

@@ -24,7 +24,7 @@ use Rattle.engine.specs.declared.serving.ServeFault.TheVariants as streams
 use Rattle.programs.specs.declared.fault.Fault.{Fault}
 use Rattle.programs.specs.declared.fault.Fault.TheVariants as faults
 use Rattle.programs.specs.Lines.{PutsBytes}
-use Rattle.programs.specs.Questions.{BeginsFileAt, IsFileAt, Known, PutsFile, PutsPiece, StopsPiece}
+use Rattle.programs.specs.Questions.{BeginsFileAt, IsFileAt, Known, PutsFile, StopsPiece}
 use Rattle.engine.proofs.Pieces.{keeps_on}
 use Rattle.engine.proofs.Messages.{appends_more}
 use Rattle.programs.proofs.Opening.{keeps_self, keeps_trans}

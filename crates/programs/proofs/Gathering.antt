@@ -25,6 +25,7 @@ use Rattle.programs.specs.Copies.{SendsFrames, SendsSome}
 use Rattle.programs.specs.FaultLines.{Said, Reports}
 use Rattle.programs.specs.Status.{drive_failures, status_of}
 use Rattle.programs.specs.Images.{Images, IsThere, IsThereOrMade, OnMedia, Unmade, Unopened}
+use Rattle.programs.specs.Inputs.{Input}
 use Rattle.programs.specs.NewVolumes.{MakesVolume, MakesOn, MakesOnImage}
 use Rattle.programs.specs.Lines.{formatted_text}
 use Rattle.programs.specs.Questions.{Question, PrintsAnswer, PrintsNothing, PrintsRefused, ShowsImage, ShowsPath}
@@ -255,7 +256,7 @@ done_well (Ok x) done = refl
 done_well (Err fault) done = refused_not 0 fault (sym done) refl
 
 -- the same by what the calls say that lead there
-module _ (task : Task) (status : ℕ) (old new : Images) (i l : Option (List ℕ)) (e f : Said) {O : Type 0} (contents : O → Option (List ℕ)) (output first last inner : O) (waiting waited rest bytes : List ℕ)
+module _ (task : Task) (status : ℕ) (old new : Images) (i l : Input) (e f : Said) {O : Type 0} (contents : O → Option (List ℕ)) (output first last inner : O) (waiting waited rest bytes : List ℕ)
     (begins : first ≡ output) (empty : waiting ≡ []) (taken : inner ≡ last) (left : rest ≡ waited) (same : bytes ≡ rest)
     (h : Ends task status old new i l (append_known (contents first) waiting) (append_known (contents last) waited) e f) where
   begun : Ends task status old new i l (contents output) (append_known (contents last) waited) e f
@@ -269,7 +270,8 @@ module _ (task : Task) (status : ℕ) (old new : Images) (i l : Option (List ℕ
   gathered_all : (now : Option (List ℕ)) → Appends (contents inner) now bytes → Ends task status old new i l (contents output) now e f
   gathered_all now put = record {
     outcome = there.outcome;
-    does = does_kept old new i l (contents output) (append_known (contents inner) bytes) now (written_out (contents inner) now bytes put) task there.outcome there.does;
+    does = does_kept old new i.remaining l.remaining (contents output) (append_known (contents inner) bytes) now (written_out (contents inner) now bytes put) task there.outcome there.does;
+    reads = there.reads;
     status_is = there.status_is;
     reports = there.reports;
   }
@@ -282,6 +284,7 @@ module _ (task : Task) (status : ℕ) (old new : Images) (i l : Option (List ℕ
     outcome = there.outcome;
     gathered = append_known (contents inner) bytes;
     does = there.does;
+    reads = there.reads;
     front = written_part (contents inner) now bytes put;
     told_as = there.outcome;
     is_told = inl refl;
@@ -296,6 +299,7 @@ module _ (task : Task) (status : ℕ) (old new : Images) (i l : Option (List ℕ
     outcome = there.outcome;
     gathered = append_known (contents inner) bytes;
     does = there.does;
+    reads = there.reads;
     front = written_part (contents inner) now bytes put;
     told_as = Err (Stream streams.Write);
     is_told = inr (done_well there.outcome (sym there.status_is ∙ done), refl);

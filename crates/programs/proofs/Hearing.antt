@@ -1,9 +1,9 @@
 -- Connections of a listener that are served one after another.
 use Rattle.std.proofs.Common.{◌≡◌, ◌⊎◌, inl, inr, ℕ, ◌+◌, ◌-◌, ◌^◌, min, List, [], ◌∷◌, ◌++◌, length, Option, Some, None, Result, Ok, Err, refl, sym, ap, ◌∙◌, subst, arith, append_assoc, append-nil, length-append, true, Bool}
-use Rattle.std.specs.Prelude.{IfErr, IfNone, IfSome, IsSomeAnd, OnOk}
+use Rattle.std.specs.Prelude.{IfErr, IfNone, IfSome, IsSomeAnd, OnOk, false, nat_lt}
 use Rattle.std.specs.List.{flat_map}
 use Rattle.drive.specs.Journal.{Event, counted}
-use Rattle.drive.specs.Reads.{CountsFailures}
+use Rattle.drive.specs.Reads.{CountsFailures, one_if}
 use Rattle.std.proofs.Math.Seq.{take-length}
 use Rattle.request.specs.declared.answer.Answer.{Answer}
 use Rattle.request.specs.declared.message.Message.{Message}
@@ -17,7 +17,8 @@ use Rattle.store.specs.declared.store.Store as stored
 use Rattle.programs.specs.declared.fault.Fault.{Fault}
 use Rattle.programs.specs.declared.fault.Fault.TheVariants.{Usage, Path, Socket, Store, Stream}
 use Rattle.programs.specs.Connections.{ServesMessages, LeavesStream}
-use Rattle.programs.specs.Listening.{AllHeard, EndsBy, EndsOne, Heard, IsHeard, IsOneRun, LetsGo, ServesList, ServesOne}
+use Rattle.programs.specs.Inputs.{CountsReads, is_read_refused}
+use Rattle.programs.specs.Listening.{AllHeard, CountsAll, EndsBy, EndsOne, Heard, IsHeard, IsOneRun, IsServed, LetsGo, ServesList}
 use Rattle.programs.specs.Outputs.{IsBlank, known}
 use Rattle.programs.specs.Tasks.{IsPrefixOf}
 use Rattle.programs.proofs.Copying.{whole_front}
@@ -88,14 +89,14 @@ module _ (before afterwards : Situation) (input written : Option (List ℕ)) whe
   one_heard outcome left output blank (inl h) = ended_heard outcome left output blank h
   one_heard outcome left output blank (inr h) = ([], [], h.1.1, inl (refl, refl, inl h.0))
 
-list_heard : (inputs outputs : List (Option (List ℕ))) (before afterwards : Situation) → ServesList inputs outputs before afterwards
+list_heard : (inputs outputs : List (Option (List ℕ))) (failed : ℕ) (before afterwards : Situation) → ServesList inputs outputs failed before afterwards
     → (messages : List Message) × (answers : List Answer) × AllAnswered messages before answers afterwards × AllHeard inputs outputs messages answers
-list_heard [] [] before afterwards h = ([], [], h, (refl, refl))
-list_heard [] (w ∷ outputs) before afterwards h = absurd h
-list_heard (i ∷ inputs) [] before afterwards h = absurd h
-list_heard (i ∷ inputs) (w ∷ outputs) before afterwards (during, one, rest) =
-    let first = one_heard before during i w one.0 one.1.left one.1.output one.1.blank one.1.ends in
-    let later = list_heard inputs outputs during afterwards rest in (
+list_heard [] [] failed before afterwards h = ([], [], h.0, (refl, refl))
+list_heard [] (w ∷ outputs) failed before afterwards h = absurd h
+list_heard (i ∷ inputs) [] failed before afterwards h = absurd h
+list_heard (i ∷ inputs) (w ∷ outputs) failed before afterwards (during, outcome, one, others, sum, rest) =
+    let first = one_heard before during i w outcome one.left one.output one.blank one.ends in
+    let later = list_heard inputs outputs others during afterwards rest in (
       first.0 ++ later.0,
       first.1 ++ later.1,
       answered_append first.0 first.1 later.0 later.1 before during afterwards first.2 later.2,
@@ -103,9 +104,9 @@ list_heard (i ∷ inputs) (w ∷ outputs) before afterwards (during, one, rest) 
     )
 
 -- connections that were served one after another are one run
-pub one_run : (inputs outputs : List (Option (List ℕ))) (before afterwards : Situation) → ServesList inputs outputs before afterwards → IsOneRun inputs outputs before afterwards
-one_run inputs outputs before afterwards h =
-    let all = list_heard inputs outputs before afterwards h in
+pub one_run : (inputs outputs : List (Option (List ℕ))) (failed : ℕ) (before afterwards : Situation) → ServesList inputs outputs failed before afterwards → IsOneRun inputs outputs before afterwards
+one_run inputs outputs failed before afterwards h =
+    let all = list_heard inputs outputs failed before afterwards h in
     record {
       messages = all.0;
       answers = all.1;
@@ -123,7 +124,9 @@ pub record Hearing (connections left tries : ℕ) (old new : Heard) (before afte
   pub outputs : List (Option (List ℕ))
   pub given : new.given ≡ old.given ++ inputs
   pub ended : new.ended ≡ old.ended ++ flat_map known outputs
-  pub served : ServesList inputs outputs before afterwards
+  pub refused : ℕ
+  pub served : ServesList inputs outputs refused before afterwards
+  pub reads : CountsAll refused old.failed new.failed
   pub run : IsOneRun inputs outputs before afterwards
   pub failed : ℕ
   pub missed : CountsFailures failed old.missed new.missed
@@ -136,8 +139,10 @@ hearing_none connections heard before = record {
   outputs = [];
   given = sym (append-nil heard.given);
   ended = sym (append-nil heard.ended);
-  served = refl;
-  run = one_run [] [] before before refl;
+  refused = 0;
+  served = (refl, refl);
+  reads = λ low. omega arith;
+  run = one_run [] [] 0 before before (refl, refl);
   failed = 0;
   missed = λ low. omega arith;
   total = refl;
@@ -154,15 +159,21 @@ hearing_new connections heard store J failures capacity honest writes e =
 one_more : (old now next failed : ℕ) → CountsFailures failed old now → next ≡ min (now + 1) (2 ^ 64 - 1) → CountsFailures (failed + 1) old next
 one_more old now next failed h e low = omega (arith, e, low, h (omega (arith, e, low)))
 
+reads_more : (old now next n : ℕ) (is : Bool) → CountsAll n old now → next ≡ counted is now → CountsAll (n + one_if is) old next
+reads_more old now next n true h e low = omega (arith, e, low, h (omega (arith, e, low)))
+reads_more old now next n false h e low = omega (arith, e, low, h (omega (arith, e, low)))
+
 -- a try that gave no connection
 pub hearing_missed : (connections left tries : ℕ) (old now next : Heard) (before during : Situation) → Hearing connections left tries old now before during → next.given ≡ now.given → next.ended ≡ now.ended → next.missed ≡ counted true now.missed
-    → Hearing connections left (tries + 1) old next before during
-hearing_missed connections left tries old now next before during h given ended missed = record {
+    → next.failed ≡ now.failed → Hearing connections left (tries + 1) old next before during
+hearing_missed connections left tries old now next before during h given ended missed read = record {
   inputs = h.inputs;
   outputs = h.outputs;
   given = given ∙ h.given;
   ended = ended ∙ h.ended;
+  refused = h.refused;
   served = h.served;
+  reads = subst (λ (n : ℕ). CountsAll h.refused old.failed n) (sym read) h.reads;
   run = h.run;
   failed = h.failed + 1;
   missed = λ low. one_more old.missed now.missed next.missed h.failed h.missed missed low;
@@ -170,12 +181,32 @@ hearing_missed connections left tries old now next before during h given ended m
   rest = h.rest;
 }
 
-serves_more : (inputs outputs : List (Option (List ℕ))) (input written : Option (List ℕ)) (before during afterwards : Situation) → ServesList inputs outputs before during → ServesOne input written during afterwards
-    → ServesList (inputs ++ input ∷ []) (outputs ++ written ∷ []) before afterwards
-serves_more [] [] input written before during afterwards same one = (afterwards, subst (λ (s : Situation). ServesOne input written s afterwards) same one, refl)
-serves_more [] (w ∷ outputs) input written before during afterwards h one = absurd h
-serves_more (i ∷ inputs) [] input written before during afterwards h one = absurd h
-serves_more (i ∷ inputs) (w ∷ outputs) input written before during afterwards (next, first, rest) one = (next, first, serves_more inputs outputs input written next during afterwards rest one)
+last_more : (failed k : ℕ) → failed ≡ 0 → failed + k ≡ k + 0
+last_more failed k none = omega (arith, none)
+
+later_more : (failed first later k : ℕ) → failed ≡ first + later → failed + k ≡ first + (later + k)
+later_more failed first later k sum = omega (arith, sum)
+
+serves_more : (inputs outputs : List (Option (List ℕ))) (failed : ℕ) (input written : Option (List ℕ)) (outcome : Result (Unit {0}) Fault) (before during afterwards : Situation) → ServesList inputs outputs failed before during
+    → IsServed outcome input written during afterwards → ServesList (inputs ++ input ∷ []) (outputs ++ written ∷ []) (failed + one_if (is_read_refused outcome)) before afterwards
+serves_more [] [] failed input written outcome before during afterwards (same, none) one = (
+  afterwards,
+  outcome,
+  subst (λ (s : Situation). IsServed outcome input written s afterwards) same one,
+  0,
+  last_more failed (one_if (is_read_refused outcome)) none,
+  (refl, refl),
+)
+serves_more [] (w ∷ outputs) failed input written outcome before during afterwards h one = absurd h
+serves_more (i ∷ inputs) [] failed input written outcome before during afterwards h one = absurd h
+serves_more (i ∷ inputs) (w ∷ outputs) failed input written outcome before during afterwards (next, told, first, later, sum, rest) one = (
+  next,
+  told,
+  first,
+  later + one_if (is_read_refused outcome),
+  later_more failed (one_if (is_read_refused told)) later (one_if (is_read_refused outcome)) sum,
+  serves_more inputs outputs later input written outcome next during afterwards rest one,
+)
 
 known_more : (outputs : List (Option (List ℕ))) (written : Option (List ℕ)) → flat_map known outputs ++ known written ≡ flat_map known (outputs ++ written ∷ [])
 known_more [] written = sym (append-nil (known written))
@@ -183,15 +214,17 @@ known_more (o ∷ outputs) written = append_assoc (known o) (flat_map known outp
 
 -- a connection that was given, served and ended
 pub hearing_more : (outcome : Result (Unit {0}) Fault) (connections left less tries : ℕ) (old now between next : Heard) (before during afterwards : Situation) (input : Option (List ℕ)) → Hearing connections left tries old now before during
-    → between.given ≡ now.given ++ input ∷ [] → between.ended ≡ now.ended → between.missed ≡ now.missed → EndsOne outcome input between next during afterwards → less + 1 ≡ left
+    → between.given ≡ now.given ++ input ∷ [] → between.ended ≡ now.ended → between.missed ≡ now.missed → between.failed ≡ now.failed → EndsOne outcome input between next during afterwards → less + 1 ≡ left
     → Hearing connections less (tries + 1) old next before afterwards
-hearing_more outcome connections left less tries old now between next before during afterwards input h given ended missed one fewer = record {
+hearing_more outcome connections left less tries old now between next before during afterwards input h given ended missed read one fewer = record {
   inputs = h.inputs ++ input ∷ [];
   outputs = h.outputs ++ one.written ∷ [];
   given = one.given ∙ given ∙ ap (λ (l : List (Option (List ℕ))). l ++ input ∷ []) h.given ∙ append_assoc old.given h.inputs (input ∷ []);
   ended = one.ended ∙ ap (λ (l : List (List ℕ)). l ++ known one.written) (ended ∙ h.ended) ∙ append_assoc old.ended (flat_map known h.outputs) (known one.written) ∙ ap (λ (l : List (List ℕ)). old.ended ++ l) (known_more h.outputs one.written);
-  served = serves_more h.inputs h.outputs input one.written before during afterwards h.served (outcome, one.is);
-  run = one_run (h.inputs ++ input ∷ []) (h.outputs ++ one.written ∷ []) before afterwards (serves_more h.inputs h.outputs input one.written before during afterwards h.served (outcome, one.is));
+  refused = h.refused + one_if (is_read_refused outcome);
+  served = serves_more h.inputs h.outputs h.refused input one.written outcome before during afterwards h.served one.is;
+  reads = reads_more old.failed now.failed next.failed h.refused (is_read_refused outcome) h.reads (one.failed ∙ ap (λ (n : ℕ). counted (is_read_refused outcome) n) read);
+  run = one_run (h.inputs ++ input ∷ []) (h.outputs ++ one.written ∷ []) (h.refused + one_if (is_read_refused outcome)) before afterwards (serves_more h.inputs h.outputs h.refused input one.written outcome before during afterwards h.served one.is);
   failed = h.failed;
   missed = subst (λ (n : ℕ). CountsFailures h.failed old.missed n) (sym (one.missed ∙ missed)) h.missed;
   total = omega (arith, h.total, length-append h.inputs (input ∷ []));
@@ -209,21 +242,29 @@ ends_by (Err Socket) before afterwards input left output written all front = abs
 ends_by (Err (Store fault)) before afterwards input left output written all front = front
 ends_by (Err (Stream fault)) before afterwards input left output written all front = front
 
+-- a read of it failed exactly if that is why it was left
+failed_by : (is : Bool) (count old new : ℕ) → count ≡ counted is 0 → new ≡ counted (nat_lt 0 count) old → new ≡ counted is old
+failed_by true count old new e h = h ∙ ap (λ (n : ℕ). counted (nat_lt 0 n) old) e
+failed_by false count old new e h = h ∙ ap (λ (n : ℕ). counted (nat_lt 0 n) old) e
+
 -- its streams were served, and its output is there
-pub ends_some : {T O : Type 0} (contents : O → Option (List ℕ)) (outcome : Result T Fault) (o : Option O) (w : O) (old new : Heard) (input left output : Option (List ℕ)) (before afterwards : Situation) → o ≡ Some w → IsBlank output → ServesMessages before afterwards
-    → OnOk outcome (IsSomeAnd o (λ x. ServesAll before afterwards input left output (contents x))) → IfErr outcome (λ fault. IfSome o (λ x. LeavesStream fault before afterwards input left output (contents x)))
-    → new.ended ≡ old.ended ++ known (contents w) → new.given ≡ old.given → new.missed ≡ old.missed → EndsOne outcome input old new before afterwards
-ends_some {O = O} contents outcome o w old new input left output before afterwards is blank goes all front ended given missed = record {
+pub ends_some : {T O I : Type 0} (contents : O → Option (List ℕ)) (remaining : I → Option (List ℕ)) (outcome : Result T Fault) (o : Option O) (w : O) (input stream : I) (old new : Heard) (left output : Option (List ℕ)) (before afterwards : Situation) → o ≡ Some w → IsBlank output → ServesMessages before afterwards
+    → OnOk outcome (IsSomeAnd o (λ x. ServesAll before afterwards (remaining stream) left output (contents x))) → IfErr outcome (λ fault. IfSome o (λ x. LeavesStream fault before afterwards (remaining stream) left output (contents x)))
+    → new.ended ≡ old.ended ++ known (contents w) → new.given ≡ old.given → new.missed ≡ old.missed
+    → stream ≡ input → (begun count : ℕ) → begun ≡ 0 → CountsReads outcome begun count → new.failed ≡ counted (nat_lt 0 count) old.failed → EndsOne outcome (remaining input) old new before afterwards
+ends_some {T = T} {O = O} {I = I} contents remaining outcome o w input stream old new left output before afterwards is blank goes all front ended given missed same begun count none counts failed = record {
   written = contents w;
   given = given;
   missed = missed;
   ended = ended;
+  failed = failed_by (is_read_refused outcome) count old.failed new.failed (counts ∙ ap (λ (n : ℕ). counted (is_read_refused outcome) n) none) failed;
   is = record {
     left = left;
     output = output;
     blank = blank;
-    ends = inl (ends_by outcome before afterwards input left output (contents w) (subst (λ (x : Option O). OnOk outcome (IsSomeAnd x (λ y. ServesAll before afterwards input left output (contents y)))) is all)
-        (subst (λ (x : Option O). IfErr outcome (λ fault. IfSome x (λ y. LeavesStream fault before afterwards input left output (contents y)))) is front));
+    ends = inl (subst (λ (x : I). EndsBy outcome before afterwards (remaining x) left output (contents w)) same
+        (ends_by outcome before afterwards (remaining stream) left output (contents w) (subst (λ (x : Option O). OnOk outcome (IsSomeAnd x (λ y. ServesAll before afterwards (remaining stream) left output (contents y)))) is all)
+        (subst (λ (x : Option O). IfErr outcome (λ fault. IfSome x (λ y. LeavesStream fault before afterwards (remaining stream) left output (contents y)))) is front)));
     goes = goes;
   };
 }
@@ -231,16 +272,19 @@ ends_some {O = O} contents outcome o w old new input left output before afterwar
 -- or was let go
 pub ends_none : {T O : Type 0} (outcome : Result T Fault) (o : Option O) (heard : Heard) (input output : Option (List ℕ)) (before afterwards : Situation) → o ≡ None → IsBlank output → ServesMessages before afterwards → IfNone o (LetsGo outcome before afterwards)
     → EndsOne outcome input heard heard before afterwards
-ends_none {O = O} outcome o heard input output before afterwards is blank goes let_go = record {
-  written = None;
-  given = refl;
-  missed = refl;
-  ended = sym (append-nil heard.ended);
-  is = record { left = input; output = output; blank = blank; ends = inr (refl, subst (λ (x : Option O). IfNone x (LetsGo outcome before afterwards)) is let_go); goes = goes };
-}
+ends_none {T = T} {O = O} outcome o heard input output before afterwards is blank goes let_go =
+    let gone : LetsGo outcome before afterwards = subst (λ (x : Option O). IfNone x (LetsGo outcome before afterwards)) is let_go in
+    record {
+      written = None;
+      given = refl;
+      missed = refl;
+      ended = sym (append-nil heard.ended);
+      failed = ap (λ (r : Result T Fault). counted (is_read_refused r) heard.failed) (sym gone.0);
+      is = record { left = input; output = output; blank = blank; ends = inr (refl, gone); goes = goes };
+    }
 
 -- or the connection could not be limited, and nothing was done
 pub ends_unlimited : {T : Type 0} (old new : Heard) (input output : Option (List ℕ)) (before : Situation) → IsBlank output → new.ended ≡ old.ended ++ known output → new.given ≡ old.given → new.missed ≡ old.missed
-    → EndsOne {T = T} (Err Socket) input old new before before
-ends_unlimited old new input output before blank ended given missed =
-    record { written = output; given = given; missed = missed; ended = ended; is = record { left = input; output = output; blank = blank; ends = inl (refl, refl); goes = goes_none before } }
+    → (count : ℕ) → count ≡ 0 → new.failed ≡ counted (nat_lt 0 count) old.failed → EndsOne {T = T} (Err Socket) input old new before before
+ends_unlimited old new input output before blank ended given missed count none failed =
+    record { written = output; given = given; missed = missed; ended = ended; failed = failed_by false count old.failed new.failed none failed; is = record { left = input; output = output; blank = blank; ends = inl (refl, refl); goes = goes_none before } }

@@ -18,7 +18,8 @@ use Rattle.request.specs.Path.{IsPath, path_text}
 use Rattle.programs.specs.declared.fault.Fault.{Fault}
 use Rattle.programs.specs.FaultLines.{Said}
 use Rattle.programs.specs.Images.{Images}
-use Rattle.programs.specs.InTurn.{GetsWhatWasApplied, HasDone, ThreeProcesses, TwoProcesses}
+use Rattle.programs.specs.Inputs.{Input}
+use Rattle.programs.specs.InTurn.{HasDone, ThreeProcesses, TwoProcesses}
 use Rattle.programs.specs.NewVolumes.{MakesOnImage}
 use Rattle.programs.specs.Processes.{AreRuns, Process}
 use Rattle.programs.specs.Processes.Process.{Command}
@@ -37,9 +38,9 @@ went_well : (task : Task) (outcome : Result ⊤ Fault) (old new : Images) (i l o
 went_well task (Ok x) old new i l o w is h = h
 went_well task (Err fault) old new i l o w is h = refused_not 0 fault is refl
 
-did_of : (task : Task) (before afterwards : Images) (i l o w : Option (List ℕ)) (e f : Said) → HasDone task before afterwards i l o w e f → IsTaskDone {T = ⊤} task (Ok tt) before afterwards i l o w
+did_of : (task : Task) (before afterwards : Images) (i l : Input) (o w : Option (List ℕ)) (e f : Said) → HasDone task before afterwards i l o w e f → IsTaskDone {T = ⊤} task (Ok tt) before afterwards i.remaining l.remaining o w
 did_of task before afterwards i l o w e f h =
-    subst (λ (t : Task). IsTaskDone {T = ⊤} t (Ok tt) before afterwards i l o w) h.asks (went_well _ h.whole.ends.outcome before afterwards i l o w h.whole.ends.status_is h.whole.ends.does)
+    subst (λ (t : Task). IsTaskDone {T = ⊤} t (Ok tt) before afterwards i.remaining l.remaining o w) h.asks (went_well _ h.whole.ends.outcome before afterwards i.remaining l.remaining o w h.whole.ends.status_is h.whole.ends.does)
 
 not_refused : {T E P : Type 0} (x : T) (fault : E) → Ok x ≡ Err fault → P
 not_refused {T} {E} {P} x fault e = absurd (subst IsFine e tt)
@@ -69,7 +70,7 @@ pub two_processes : TwoProcesses
 two_processes image text first second last volume S before i l o w e f j k p v d q applied got honest there once stands =
     let a = did_of (Apply_to_image image) first second i l o w e f applied in
     let b = did_of (Get_bytes image text) second last j k p v d q got in
-    let processes : List Process = Command (Apply_to_image image) (Ok tt) i l o w ∷ Command (Get_bytes image text) (Ok tt) j k p v ∷ [] in
+    let processes : List Process = Command (Apply_to_image image) (Ok tt) i.remaining l.remaining o w ∷ Command (Get_bytes image text) (Ok tt) j.remaining k.remaining p v ∷ [] in
     let runs : AreRuns image processes volume S before last = processes_are_runs image processes first last volume S before honest (second, a, (last, b, untouched last)) there once stands in
     let what = gets image text second last volume _ runs.afterwards p v b.1 honest runs.held_is runs.survives.stands in
     record { runs = runs; path = what.0; is_path = what.1; text_is = what.2; bytes = what.3.0; said = what.3.1; shown = what.3.2 }
@@ -132,7 +133,7 @@ three_processes image label text moment capacity first second third last g h r m
     let n = did_of (Format image label moment capacity) first second g h r m s t formatting in
     let a = did_of (Apply_to_image image) second third i l o w e f applied in
     let b = did_of (Get_bytes image text) third last j k p v d q got in
-    let processes : List Process = Command (Apply_to_image image) (Ok tt) i l o w ∷ Command (Get_bytes image text) (Ok tt) j k p v ∷ [] in
+    let processes : List Process = Command (Apply_to_image image) (Ok tt) i.remaining l.remaining o w ∷ Command (Get_bytes image text) (Ok tt) j.remaining k.remaining p v ∷ [] in
     let then : IsTrue second.honest = all_honest processes second last honest (third, a, (last, b, untouched last)) in
     let new = makes_new image label moment capacity first second r m n.1 then in
     (new.journal, two_processes image text second third last (min capacity GREATEST_CAPACITY) (formatted moment) new.journal i l o w e f j k p v d q applied got honest new.there new.once new.stands)

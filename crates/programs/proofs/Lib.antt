@@ -18,3 +18,4 @@ pub mod Framing
 pub mod Tallies
 pub mod Processes
 pub mod InTurn
+pub mod FailedReads

@@ -14,7 +14,6 @@ use Rattle.programs.specs.declared.fault.Fault.{Fault}
 use Rattle.programs.specs.declared.fault.Fault.TheVariants.{Stream}
 use Rattle.programs.specs.Lines.{PutsBytes}
 use Rattle.programs.specs.FaultLines.{Reports, Said, SaysLine, damage_text, fault_damage, fault_line, fault_name, place_text}
-use Rattle.programs.proofs.Copying.{whole_front}
 
 -- a prefix is one of a longer text
 pub front_longer : (a b : Option (List ℕ)) (x y : List ℕ) → PutsPrefix a b x → PutsPrefix a b (x ++ y)

@@ -10,6 +10,7 @@ use Rattle.udf.specs.Udf.{udf}
 use Rattle.request.specs.Path.{IsPath, path_text}
 use Rattle.programs.specs.FaultLines.{Said}
 use Rattle.programs.specs.Images.{Images}
+use Rattle.programs.specs.Inputs.{Input}
 use Rattle.programs.specs.Processes.{AreRuns}
 use Rattle.programs.specs.Processes.Process.{Command}
 use Rattle.programs.specs.Questions.{IsFileAt}
@@ -18,7 +19,7 @@ use Rattle.programs.specs.Tasks.Task.{Format, Apply_to_image, Get_bytes}
 
 -- A process ended with status 0, and so all was done that its words ask for: this task. `run_command` says it of the media that
 -- it was lent, as they were before it and as they are after it.
-pub record HasDone (task : Task) (before afterwards : Images) (input left output written : Option (List ℕ)) (errors told : Said) : Type 0 where
+pub record HasDone (task : Task) (before afterwards : Images) (input left : Input) (output written : Option (List ℕ)) (errors told : Said) : Type 0 where
   pub whole : IsWhollyDone before afterwards input left output written errors told
   pub asks : task_of whole.asked ≡ task
 
@@ -36,15 +37,15 @@ pub record GetsWhatWasApplied (image text : List ℕ) (volume : ℕ) (S : State)
 -- Of two processes, on an image that recovers to a state: the second begins on what the first left.
 abbrev pub TwoProcesses : Type 0
 TwoProcesses =
-    (image text : List ℕ) (first second last : Images) (volume : ℕ) (S : State) (before : List Event) (i l o w : Option (List ℕ)) (e f : Said) (j k p v : Option (List ℕ)) (d q : Said)
+    (image text : List ℕ) (first second last : Images) (volume : ℕ) (S : State) (before : List Event) (i l : Input) (o w : Option (List ℕ)) (e f : Said) (j k : Input) (p v : Option (List ℕ)) (d q : Said)
     → HasDone (Apply_to_image image) first second i l o w e f → HasDone (Get_bytes image text) second last j k p v d q → IsTrue last.honest
     → first.held image ≡ Some before → Once before → RecoversTo udf GREATEST_CAPACITY volume (held before) S
-    → GetsWhatWasApplied image text volume S before last i l o w j k p v
+    → GetsWhatWasApplied image text volume S before last i.remaining l.remaining o w j.remaining k.remaining p v
 
 -- Of three, of which the first formatted the image: it need not be there before.
 abbrev pub ThreeProcesses : Type 0
 ThreeProcesses =
-    (image label text : List ℕ) (moment capacity : ℕ) (first second third last : Images) (g h r m : Option (List ℕ)) (s t : Said) (i l o w : Option (List ℕ)) (e f : Said) (j k p v : Option (List ℕ)) (d q : Said)
+    (image label text : List ℕ) (moment capacity : ℕ) (first second third last : Images) (g h : Input) (r m : Option (List ℕ)) (s t : Said) (i l : Input) (o w : Option (List ℕ)) (e f : Said) (j k : Input) (p v : Option (List ℕ)) (d q : Said)
     → HasDone (Format image label moment capacity) first second g h r m s t → HasDone (Apply_to_image image) second third i l o w e f → HasDone (Get_bytes image text) third last j k p v d q
     → IsTrue last.honest
-    → (before : List Event) × GetsWhatWasApplied image text (min capacity GREATEST_CAPACITY) (formatted moment) before last i l o w j k p v
+    → (before : List Event) × GetsWhatWasApplied image text (min capacity GREATEST_CAPACITY) (formatted moment) before last i.remaining l.remaining o w j.remaining k.remaining p v

@@ -7,6 +7,7 @@ pub mod FaultLines
 pub mod Applied
 pub mod Connections
 pub mod Outputs
+pub mod Inputs
 pub mod Listening
 pub mod Refusals
 pub mod NewVolumes

@@ -2,7 +2,8 @@
 use Rattle.std.specs.Prelude.{◌≡◌, ◌⊎◌, ℕ, ◌+◌, ◌-◌, ◌^◌, ◌<◌, List, [], ◌∷◌, ◌++◌, length, Option, None, Result, Ok, Err}
 use Rattle.std.specs.List.{flat_map}
 use Rattle.std.specs.Io.KnownBytes.{Consumes}
-use Rattle.drive.specs.Reads.{CountsFailures}
+use Rattle.drive.specs.Journal.{counted}
+use Rattle.drive.specs.Reads.{CountsFailures, one_if}
 use Rattle.recover.specs.declared.fault.StoreFault.TheVariants.{Memory}
 use Rattle.request.specs.declared.answer.Answer.{Answer}
 use Rattle.request.specs.declared.message.Message.{Message}
@@ -15,6 +16,7 @@ use Rattle.programs.specs.declared.listening.Listener.{Ghosts}
 use Rattle.programs.specs.declared.fault.Fault.{Fault}
 use Rattle.programs.specs.declared.fault.Fault.TheVariants.{Usage, Path, Socket, Store, Stream}
 use Rattle.programs.specs.Connections.{ServesMessages, ServesPrefix}
+use Rattle.programs.specs.Inputs.{is_read_refused}
 use Rattle.programs.specs.Outputs.{IsBlank, known}
 use Rattle.programs.specs.Tasks.{IsPrefixOf}
 
@@ -40,15 +42,15 @@ pub record IsServed {T : Type 0} (outcome : Result T Fault) (input written : Opt
   pub ends : EndsBy outcome before afterwards input left output written ⊎ ((written ≡ None) × LetsGo outcome before afterwards)
   pub goes : ServesMessages before afterwards
 
-abbrev pub ServesOne : Option (List ℕ) → Option (List ℕ) → Situation → Situation → Type 0
-ServesOne input written before afterwards = (outcome : Result (Unit {0}) Fault) × IsServed outcome input written before afterwards
-
--- one after another, each from where the one before it left the engine and the drive
-abbrev pub ServesList : List (Option (List ℕ)) → List (Option (List ℕ)) → Situation → Situation → Type 0
-ServesList [] [] before afterwards = afterwards ≡ before
-ServesList [] (written ∷ outputs) before afterwards = ⊥
-ServesList (input ∷ inputs) [] before afterwards = ⊥
-ServesList (input ∷ inputs) (written ∷ outputs) before afterwards = (during : Situation) × ServesOne input written before during × ServesList inputs outputs during afterwards
+-- One after another, each from where the one before it left the engine and the drive. So many of them were left since a read
+-- failed.
+abbrev pub ServesList : List (Option (List ℕ)) → List (Option (List ℕ)) → ℕ → Situation → Situation → Type 0
+ServesList [] [] failed before afterwards = (afterwards ≡ before) × (failed ≡ 0)
+ServesList [] (written ∷ outputs) failed before afterwards = ⊥
+ServesList (input ∷ inputs) [] failed before afterwards = ⊥
+ServesList (input ∷ inputs) (written ∷ outputs) failed before afterwards =
+    (during : Situation) × (outcome : Result (Unit {0}) Fault) × IsServed outcome input written before during
+    × (later : ℕ) × (failed ≡ one_if (is_read_refused outcome) + later) × ServesList inputs outputs later during afterwards
 
 -- ---- the messages that connections bring
 
@@ -92,25 +94,28 @@ pub record IsOneRun (inputs outputs : List (Option (List ℕ))) (before afterwar
 
 -- ---- a listener
 
--- What the clients of a listener's connections send, what was written on those that ended, and how often it had none to give.
+-- What the clients of a listener's connections send, what was written on those that ended, how often it had none to give, and
+-- on how many of those that ended a read failed.
 pub record Heard : Type 0 where
   pub given : List (Option (List ℕ))
   pub ended : List (List ℕ)
   pub missed : ℕ
+  pub failed : ℕ
 
 -- Of a socket of the system nobody knows what was written on its connections.
 pub nothing_known : List (List ℕ)
 nothing_known = []
 
 abbrev pub heard_on : {L I O : Type 0} → Ghosts L I O → L → Heard
-heard_on listener l = record { given = listener.given l; ended = listener.ended l; missed = listener.missed l }
+heard_on listener l = record { given = listener.given l; ended = listener.ended l; missed = listener.missed l; failed = listener.failed l }
 
--- a connection of a listener was served so, and ended
+-- A connection of a listener was served so, and ended. A read of it failed exactly if that is why it was left.
 pub record EndsOne {T : Type 0} (outcome : Result T Fault) (input : Option (List ℕ)) (old new : Heard) (before afterwards : Situation) : Type 0 where
   pub written : Option (List ℕ)
   pub given : new.given ≡ old.given
   pub missed : new.missed ≡ old.missed
   pub ended : new.ended ≡ old.ended ++ known written
+  pub failed : new.failed ≡ counted (is_read_refused outcome) old.failed
   pub is : IsServed outcome input written before afterwards
 
 -- As many connections were served as were asked for, or fewer, where the listener was asked 2 ^ 64 - 1 times.
@@ -118,13 +123,20 @@ abbrev pub AreEnough : ℕ → ℕ → ℕ → ℕ → Type 0
 AreEnough connections served missed now =
     (served ≡ connections) ⊎ ((served < connections) × ((failed : ℕ) × (served + failed ≡ 2 ^ 64 - 1) × CountsFailures failed missed now))
 
--- So many connections of a listener were served, with one engine that was new, and all of them are one run.
+-- so many were counted, while the count is below its top
+abbrev pub CountsAll : ℕ → ℕ → ℕ → Type 0
+CountsAll n before now = now < 2 ^ 64 - 1 → before + n ≡ now
+
+-- So many connections of a listener were served, with one engine that was new, and all of them are one run. As many of them were
+-- left since a read failed as the listener counted.
 pub record ServesEach (connections : ℕ) (old new : Heard) (before afterwards : Situation) : Type 0 where
   pub inputs : List (Option (List ℕ))
   pub outputs : List (Option (List ℕ))
   pub given : new.given ≡ old.given ++ inputs
   pub ended : new.ended ≡ old.ended ++ flat_map known outputs
   pub kept : Option stored.Store
-  pub served : ServesList inputs outputs before (with_store kept afterwards)
+  pub left : ℕ
+  pub served : ServesList inputs outputs left before (with_store kept afterwards)
+  pub failed : CountsAll left old.failed new.failed
   pub run : IsOneRun inputs outputs before (with_store kept afterwards)
   pub enough : AreEnough connections (length inputs) old.missed new.missed

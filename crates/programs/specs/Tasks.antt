@@ -11,6 +11,7 @@ use Rattle.programs.specs.Applied.{AppliesToImage, AnswersInMemory}
 use Rattle.programs.specs.Copies.{SendsFrames}
 use Rattle.programs.specs.FaultLines.{Said, Reports}
 use Rattle.programs.specs.Images.{AreUntouched, Images}
+use Rattle.programs.specs.Inputs.{CountsReads, Input}
 use Rattle.programs.specs.NewVolumes.{MakesOnImage}
 use Rattle.programs.specs.Questions.{ShowsImage, ShowsPath}
 use Rattle.programs.specs.Questions.Question.{Names_at, Bytes_at, Commits, Soundness}
@@ -59,10 +60,23 @@ IsReading (Log image) = ⊤
 IsReading (Check image) = ⊤
 IsReading Send = ⊤
 
+-- An `apply` is refused for a read exactly if a read of its input failed, and no other command reads its input but `send`,
+-- which is also refused so for a read of its socket, or if answers are missing.
+abbrev pub CountsTaskReads : {T : Type 0} → Task → Result T Fault → ℕ → ℕ → Type 0
+CountsTaskReads (Format image label moment capacity) outcome before after = after ≡ before
+CountsTaskReads (Apply_to_image image) outcome before after = CountsReads outcome before after
+CountsTaskReads (Apply_in_memory capacity) outcome before after = CountsReads outcome before after
+CountsTaskReads (List_names image path) outcome before after = after ≡ before
+CountsTaskReads (Get_bytes image path) outcome before after = after ≡ before
+CountsTaskReads (Log image) outcome before after = after ≡ before
+CountsTaskReads (Check image) outcome before after = after ≡ before
+CountsTaskReads Send outcome before after = ⊤
+
 -- There is an outcome by which that was done. It has this status, and a fault's line was said.
-pub record Ends (task : Task) (status : ℕ) (old new : Images) (input left output written : Option (List ℕ)) (errors told : Said) : Type 0 where
+pub record Ends (task : Task) (status : ℕ) (old new : Images) (input left : Input) (output written : Option (List ℕ)) (errors told : Said) : Type 0 where
   pub outcome : Result (Unit {0}) Fault
-  pub does : IsTaskDone task outcome old new input left output written
+  pub does : IsTaskDone task outcome old new input.remaining left.remaining output written
+  pub reads : CountsTaskReads task outcome input.failures left.failures
   pub status_is : status ≡ status_of outcome
   pub reports : Reports (codes "udfburn") outcome errors told
 
@@ -78,10 +92,11 @@ IsToldAs outcome told = (told ≡ outcome) ⊎ (IsOk outcome × (told ≡ Err (S
 
 -- Something was done by an outcome, and of what was written with it a prefix is there. The status and the line are those of
 -- what is reported of it.
-pub record HasPrefix (task : Task) (status : ℕ) (old new : Images) (input left output written : Option (List ℕ)) (errors told : Said) : Type 0 where
+pub record HasPrefix (task : Task) (status : ℕ) (old new : Images) (input left : Input) (output written : Option (List ℕ)) (errors told : Said) : Type 0 where
   pub outcome : Result (Unit {0}) Fault
   pub gathered : Option (List ℕ)
-  pub does : IsTaskDone task outcome old new input left output gathered
+  pub does : IsTaskDone task outcome old new input.remaining left.remaining output gathered
+  pub reads : CountsTaskReads task outcome input.failures left.failures
   pub front : IsPrefixOf gathered written
   pub told_as : Result (Unit {0}) Fault
   pub is_told : IsToldAs outcome told_as
@@ -89,14 +104,14 @@ pub record HasPrefix (task : Task) (status : ℕ) (old new : Images) (input left
   pub reports : Reports (codes "udfburn") told_as errors told
 
 -- There are words of a command, and all was done that they ask for.
-pub record IsWhollyDone (old new : Images) (input left output written : Option (List ℕ)) (errors told : Said) : Type 0 where
+pub record IsWhollyDone (old new : Images) (input left : Input) (output written : Option (List ℕ)) (errors told : Said) : Type 0 where
   pub words : List (List ℕ)
   pub asked : Command
   pub asks : Asks words asked
   pub ends : Ends (task_of asked) 0 old new input left output written errors told
 
 -- There are words of a command, and of what was written for them a prefix is there.
-pub record IsPartlyDone (status : ℕ) (old new : Images) (input left output written : Option (List ℕ)) (errors told : Said) : Type 0 where
+pub record IsPartlyDone (status : ℕ) (old new : Images) (input left : Input) (output written : Option (List ℕ)) (errors told : Said) : Type 0 where
   pub words : List (List ℕ)
   pub asked : Command
   pub asks : Asks words asked

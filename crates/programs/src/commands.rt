@@ -6,8 +6,9 @@ ghost use Rattle.media.specs.Held.{Same};
 ghost use Rattle.programs.specs.Asked.{IsInRange};
 ghost use Rattle.programs.specs.FaultLines.{ReportsOutcome, said_on};
 ghost use Rattle.programs.specs.Images.{AreUntouched, images_on};
+ghost use Rattle.programs.specs.Inputs.{input_on};
 ghost use Rattle.programs.specs.Status.{IsRefusal};
-ghost use Rattle.programs.specs.Tasks.{IsTaskDone, Ends, IsReading, task_of};
+ghost use Rattle.programs.specs.Tasks.{CountsTaskReads, IsTaskDone, Ends, IsReading, task_of};
 
 use crate::errors::ErrorStream;
 use crate::fault::{Fault, report};
@@ -16,18 +17,19 @@ use crate::requests::{apply_in_memory, apply_to_image};
 use crate::sending::send;
 use crate::volumes::format_image;
 use command_line::{Command, Storage, read_command};
+use engine::CountedReader;
 use media::Media;
 use std::io::{Read, Write};
 use std::net::Net;
 
 /// Does what the words ask for, over media, from the input to the output. Returns the status, and reports on `errors`
 /// why it was refused.
-#[tactic(auto, using(crate::proofs::Statuses::asked, crate::proofs::Statuses::in_range, crate::proofs::Ending::ends))]
+#[tactic(auto, using(crate::proofs::Statuses::asked, crate::proofs::Statuses::in_range))]
 pub fn command_on<M, R, I, O, E>(
     rt: &R,
     media: &mut M,
     words: &[&str],
-    input: &mut I,
+    input: &mut CountedReader<I>,
     output: &mut O,
     errors: &mut ErrorStream<E>,
 ) -> u8
@@ -44,13 +46,13 @@ where
     // Nothing is reported except why it was refused.
     ensures reports { ReportsOutcome (codes "udfburn") result (said_on E.Write errors.old) (said_on E.Write errors.new) }
     // For other words nothing is read, nothing is written, and no image is changed.
-    ensures unread { result ≡ 2 → I.remaining input.new ≡ I.remaining input.old }
+    ensures unread { result ≡ 2 → input_on I.Read input.new ≡ input_on I.Read input.old }
     ensures unwritten { result ≡ 2 → O.contents output.new ≡ O.contents output.old }
     ensures untouched { result ≡ 2 → AreUntouched (images_on M.Media media.old) (images_on M.Media media.new) }
     // On honest media, a command that writes to no image leaves what they hold as it was.
     ensures unchanged { (asked : _) → Asks (map (λ w. w.now) words.now) asked → IsReading (task_of asked) → IsTrue (M.honest media.new) → Same (M.held media.old) (M.held media.new) }
     // What they ask for was done, or refused.
-    ensures does { (asked : _) → Asks (map (λ w. w.now) words.now) asked → Ends (task_of asked) result (images_on M.Media media.old) (images_on M.Media media.new) (I.remaining input.old) (I.remaining input.new) (O.contents output.old) (O.contents output.new) (said_on E.Write errors.old) (said_on E.Write errors.new) }
+    ensures does { (asked : _) → Asks (map (λ w. w.now) words.now) asked → Ends (task_of asked) result (images_on M.Media media.old) (images_on M.Media media.new) (input_on I.Read input.old) (input_on I.Read input.new) (O.contents output.old) (O.contents output.new) (said_on E.Write errors.old) (said_on E.Write errors.new) }
 {
     let outcome = match read_command(words) {
         Some(asked) => carry_out(rt, media, asked, input, output),
@@ -63,7 +65,7 @@ fn carry_out<M, R, I, O>(
     rt: &R,
     media: &mut M,
     asked: Command<'_>,
-    input: &mut I,
+    input: &mut CountedReader<I>,
     output: &mut O,
 ) -> Result<(), Fault>
 where
@@ -73,7 +75,8 @@ where
     O: Write,
     requires { IsInRange asked }
     ensures refusal { IfErr result IsRefusal }
-    ensures does { IsTaskDone (task_of asked.entry) result (images_on M.Media media.old) (images_on M.Media media.new) (I.remaining input.old) (I.remaining input.new) (O.contents output.old) (O.contents output.new) }
+    ensures does { IsTaskDone (task_of asked.entry) result (images_on M.Media media.old) (images_on M.Media media.new) (I.remaining input.old.stream) (I.remaining input.new.stream) (O.contents output.old) (O.contents output.new) }
+    ensures failures { CountsTaskReads (task_of asked.entry) result input.old.failures input.new.failures }
 {
     let alloc = rt.alloc();
     match asked {

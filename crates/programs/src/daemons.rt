@@ -7,6 +7,7 @@ ghost use Rattle.engine.specs.Served.{ServesAll};
 ghost use Rattle.programs.specs.Connections.{ServesMessages, LeavesConnection, LeavesStream};
 ghost use Rattle.programs.specs.FaultLines.{said_on};
 ghost use Rattle.programs.specs.Images.{IsUnchanged, images_on};
+ghost use Rattle.programs.specs.Inputs.{CountsReads};
 ghost use Rattle.programs.specs.Listening.{EndsOne, LetsGo, ServesEach, heard_on};
 ghost use Rattle.programs.specs.Outputs.{IsBlank};
 ghost use Rattle.programs.specs.Refusals.{OnAsked, RefusesDaemon, ReportsFaults, ServesImage, ReportsRefusal};
@@ -18,7 +19,7 @@ use crate::images::{open_image, put_back};
 use crate::listening::Listener;
 use command_line::{DaemonWords, read_daemon};
 use drive::Drive;
-use engine::{Engine, ServeFault, put_all, serve};
+use engine::{CountedReader, Engine, ServeFault, put_all, serve};
 use media::Media;
 use std::alloc::Global;
 use std::io::{BufWriter, Read, Write};
@@ -217,14 +218,14 @@ pub fn serve_one<L: Listener, D: Drive>(
     ensures ends { IsBlank (L.Output.contents output) → EndsOne result (L.Input.remaining input) (heard_on L.Listener listener.old) (heard_on L.Listener listener.new) (seen_on D.Drive engine.old drive.old) (seen_on D.Drive engine.new drive.new) }
 {
     if listener.limit(&input).is_err() {
-        listener.end(output);
+        listener.end(CountedReader::new(input), output);
         return Err(Fault::Socket);
     }
-    let mut input = input;
+    let mut input = CountedReader::new(input);
     let (served, output) = serve_stream(alloc, &mut input, output, engine, drive);
     match output {
         Some(output) => {
-            listener.end(output);
+            listener.end(input, output);
             served
         }
         None => served,
@@ -235,7 +236,7 @@ pub fn serve_one<L: Listener, D: Drive>(
 /// if it was dropped for lack of memory.
 fn serve_stream<I, O, D>(
     alloc: Global,
-    input: &mut I,
+    input: &mut CountedReader<I>,
     output: O,
     engine: &mut Engine,
     drive: &mut D,
@@ -249,14 +250,15 @@ where
     ensures lent { ReadsAndWrites D.Drive 0 drive.old drive.new }
     ensures goes { ServesMessages (seen_on D.Drive engine.old drive.old) (seen_on D.Drive engine.new drive.new) }
     ensures refusal { IfErr result.0 IsRefusal }
+    ensures failures { CountsReads result.0 input.old.failures input.new.failures }
     // If it ended well, all messages of the input were answered, and each answer is written.
-    ensures all { OnOk result.0 (IsSomeAnd result.1 (λ written. ServesAll (seen_on D.Drive engine.old drive.old) (seen_on D.Drive engine.new drive.new) (I.remaining input.old) (I.remaining input.new) (O.contents output) (O.contents written))) }
+    ensures all { OnOk result.0 (IsSomeAnd result.1 (λ written. ServesAll (seen_on D.Drive engine.old drive.old) (seen_on D.Drive engine.new drive.new) (I.remaining input.old.stream) (I.remaining input.new.stream) (O.contents output) (O.contents written))) }
     // Otherwise the first of them were answered, as far as the fault says, and a prefix of their answers is written.
-    ensures front { IfErr result.0 (λ fault. IfSome result.1 (λ written. LeavesStream fault (seen_on D.Drive engine.old drive.old) (seen_on D.Drive engine.new drive.new) (I.remaining input.old) (I.remaining input.new) (O.contents output) (O.contents written))) }
+    ensures front { IfErr result.0 (λ fault. IfSome result.1 (λ written. LeavesStream fault (seen_on D.Drive engine.old drive.old) (seen_on D.Drive engine.new drive.new) (I.remaining input.old.stream) (I.remaining input.new.stream) (O.contents output) (O.contents written))) }
     ensures left { IfErr result.0 (λ fault. LeavesConnection fault (seen_on D.Drive engine.old drive.old) (seen_on D.Drive engine.new drive.new)) }
     // If the output was dropped, nothing was done.
     ensures let_go { IfNone result.1 (LetsGo result.0 (seen_on D.Drive engine.old drive.old) (seen_on D.Drive engine.new drive.new)) }
-    ensures unread { IfNone result.1 (I.remaining input.new ≡ I.remaining input.old) }
+    ensures unread { IfNone result.1 (I.remaining input.new.stream ≡ I.remaining input.old.stream) }
 {
     let mut writer = match BufWriter::new(alloc, output) {
         Ok(writer) => writer,

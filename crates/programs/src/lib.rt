@@ -24,6 +24,7 @@ mod volumes;
 
 pub use commands::command_on;
 pub use daemons::{daemon_on, serve_one};
+pub use engine::CountedReader;
 pub use errors::ErrorStream;
 pub use fault::{Fault, report};
 pub use laws::{frames_are_messages, processes_are_runs, three_processes, two_processes};

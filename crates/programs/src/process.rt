@@ -4,6 +4,7 @@ ghost use Rattle.std.specs.Prelude.{◌≡◌, ◌≤◌, ◌-◌, ◌^◌, unwr
 ghost use Rattle.command_line.specs.Commands.{Asks};
 ghost use Rattle.programs.specs.FaultLines.{ReportsOutcome, said_on};
 ghost use Rattle.programs.specs.Images.{AreUntouched, images_on};
+ghost use Rattle.programs.specs.Inputs.{input_on};
 ghost use Rattle.programs.specs.Listening.{ServesEach, heard_on};
 ghost use Rattle.programs.specs.Refusals.{IsDaemonReported, IsEarly, OnAsked, ReportsFaults, ReportsEarly};
 ghost use Rattle.programs.specs.Tasks.{Ends, HasPrefix, IsPartlyDone, IsWhollyDone, IsPrefixOf, task_of};
@@ -13,7 +14,7 @@ use crate::daemons::daemon_on;
 use crate::errors::ErrorStream;
 use crate::fault::{Fault, report};
 use crate::listening::Listener;
-use engine::put_all;
+use engine::{CountedReader, put_all};
 use media::Media;
 use std::alloc::Global;
 use std::env;
@@ -34,7 +35,7 @@ const COMMAND_NAME: &str = "udfburn";
 pub fn run_command<M, R, I, O, E>(
     rt: &R,
     media: &mut M,
-    input: &mut I,
+    input: &mut CountedReader<I>,
     output: O,
     errors: &mut ErrorStream<E>,
 ) -> (u8, Option<O>)
@@ -46,15 +47,15 @@ where
     E: Write,
     ensures reports { ReportsOutcome (codes "udfburn") result.0 (said_on E.Write errors.old) (said_on E.Write errors.new) }
     // At status 0 the words are those of a command, and the whole output of what was done is written.
-    ensures done { result.0 ≡ 0 → IsSomeAnd result.1 (λ written. IsWhollyDone (images_on M.Media media.old) (images_on M.Media media.new) (I.remaining input.old) (I.remaining input.new) (O.contents output) (O.contents written) (said_on E.Write errors.old) (said_on E.Write errors.new)) }
+    ensures done { result.0 ≡ 0 → IsSomeAnd result.1 (λ written. IsWhollyDone (images_on M.Media media.old) (images_on M.Media media.new) (input_on I.Read input.old) (input_on I.Read input.new) (O.contents output) (O.contents written) (said_on E.Write errors.old) (said_on E.Write errors.new)) }
     // At status 1 they are too, unless the output was dropped, and a prefix is written.
-    ensures begun { result.0 ≤ 1 → IfSome result.1 (λ written. IsPartlyDone result.0 (images_on M.Media media.old) (images_on M.Media media.new) (I.remaining input.old) (I.remaining input.new) (O.contents output) (O.contents written) (said_on E.Write errors.old) (said_on E.Write errors.new)) }
+    ensures begun { result.0 ≤ 1 → IfSome result.1 (λ written. IsPartlyDone result.0 (images_on M.Media media.old) (images_on M.Media media.new) (input_on I.Read input.old) (input_on I.Read input.new) (O.contents output) (O.contents written) (said_on E.Write errors.old) (said_on E.Write errors.new)) }
     // For other words nothing is read and nothing is written.
-    ensures unread { result.0 ≡ 2 → I.remaining input.new ≡ I.remaining input.old }
+    ensures unread { result.0 ≡ 2 → input_on I.Read input.new ≡ input_on I.Read input.old }
     ensures unwritten { result.0 ≡ 2 → IfSome result.1 (λ written. IsPrefixOf (O.contents output) (O.contents written)) }
     ensures untouched { result.0 ≡ 2 → AreUntouched (images_on M.Media media.old) (images_on M.Media media.new) }
     // If the output was dropped, nothing was read, no image changed, and it reports why nothing was begun.
-    ensures let_go { IfNone result.1 (I.remaining input.new ≡ I.remaining input.old) }
+    ensures let_go { IfNone result.1 (input_on I.Read input.new ≡ input_on I.Read input.old) }
     ensures left { IfNone result.1 (AreUntouched (images_on M.Media media.old) (images_on M.Media media.new)) }
     ensures early { IfNone result.1 (ReportsEarly (codes "udfburn") result.0 (said_on E.Write errors.old) (said_on E.Write errors.new)) }
 {
@@ -96,7 +97,7 @@ where
 fn try_command<M, R, I, O, E>(
     rt: &R,
     media: &mut M,
-    input: &mut I,
+    input: &mut CountedReader<I>,
     output: O,
     errors: &mut ErrorStream<E>,
 ) -> Result<(u8, Option<O>), Fault>
@@ -108,15 +109,15 @@ where
     E: Write,
     ensures unreported { IfErr result (λ _. said_on E.Write errors.new ≡ said_on E.Write errors.old) }
     ensures reports { IfOk result (λ ended. ReportsOutcome (codes "udfburn") ended.0 (said_on E.Write errors.old) (said_on E.Write errors.new)) }
-    ensures done { IfOk result (λ ended. ended.0 ≡ 0 → IsSomeAnd ended.1 (λ written. IsWhollyDone (images_on M.Media media.old) (images_on M.Media media.new) (I.remaining input.old) (I.remaining input.new) (O.contents output) (O.contents written) (said_on E.Write errors.old) (said_on E.Write errors.new))) }
-    ensures begun { IfOk result (λ ended. ended.0 ≤ 1 → IfSome ended.1 (λ written. IsPartlyDone ended.0 (images_on M.Media media.old) (images_on M.Media media.new) (I.remaining input.old) (I.remaining input.new) (O.contents output) (O.contents written) (said_on E.Write errors.old) (said_on E.Write errors.new))) }
-    ensures unheard { OnErr result (I.remaining input.new ≡ I.remaining input.old) }
-    ensures unread { IfOk result (λ ended. ended.0 ≡ 2 → I.remaining input.new ≡ I.remaining input.old) }
+    ensures done { IfOk result (λ ended. ended.0 ≡ 0 → IsSomeAnd ended.1 (λ written. IsWhollyDone (images_on M.Media media.old) (images_on M.Media media.new) (input_on I.Read input.old) (input_on I.Read input.new) (O.contents output) (O.contents written) (said_on E.Write errors.old) (said_on E.Write errors.new))) }
+    ensures begun { IfOk result (λ ended. ended.0 ≤ 1 → IfSome ended.1 (λ written. IsPartlyDone ended.0 (images_on M.Media media.old) (images_on M.Media media.new) (input_on I.Read input.old) (input_on I.Read input.new) (O.contents output) (O.contents written) (said_on E.Write errors.old) (said_on E.Write errors.new))) }
+    ensures unheard { OnErr result (input_on I.Read input.new ≡ input_on I.Read input.old) }
+    ensures unread { IfOk result (λ ended. ended.0 ≡ 2 → input_on I.Read input.new ≡ input_on I.Read input.old) }
     ensures unwritten { IfOk result (λ ended. ended.0 ≡ 2 → IfSome ended.1 (λ written. IsPrefixOf (O.contents output) (O.contents written))) }
     ensures refused { IfErr result IsEarly }
     ensures unopened { OnErr result (AreUntouched (images_on M.Media media.old) (images_on M.Media media.new)) }
     ensures untouched { IfOk result (λ ended. ended.0 ≡ 2 → AreUntouched (images_on M.Media media.old) (images_on M.Media media.new)) }
-    ensures let_go { IfOk result (λ ended. IfNone ended.1 (I.remaining input.new ≡ I.remaining input.old)) }
+    ensures let_go { IfOk result (λ ended. IfNone ended.1 (input_on I.Read input.new ≡ input_on I.Read input.old)) }
     ensures left { IfOk result (λ ended. IfNone ended.1 (AreUntouched (images_on M.Media media.old) (images_on M.Media media.new))) }
     ensures early { IfOk result (λ ended. IfNone ended.1 (ReportsEarly (codes "udfburn") ended.0 (said_on E.Write errors.old) (said_on E.Write errors.new))) }
 {
@@ -132,7 +133,7 @@ fn gathered<M, R, I, O, E>(
     rt: &R,
     media: &mut M,
     words: &[&str],
-    input: &mut I,
+    input: &mut CountedReader<I>,
     output: O,
     errors: &mut ErrorStream<E>,
 ) -> (u8, Option<O>)
@@ -146,16 +147,16 @@ where
     ensures asks { result.0 ≤ 1 → IfSome result.1 (λ _. (asked : _) × Asks (map (λ w. w.now) words.now) asked) }
     ensures kept { result.0 ≡ 0 → IsSomeAnd result.1 (λ _. (asked : _) × Asks (map (λ w. w.now) words.now) asked) }
     // At status 0 the whole output is written, and otherwise a prefix of it.
-    ensures all { (asked : _) → Asks (map (λ w. w.now) words.now) asked → result.0 ≡ 0 → IsSomeAnd result.1 (λ written. Ends (task_of asked) 0 (images_on M.Media media.old) (images_on M.Media media.new) (I.remaining input.old) (I.remaining input.new) (O.contents output) (O.contents written) (said_on E.Write errors.old) (said_on E.Write errors.new)) }
+    ensures all { (asked : _) → Asks (map (λ w. w.now) words.now) asked → result.0 ≡ 0 → IsSomeAnd result.1 (λ written. Ends (task_of asked) 0 (images_on M.Media media.old) (images_on M.Media media.new) (input_on I.Read input.old) (input_on I.Read input.new) (O.contents output) (O.contents written) (said_on E.Write errors.old) (said_on E.Write errors.new)) }
     // For other words nothing is read and nothing is written.
-    ensures unread { result.0 ≡ 2 → I.remaining input.new ≡ I.remaining input.old }
+    ensures unread { result.0 ≡ 2 → input_on I.Read input.new ≡ input_on I.Read input.old }
     ensures unwritten { result.0 ≡ 2 → IfSome result.1 (λ written. IsPrefixOf (O.contents output) (O.contents written)) }
     ensures untouched { result.0 ≡ 2 → AreUntouched (images_on M.Media media.old) (images_on M.Media media.new) }
     // If the output was dropped, nothing is read and no image changed, since memory is short.
-    ensures let_go { IfNone result.1 (I.remaining input.new ≡ I.remaining input.old) }
+    ensures let_go { IfNone result.1 (input_on I.Read input.new ≡ input_on I.Read input.old) }
     ensures left { IfNone result.1 (AreUntouched (images_on M.Media media.old) (images_on M.Media media.new)) }
     ensures early { IfNone result.1 (ReportsEarly (codes "udfburn") result.0 (said_on E.Write errors.old) (said_on E.Write errors.new)) }
-    ensures front { (asked : _) → Asks (map (λ w. w.now) words.now) asked → IfSome result.1 (λ written. HasPrefix (task_of asked) result.0 (images_on M.Media media.old) (images_on M.Media media.new) (I.remaining input.old) (I.remaining input.new) (O.contents output) (O.contents written) (said_on E.Write errors.old) (said_on E.Write errors.new)) }
+    ensures front { (asked : _) → Asks (map (λ w. w.now) words.now) asked → IfSome result.1 (λ written. HasPrefix (task_of asked) result.0 (images_on M.Media media.old) (images_on M.Media media.new) (input_on I.Read input.old) (input_on I.Read input.new) (O.contents output) (O.contents written) (said_on E.Write errors.old) (said_on E.Write errors.new)) }
 {
     let mut writer = match BufWriter::new(rt.alloc(), output) {
         Ok(writer) => writer,

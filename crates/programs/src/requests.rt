@@ -5,12 +5,13 @@ ghost use Rattle.std.specs.Prelude.{◌≤◌, IfErr};
 ghost use Rattle.engine.specs.Situation.{situation_on};
 ghost use Rattle.programs.specs.Applied.{AppliesStream, AppliesToImage, AnswersInMemory};
 ghost use Rattle.programs.specs.Images.{images_on};
+ghost use Rattle.programs.specs.Inputs.{CountsReads};
 ghost use Rattle.programs.specs.Status.{IsRefusal};
 
 use crate::fault::Fault;
 use crate::images::{open_image, put_back};
 use drive::{Drive, MemDrive};
-use engine::{Engine, serve};
+use engine::{CountedReader, Engine, serve};
 use media::Media;
 use std::alloc::Global;
 use std::io::{Read, Write};
@@ -24,7 +25,7 @@ pub(crate) fn apply_to_image<M, I, O>(
     alloc: Global,
     media: &mut M,
     image: &str,
-    input: &mut I,
+    input: &mut CountedReader<I>,
     output: &mut O,
 ) -> Result<(), Fault>
 where
@@ -32,7 +33,8 @@ where
     I: Read,
     O: Write,
     ensures refusal { IfErr result IsRefusal }
-    ensures applies { AppliesToImage image.now result (images_on M.Media media.old) (images_on M.Media media.new) (I.remaining input.old) (I.remaining input.new) (O.contents output.old) (O.contents output.new) }
+    ensures failures { CountsReads result input.old.failures input.new.failures }
+    ensures applies { AppliesToImage image.now result (images_on M.Media media.old) (images_on M.Media media.new) (I.remaining input.old.stream) (I.remaining input.new.stream) (O.contents output.old) (O.contents output.new) }
 {
     let mut drive = open_image(media, image)?;
     let applied = apply(alloc, &mut drive, input, output);
@@ -44,12 +46,13 @@ where
 pub(crate) fn apply_in_memory<I: Read, O: Write>(
     alloc: Global,
     capacity: u32,
-    input: &mut I,
+    input: &mut CountedReader<I>,
     output: &mut O,
 ) -> Result<(), Fault>
     requires { capacity ≤ GREATEST_CAPACITY }
     ensures refusal { IfErr result IsRefusal }
-    ensures answers { AnswersInMemory result capacity (I.remaining input.old) (I.remaining input.new) (O.contents output.old) (O.contents output.new) }
+    ensures failures { CountsReads result input.old.failures input.new.failures }
+    ensures answers { AnswersInMemory result capacity (I.remaining input.old.stream) (I.remaining input.new.stream) (O.contents output.old) (O.contents output.new) }
 {
     let mut drive = MemDrive::new(alloc, capacity, Vec::new(alloc));
     format(alloc, &mut drive, MEMORY_LABEL, 0)?;
@@ -60,13 +63,14 @@ pub(crate) fn apply_in_memory<I: Read, O: Write>(
 fn apply<D: Drive, I: Read, O: Write>(
     alloc: Global,
     drive: &mut D,
-    input: &mut I,
+    input: &mut CountedReader<I>,
     output: &mut O,
 ) -> Result<(), Fault>
     ensures refusal { IfErr result IsRefusal }
+    ensures failures { CountsReads result input.old.failures input.new.failures }
     ensures applies { AppliesStream result (situation_on D.Drive None drive.old)
         (situation_on D.Drive None drive.new)
-        (I.remaining input.old) (I.remaining input.new) (O.contents output.old) (O.contents output.new) }
+        (I.remaining input.old.stream) (I.remaining input.new.stream) (O.contents output.old) (O.contents output.new) }
 {
     let mut engine = Engine::new();
     serve(alloc, input, output, &mut engine, drive)?;

@@ -1,9 +1,12 @@
 //! The connections of a socket.
 
-ghost use Rattle.std.specs.Prelude.{◌≡◌, ◌+◌, None, IfSome, replicate};
+ghost use Rattle.std.specs.Prelude.{◌≡◌, ◌+◌, ◌++◌, None, IfSome, nat_lt, replicate};
+ghost use Rattle.drive.specs.Journal.{counted};
 ghost use Rattle.programs.specs.Listening.{nothing_known};
+ghost use Rattle.programs.specs.Outputs.{known};
 
 use crate::listening::{Listener, NoConnection};
+use engine::CountedReader;
 use std::alloc::Global;
 use std::fs::{File, Files};
 use std::io::{self, Read, Write};
@@ -29,6 +32,7 @@ pub struct Sockets<'a, R: Files<File = File> + Net + Clock> {
     listener: Option<UnixListener>,
     given: u64,
     missed: u64,
+    failed: u64,
 }
 
 impl<'a, R: Files<File = File> + Net + Clock> Sockets<'a, R> {
@@ -39,6 +43,7 @@ impl<'a, R: Files<File = File> + Net + Clock> Sockets<'a, R> {
             listener: None,
             given: 0,
             missed: 0,
+            failed: 0,
         }
     }
 
@@ -79,6 +84,8 @@ impl<'a, R: Files<File = File> + Net + Clock> Listener for Sockets<'a, R> {
     ghost ended = { λ _. nothing_known };
 
     ghost missed = { λ s. s.missed };
+
+    ghost failed = { λ s. s.failed };
 
     // With an empty path the socket would get an address that no client can name.
     fn listen(&mut self, path: &str) -> Result<(), NoConnection> {
@@ -123,7 +130,17 @@ impl<'a, R: Files<File = File> + Net + Clock> Listener for Sockets<'a, R> {
     }
 
     // The stream is closed when the last of its halves is dropped.
-    fn end(&mut self, output: Pieces<Outgoing<'a, R>>) {
+    fn end(&mut self, input: CountedReader<Incoming<'a, R>>, output: Pieces<Outgoing<'a, R>>)
+        // Of what was written nothing is known.
+        ensures ended { nothing_known ≡ nothing_known ++ known None }
+        ensures given { self.new.given ≡ self.old.given }
+        ensures missed { self.new.missed ≡ self.old.missed }
+        ensures failed { self.new.failed ≡ counted (nat_lt 0 input.entry.failures) self.old.failed }
+    {
+        if input.failures() > 0 {
+            self.failed = self.failed.saturating_add(1);
+        }
+        drop(input);
         drop(output);
     }
 }

@@ -1,5 +1,4 @@
 use Rattle.std.proofs.Common.{inl}
-use Rattle.drive.proofs.Reading.{reads_then}
 use Rattle.programs.specs.Questions.Question.{Bytes_at}
 use Rattle.programs.proofs.Failing.{counts_refused, counts_then}
 use Rattle.programs.proofs.Printing.{shows_file, shows_refused}

@@ -1,8 +1,7 @@
-use Rattle.std.proofs.Common.{◌≡◌, ◌⊎◌, ℕ, ◌<◌, ◌≤◌, Bool, true, false, List, length, Option, sym, subst, arith}
+use Rattle.std.proofs.Common.{ℕ, ◌<◌, ◌≤◌, List, length, sym, subst, arith}
 use Rattle.limits.specs.declared.TheConstants.{FILE_BYTES}
 use Rattle.drive.specs.Journal.{Event}
 use Rattle.drive.proofs.Reading.{reads_none, reads_then}
-use Rattle.model.specs.Session.{State}
 use Rattle.store.specs.Calls.{IsOpenOn}
 use Rattle.programs.proofs.FilePieces.{last_is, printed_more, printed_none, puts_endless, puts_last, puts_stopped}
 use Rattle.programs.proofs.questions.put_file.Goals as goal

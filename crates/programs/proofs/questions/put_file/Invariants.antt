@@ -1,4 +1,4 @@
-use Rattle.std.proofs.Common.{◌≡◌, ◌-◌, ℕ, false, IsTrue, List}
+use Rattle.std.proofs.Common.{◌≡◌, ◌-◌, ℕ, false, IsTrue}
 use Rattle.drive.specs.Reads.{ReadsOnly}
 use Rattle.model.specs.Session.{State}
 use Rattle.store.specs.Agrees.{IsStoreOn}

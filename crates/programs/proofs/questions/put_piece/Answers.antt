@@ -1,11 +1,8 @@
-use Rattle.std.proofs.Common.{◌≡◌, ℕ, List, Ok, Err, sym, ap, subst, refl, ◌∙◌}
-use Rattle.std.specs.Prelude.{IsTrue}
+use Rattle.std.proofs.Common.{◌≡◌, ℕ, List, Err, sym, ap, subst, refl, ◌∙◌}
 use Rattle.limits.specs.declared.TheConstants.{FILE_BYTES}
-use Rattle.durability.specs.Runs.{Answer, told}
+use Rattle.durability.specs.Runs.{told}
 use Rattle.durability.specs.Runs.Answer.{Data}
 use Rattle.durability.specs.Runs.Query.{Read}
-use Rattle.model.specs.Session.{State}
-use Rattle.recover.specs.declared.fault.StoreFault.{StoreFault}
 use Rattle.store.proofs.Knowing.{shows, knows_again}
 use Rattle.store.proofs.Queried.{reads}
 use Rattle.store.specs.Calls.{IsOpenOn, ReadRefuses}

@@ -1,6 +1,7 @@
 use Rattle.std.proofs.Common.{None}
 use Rattle.engine.specs.Situation.{situation_on}
 use Rattle.programs.proofs.Applying.{applied_all, applied_until}
+use Rattle.programs.proofs.FailedReads.{counts_stream}
 use Rattle.programs.proofs.requests.apply.Goals as goal
 
 pub returns-in_err-serve-clause-applies : goal.returns-in_err-serve-clause-applies
@@ -12,3 +13,6 @@ pub returns-clause-applies : goal.returns-clause-applies
 returns-clause-applies g c =
     let d = c.serve.new.drive in
     applied_all _ _ _ _ _ _ _ (situation_on g.D.Drive None d) _ _ _ _ c.new-engine.ensures c.in_ok-serve.ensures.ok
+
+pub returns-in_err-serve-clause-failures : goal.returns-in_err-serve-clause-failures
+returns-in_err-serve-clause-failures g c = counts_stream c.from_residual.result _ _ _ c.from_residual.ensures.1 c.in_err-serve.ensures.failures
