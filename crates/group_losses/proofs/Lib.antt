@@ -1,0 +1,4 @@
+pub mod Gathering
+pub mod Growing
+pub mod Alone
+pub mod Enduring
