@@ -9,7 +9,7 @@ use crate::answers::tell;
 use crate::streams::Pieces;
 use crate::trouble::Trouble;
 use drive::{Block, Drive, Fault, MemDrive, Scheduled};
-use engine::{Delivery, Engine, ServeFault, run, serve};
+use engine::{CountedReader, Delivery, Engine, ServeFault, run, serve};
 use limits::MOMENT_LIMIT;
 use request::{Answer, Message, Query, Request, encode_answer, read_payload};
 use std::alloc::Global;
@@ -207,11 +207,11 @@ impl Machine {
     }
 
     /// Answers the messages of a stream.
-    pub fn serve(&mut self, reader: &mut Pieces<'_>, writer: &mut Room) -> Result<(), ServeFault> {
+    pub fn serve(&mut self, reader: Pieces<'_>, writer: &mut Room) -> Result<(), ServeFault> {
         self.store = None;
         serve(
             self.alloc,
-            reader,
+            &mut CountedReader::new(reader),
             writer,
             &mut self.engine,
             &mut self.drive,

@@ -222,12 +222,12 @@ impl Player {
             bytes: Vec::new(self.alloc),
             left: room,
         };
-        self.serve_pieces(&mut pieces(&bytes, first, size, end), &mut writer, out)
+        self.serve_pieces(pieces(&bytes, first, size, end), &mut writer, out)
     }
 
     fn serve_pieces(
         &mut self,
-        reader: &mut Pieces<'_>,
+        reader: Pieces<'_>,
         writer: &mut Room,
         out: &mut String,
     ) -> Result<(), Trouble> {
