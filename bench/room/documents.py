@@ -1,4 +1,5 @@
-"""Documents that are the same on each machine: files of text in folders, with sizes and names as people's documents have them."""
+"""Documents that are the same on each machine: files of text in folders, with sizes and names as people's documents have them; and small
+files that are alike."""
 from __future__ import annotations
 
 import os
@@ -42,3 +43,15 @@ def make_documents(folder: str, files: int, size: int, seed: int = 1) -> int:
             os.utime(path, (MOMENT + made, MOMENT + made))
             made, total = made + 1, total + count
     return total
+
+
+def make_alike(folder: str, files: int, size: int, seed: int = 1) -> int:
+    """So many files of so many bytes in one folder; gives their bytes."""
+    chance = random.Random(seed)
+    os.makedirs(os.path.join(folder, "alike"))
+    for index in range(files):
+        path = os.path.join(folder, "alike", f"file {index}.bin")
+        with open(path, "xb") as file:
+            file.write(chance.randbytes(size))
+        os.utime(path, (MOMENT + index, MOMENT + index))
+    return files * size

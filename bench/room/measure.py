@@ -14,12 +14,12 @@ from typing import Optional, Sequence
 TOP = Path(__file__).resolve().parent.parent.parent
 sys.path[:0] = [str(TOP / "clients" / "python"), str(TOP / "bench" / "beside"), str(Path(__file__).resolve().parent)]
 
-from documents import make_documents  # noqa: E402
-from udfburn.image.blocks import INSIDE, PARTITION, data_blocks  # noqa: E402
+from documents import make_alike, make_documents  # noqa: E402
+from udfburn.image.blocks import data_blocks  # noqa: E402
 from udfburn.image.past import commits  # noqa: E402
 from udfburn.protocol.units import Address  # noqa: E402
 from udfburn.reader import FileType, Medium  # noqa: E402
-from udfburn.reader.basics import number_of  # noqa: E402
+from udfburn.reader.basics import INSIDE, PARTITION, number_of  # noqa: E402
 from udfburn.reader.entry import read_entry  # noqa: E402
 from ways import bytes_of, installed  # noqa: E402
 
@@ -71,13 +71,13 @@ def run(*words: str, **extra: str) -> None:
     subprocess.run(words, check=True, env={**os.environ, **extra}, stdout=subprocess.DEVNULL)
 
 
-def archived(program: str, room: str, source: str, nodes: Optional[int]) -> tuple[int, Counter[str]]:
+def archived(program: str, room: str, source: str, nodes: Optional[int], words_of_add: Sequence[str]) -> tuple[int, Counter[str]]:
     """Adds and closes an archive; gives how many volumes it takes, and their blocks."""
     archive = os.path.join(room, "archive")
     words = [sys.executable, "-m", "udfburn.archive"]
     extra = {"PYTHONPATH": installed(room), "UDFBURN": program}
     run(*words, "init", archive, "--quiet", *([] if nodes is None else ["--nodes", str(nodes)]), **extra)
-    for command in (["add", source], ["close"]):
+    for command in (["add", *words_of_add, source], ["close"]):
         run(*words, *command, "--quiet", "--archive", archive, **extra)
     images = sorted(Path(archive, "closed").glob("*.img"))
     found: Counter[str] = Counter()
@@ -106,13 +106,13 @@ def others(room: str, source: str) -> list[tuple[str, int]]:
 
 def measure(program: str, room: str, asked: argparse.Namespace) -> None:
     source = os.path.join(room, "documents")
-    size = make_documents(source, asked.files, asked.bytes)
+    size = make_documents(source, asked.files, asked.bytes) if asked.alike is None else make_alike(source, asked.files, asked.alike)
     folders, least = sum(1 for _ in os.walk(source)) - 1, floor_of(source)
     small = sum(os.path.getsize(os.path.join(at, name)) <= INSIDE for at, _, names in os.walk(source) for name in names)
     print(f"{asked.files:,} files, {size / 1e6:.1f} MB, {folders} folders; {small} files are inside their entries; floor {least * BLOCK / 1e6:.1f} MB\n")
     print(f"| Nodes a volume | Volumes | MB | Of the floor | Of the documents | {' | '.join(f'{kind}, blocks a file' for kind in KINDS)} |\n|{'---|' * 12}")
     for nodes in asked.nodes or [None]:
-        count, found = archived(program, room, source, nodes)
+        count, found = archived(program, room, source, nodes, ["--bundle"] if asked.bundle else [])
         blocks = sum(found[kind] for kind in KINDS)
         cells = [str(nodes or "as init has it"), str(count), f"{blocks * BLOCK / 1e6:.1f}", f"{blocks / least:.2f}", f"{blocks * BLOCK / size:.2f}"]
         print(f"| {' | '.join(cells + [f'{found[kind] / asked.files:.2f}' for kind in KINDS])} |", flush=True)
@@ -125,6 +125,8 @@ def main(words: Sequence[str]) -> int:
     parser.add_argument("--files", type=int, default=4000)
     parser.add_argument("--bytes", type=int, default=39_000_000)
     parser.add_argument("--nodes", type=int, action="append", help="nodes of a volume, at most; may be given several times")
+    parser.add_argument("--alike", type=int, metavar="N", help="instead of documents, files of N bytes in one folder")
+    parser.add_argument("--bundle", action="store_true", help="add them with --bundle")
     parser.add_argument("--folder", help="where the archive is made")
     parser.add_argument("program", metavar="UDFBURN")
     asked = parser.parse_args(words)

@@ -12,6 +12,7 @@ from ..local.sources import Source, shown
 from ..protocol import Path
 from ..protocol.units import Commit, Moment
 from ..wire.operations import now
+from .bundling import in_bundles
 from .catalogue import Catalogue, Held, VolumeRow, image_of, is_whole
 from .claims import claims_of
 from .config import Config, volume_label
@@ -48,6 +49,8 @@ class AddOptions(NamedTuple):
     """Whether the remotes get what open volumes have more."""
     again: bool = False
     """Whether files are stored also if the archive has their bytes."""
+    bundle: bool = False
+    """Whether the small files of a folder are stored in bundles, where they are many."""
 
 
 class AddSummary:
@@ -121,6 +124,8 @@ class Adder:
         for found in walk.below(local, path):
             self.departed.found(found)
             jobs = self._fresh_jobs(found, filler)
+            if self.options.bundle:
+                jobs = in_bundles(jobs, self.config.capacity)
             if jobs:
                 filler.put(found.folder, jobs)
         if self.options.deletions and not walk.faults:

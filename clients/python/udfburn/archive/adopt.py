@@ -18,7 +18,7 @@ from .close import beside, own_sidecars
 from .config import Config
 from .contents import Contents
 from .errors import LOST, NotAtHand, VolumeDiffers
-from .names import name_back
+from .names import is_bundle, name_back
 from .remotes import Print, print_of_file
 from .same import rows_on
 from .tell import Tell, plural
@@ -52,7 +52,8 @@ def require_whole(config: Config, catalogue: Catalogue, row: VolumeRow, image: s
         lines = {held.key() for held in rows_on(contents, row.number)}
         lacking += [held for held in same_rows.of_volume(catalogue.base, row.number) if held.key() not in lines]
     if lacking:
-        raise VolumeDiffers(f"{shown(image)}: lacks {plural(len(lacking), 'file', 'files')} that the catalogue has of {row.label}: it is an older copy")
+        files = sum(not is_bundle(held.path[-1]) for held in lacking)
+        raise VolumeDiffers(f"{shown(image)}: lacks {plural(files, 'file', 'files')} that the catalogue has of {row.label}: it is an older copy")
     if row.state == STATE_CLOSED and print_of_file(image) != Print(row.length or 0, row.sha256 or b""):
         raise VolumeDiffers(f"{shown(image)}: is not {row.label} as it was closed: its length or SHA-256 differs")
 

@@ -19,6 +19,7 @@ from .config import Config
 from .contents import ABOUT, Contents
 from .deletions import Event, events_on, replace_events
 from .errors import LOST, ArchiveError, CopyFailed, NotAtHand
+from .names import is_bundle
 from .open_copies import Image, OpenCopies, opened_image
 from .remotes import remote_of
 from .same import count_of, rows_on
@@ -118,16 +119,16 @@ class BringBack:
         there = {held.key() for held in best.rows + best.lines}
         lost = [held for held in self.catalogue.of_volume(row.number) if held.key() not in there]
         lines = [held for held in same_rows.of_volume(self.catalogue.base, row.number) if held.key() not in there]
-        for path in dict.fromkeys(held.path for held in lost + lines):
+        for path in dict.fromkeys(held.path for held in lost + lines if not is_bundle(held.path[-1])):
             self.tell.fail(f"{row.label}: {shown_path(path)} is on no copy: add it again")
-        for path in dict.fromkeys(held.path for held in same_rows.of_targets(self.catalogue.base, lost)):
+        for path in dict.fromkeys(held.path for held in same_rows.of_targets(self.catalogue.base, lost) if not held.is_member()):
             self.tell.fail(f"{row.label}: {shown_path(path)} has its bytes there, on no copy: add it again")
         if lost or lines:
-            count = plural(len(lost) + count_of(lines), "file", "files")
+            count = plural(count_of(lost, lines), "file", "files")
             self.failures.append(f"{row.label}: the newest copy, on {best.remote}, lacks {count} that the catalogue had")
         replace_events(self.catalogue, row.number, best.events)
         same_rows.replace_lines(self.catalogue, row.number, best.lines)
-        files = len(best.rows) + count_of(best.lines)
+        files = count_of(best.rows, best.lines)
         self.catalogue.replace(row._replace(last_commit=best.last_commit, files=files, trouble=None), best.rows)
 
     def _copies(self, row: VolumeRow) -> None:

@@ -18,8 +18,8 @@ from .base import Base, Row, open_base
 from .config import Config
 from .errors import CatalogueError
 from .held import Held, as_of, below, folder_back, folder_text, held_row, is_whole, mebibytes_of, order, versions, volume_and_commit
-from .names import kept_name, name_back
-from .schema import CATALOGUE_VERSION, COMMITS, upgrade_statements
+from .names import is_bundle, kept_name, name_back
+from .schema import CATALOGUE_VERSION, COMMITS, LISTED, upgrade_statements
 
 STATE_OPEN, STATE_FULL, STATE_CLOSING, STATE_CLOSED, STATE_NEW, STATE_RETIRED = "open", "full", "closing", "closed", "new", "retired"
 """The states of a volume. A new one has its number and maybe no image yet. A retired one is a closed one that nobody is asked for any more."""
@@ -230,9 +230,10 @@ class Catalogue:
     # ---- files
 
     def add(self, volume: VolumeRow, rows: Sequence[Held]) -> None:
-        """Keeps files of a volume, and what is known of it after them, as one."""
+        """Keeps files of a volume, bundles with their members, and what is known of it after them, as one."""
         with self.base.transaction():
-            self._insert(rows)
+            self._insert([row for row in rows if row.noted is None])
+            same_rows.insert_lines(self, [row for row in rows if row.noted is not None])
             self.save(volume)
 
     def replace(self, volume: VolumeRow, rows: Sequence[Held]) -> None:
@@ -259,6 +260,7 @@ class Catalogue:
         """Keeps names that no file has yet for the index, and then those of the files. Only inside a transaction."""
         if not self.base.has_names:
             return
+        rows = [row for row in rows if not is_bundle(row.path[-1])]
         new = "INSERT INTO known_name (name) SELECT ? WHERE NOT EXISTS (SELECT 1 FROM by_name WHERE name = ?)"
         self.base.many(new, [(name, name) for name in sorted({kept_name(row.path[-1]) for row in rows})])
         for table, column in NAME_TABLES:
@@ -288,11 +290,11 @@ class Catalogue:
 
     def _mend(self, table: str, column: str) -> int:
         name, back = ("name", "one.name") if column == "name" else ("reverse(name)", "reverse(one.ending)")
-        files = f"""SELECT {name} AS {column}, path, file.id AS id, part_count FROM folder JOIN file ON file.folder = folder.id
+        files = f"""SELECT {name} AS {column}, path, file.id AS id, part_count FROM folder JOIN file ON file.folder = folder.id AND {LISTED}
         UNION ALL SELECT DISTINCT {name}, path, -(volume * {COMMITS} + commit_number), part_count * 0 FROM folder JOIN same ON same.folder = folder.id"""
         same = " AND ".join(f"one.{field} IS other.{field}" for field in (column, "path", "id", "part_count"))
         stale = f"""FROM {table} AS one WHERE NOT EXISTS (SELECT 1 FROM file JOIN folder ON folder.id = file.folder
-        WHERE file.id = one.id AND {name} = one.{column} AND path = one.path AND part_count IS one.part_count)
+        WHERE file.id = one.id AND {name} = one.{column} AND path = one.path AND part_count IS one.part_count AND {LISTED})
         AND NOT EXISTS (SELECT 1 FROM folder JOIN same ON same.folder = folder.id WHERE folder.path = one.path AND same.name = {back}
         AND one.id < 0 AND volume * {COMMITS} + commit_number = -one.id AND part_count * 0 IS one.part_count)"""
         missing = f"FROM ({files}) AS one WHERE NOT EXISTS (SELECT 1 FROM {table} AS other WHERE {same})"
@@ -317,7 +319,7 @@ class Catalogue:
 
     def in_folder(self, path: Path) -> Dict[str, List[Held]]:
         """The rows of each name in a folder, the newest first."""
-        statement = f"SELECT {FILE_COLUMNS} FROM file JOIN folder ON folder.id = file.folder WHERE folder.path = ?"
+        statement = f"SELECT {FILE_COLUMNS} FROM file JOIN folder ON folder.id = file.folder WHERE folder.path = ? AND {LISTED}"
         found: Dict[str, List[Held]] = {}
         for row in self.base.run(statement, (folder_text(path),)):
             held = held_row(path, row)
@@ -348,7 +350,7 @@ class Catalogue:
         return max(held, Moment(int(found[0][0] or 0)), same_rows.last_added(self.base, path))
 
     def of_volume(self, number: int) -> List[Held]:
-        """The rows of the files that a volume has, in order of their commits."""
+        """The rows of the files and bundles that a volume has, in order of their commits."""
         statement = f"""SELECT {FILE_COLUMNS}, folder.path FROM file JOIN folder ON folder.id = file.folder
         WHERE file.id >= ? AND file.id < ? ORDER BY file.id"""
         values = (number * COMMITS, (number + 1) * COMMITS)

@@ -13,20 +13,23 @@ from ..base.own_files import BytesTold, from_top, move, remove, set_mode, untold
 from ..base.scratch import room, sweep
 from ..local.sources import shown
 from ..protocol import Path, limits
+from ..protocol.units import Commit
 from ..wire.operations import now
 from . import same_rows
 from .assemble import assembled
 from .bring_back import BringBack
+from .bundle import damaged_in
 from .catalogue import DISC, STATE_CLOSED, STATE_RETIRED, Catalogue, Copy, Held, VolumeRow, image_of, mebibytes_of, odd_image
 from .claims import Claims
 from .close import SIDECARS, beside, complete, send
 from .config import Config
 from .contents import Contents, File
 from .errors import ArchiveError, Claimed, CopyFailed, NotAtHand, VolumeDiffers
+from .names import is_bundle
 from .open_copies import GROWING, OpenCopies
 from .parity import durable, gathered, mended, parity_names, require_program
 from .remotes import Print, Remote, print_of_file, remote_of
-from .same import rows_on
+from .same import count_of, rows_on
 from .status import loss
 from .tell import Tell, plural, shown_path
 
@@ -140,16 +143,20 @@ class Checker:
         """The files that are not as they were stored, each once. Each byte of the payload is read once."""
         manifest = contents.manifest()
         known = {held.commit: held for held in self.catalogue.of_volume(row.number)}
-        self.files += len(known)
+        noted = same_rows.of_volume(self.catalogue.base, row.number)
+        members = [held for held in noted if held.is_member()]
+        self.files += count_of(known.values(), members)
         bad: List[str] = []
         for file in contents.files():
             held = known.pop(file.commit, None)
             same = self._is_as_stored(held, contents, file, manifest)
             if not same or held is not None and (file.path, file.parts) != (held.path, held.parts):
-                bad.append(shown_path(file.path))
-        lines = {held.key(): held for held in rows_on(contents, row.number)}
-        for held in [*known.values(), *(held for held in same_rows.of_volume(self.catalogue.base, row.number) if lines.get(held.key()) != held._replace(there=True))]:
-            bad.append(shown_path(held.path))
+                bad += hurt(contents, file, members)
+        # A bundle whose list is damaged was named.
+        unlisted: Dict[Commit, str] = {}
+        lines = {held.key(): held for held in rows_on(contents, row.number, unlisted)}
+        gone = [held for held in noted if lines.get(held.key()) != held._replace(there=True) and not (held.is_member() and held.commit in unlisted)]
+        bad += [shown_path(held.path) for held in [*known.values(), *gone]]
         for path, digest in manifest.items():
             node = contents.nodes.get(path)
             if node is None or contents.sha256_of(node) != digest:
@@ -204,6 +211,12 @@ class Checker:
         if row.state != STATE_CLOSED:
             return f"'udfburn-archive close --without-damaged {row.label}' closes it without what is damaged, and then 'add' stores that again"
         return "no copy is known: 'udfburn-client salvage' copies out what is intact"
+
+
+def hurt(contents: Contents, file: File, members: Sequence[Held]) -> List[str]:
+    """What is damaged of a file that is: of a bundle those of its files whose own bytes are."""
+    damaged = damaged_in(contents, file, [held for held in members if held.commit == file.commit]) if is_bundle(file.path[-1]) else []
+    return [shown_path(held.path) for held in damaged] or [shown_path(file.path)]
 
 
 def has_print(image: str, wanted: Print, told: BytesTold = untold) -> bool:

@@ -79,6 +79,7 @@ def add_writers(subs: "Subs") -> None:
     add.add_argument("--skip-odd", action="store_true", help="leave out links, pipes, sockets and devices without counting them as failures")
     add.add_argument("--dry-run", action="store_true", help="print what would be stored, and change nothing")
     add.add_argument("--deletions", action="store_true", help="record which files below PATH are not at the source any more: they stay in the archive, and are shown only as of earlier times")
+    add.add_argument("--bundle", action="store_true", help="store the small files of a folder, where they are many, together in tars; each has its own path, and is given back by itself")
     add.add_argument("--again", action="store_true", help="store each new file, also one whose bytes the archive has under another path or time")
     add.add_argument("--no-copy", action="store_true", help="do not copy to the remotes what the open volumes have more; 'copy' does it later")
     add_rules(add)

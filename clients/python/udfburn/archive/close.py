@@ -9,7 +9,7 @@ import os
 from contextlib import closing
 from hashlib import sha256
 from tempfile import TemporaryDirectory
-from typing import Dict, List, Mapping, NamedTuple, Optional, Sequence, Tuple
+from typing import Dict, Iterator, List, Mapping, NamedTuple, Optional, Sequence, Tuple
 
 from ..base.beneath import is_own, open_own, place_of
 from ..base.manifest import BAG_DECLARATION, BAG_INFO, DECLARATION, MANIFEST, PAYLOAD_FOLDER, TAG_MANIFEST, ManifestLine, bag_manifest
@@ -17,21 +17,24 @@ from ..base.own_files import BytesTold, move, remove, untold
 from ..base.unfinished import is_unfinished
 from ..local.saving import write_file
 from ..local.sources import shown
-from ..protocol import Code, Create, Path, Remove, Replace, limits
+from ..protocol import Code, Create, MakeDir, Path, Remove, Replace, limits
 from ..protocol.units import Moment, Size
 from ..wire.connection import find_program, run_program
 from ..wire.operations import Operation, now
 from . import same_rows
 from .bag import info, tag_manifest
 from .batch import locked
+from .bundle_mending import is_elsewhere, keep_members
 from .catalogue import Catalogue, Copy, Held, STATE_CLOSED, STATE_CLOSING, VolumeRow, image_of
 from .claims import Claims
 from .config import Config
 from .contents import SIZE, Contents, File, number, read_fields
 from .errors import ArchiveError, CopyFailed, NotAtHand, VolumeDiffers
+from .names import is_bundle
 from .parity import make as make_parity
 from .parity import parity_beside
 from .remotes import Print, Remote, print_of_file, remote_of
+from .same import count_of, rows_on
 from .tell import Tell, plural, shown_path, stamp
 from .volume import OpenVolume
 
@@ -190,27 +193,35 @@ class Closer:
         with closing(Contents(volume.image)) as contents:
             damaged = read_payload(contents, self.catalogue.of_volume(volume.row.number), volume.sent()).damaged
             paths = [path for file in damaged for path in contents.stored_paths(file)]
+            bundles = [file for file in damaged if is_bundle(file.path[-1])]
+            self._done(volume, (operation for file in bundles for operation in keep_members(self.catalogue, volume.tree, contents, volume.row.number, file)))
         if not paths:
             return
-        for outcome in volume.client.run(Operation(Remove, path, now()) for path in paths):
-            if outcome.code is not Code.DONE:
-                raise VolumeDiffers(f"{volume.row.label}: {outcome.operation.path}: {outcome.code.name}: run the command again")
+        self._done(volume, (Operation(Remove, path, now()) for path in paths))
         with closing(Contents(volume.image)) as contents:
             known = self.catalogue.of_volume(volume.row.number)
-            rows = contents.rows(volume.row.number, {held.commit: held for held in known})
-            files = volume.row.files - len(known) + len(rows)
-            self.catalogue.replace(volume.row._replace(last_commit=contents.last_commit, files=files), rows)
+            rows, lines = contents.rows(volume.row.number, {held.commit: held for held in known}), rows_on(contents, volume.row.number)
         there = {held.id() for held in rows}
-        self._name_others(volume, [held for held in known if held.id() not in there])
+        self._name_others(volume, [held for held in known if held.id() not in there], lines)
+        same_rows.replace_lines(self.catalogue, volume.row.number, lines)
+        self.catalogue.replace(volume.row._replace(last_commit=contents.last_commit, files=count_of(rows, lines)), rows)
         for file in damaged:
             line = f"{volume.row.label}: {shown_path(file.path)} is not as it was stored, and was taken off"
             self.tell.say_step(line, did="taken off", volume=volume.row.label, path=shown_path(file.path))
         volume.row = self.catalogue.volume(volume.row.number) or volume.row
         volume.load()
 
-    def _name_others(self, volume: OpenVolume, lost: Sequence[Held]) -> None:
-        """Names the files of which another one had the bytes that were taken off."""
-        for path in dict.fromkeys(held.path for held in same_rows.of_targets(self.catalogue.base, lost)):
+    def _done(self, volume: OpenVolume, operations: Iterator[Operation]) -> None:
+        """Has a volume do requests, each of which has to be done."""
+        for outcome in volume.client.run(operations):
+            if outcome.code is not Code.DONE and not (outcome.operation.kind is MakeDir and outcome.code is Code.EXISTS):
+                raise VolumeDiffers(f"{volume.row.label}: {outcome.operation.path}: {outcome.code.name}: run the command again")
+
+    def _name_others(self, volume: OpenVolume, lost: Sequence[Held], lines: Sequence[Held]) -> None:
+        """Names the files that had bytes in what was taken off, and have them nowhere else."""
+        there = {held.version() for held in lines}
+        named = [held for held in same_rows.of_targets(self.catalogue.base, lost) if held.version() not in there or not held.is_member()]
+        for path in dict.fromkeys(held.path for held in named if not (held.start is not None and is_elsewhere(self.catalogue, held))):
             line = f"{volume.row.label}: {shown_path(path)} had its bytes there, and lacks them: 'add' stores them again"
             self.tell.say_step(line, did="lacks", volume=volume.row.label, path=shown_path(path))
 

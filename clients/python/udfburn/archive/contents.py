@@ -10,7 +10,7 @@ from typing import Dict, Iterator, List, Mapping, NamedTuple, Optional, Set, Tup
 
 from ..base.manifest import MANIFEST, PAYLOAD_FOLDER, TAG_MANIFEST, read_manifest
 from ..protocol import Path, limits
-from ..protocol.units import Commit, Moment, Size
+from ..protocol.units import Address, Commit, Moment, Size
 from ..reader import FileType, Medium, NoVolume, Run, State, StateNode, Volume
 from ..reader.basics import address_of, blocks_of
 from .batch import sound_length
@@ -226,7 +226,7 @@ class Contents:
     # ---- its files
 
     def files(self) -> List[File]:
-        """The files of the archive, by their commits. Parts without a description are left out."""
+        """The files of the archive, bundles among them, by their commits. Parts without a description are left out."""
         digests = self.manifest()
         whole: List[File] = []
         described: Dict[Tuple[Path, int], StateNode] = {}
@@ -288,6 +288,32 @@ class Contents:
                 return self.bytes_of(node) if node.data is None else self._extent(node, index)
             index -= count
         raise VolumeDiffers(f"{self.image}: {text_of(file.path)} has fewer bytes than the catalogue says: run 'check --data', then 'repair'")
+
+    def pieces_of_row(self, file: File, row: Held) -> Iterator[bytes]:
+        """The bytes that a row says are in a file or a bundle, a mebibyte at a time."""
+        if row.start is None:
+            yield from self.pieces(file)
+        else:
+            yield self.span(file, row.start, row.size)
+
+    def span(self, file: File, start: int, size: Size) -> bytes:
+        """So many bytes of a file from one on, or `VolumeDiffers` where they cannot be read. No other block is."""
+        found, at, end = bytearray(), 0, start + size
+        for node in file.nodes:
+            whole = [(at, self.bytes_of(node))] if node.data is None else []
+            for extent in node.extents:
+                low, high = max(start - at, 0), min(end - at, extent.size)
+                if low < high:
+                    first, last = low // limits.BLOCK, -(-high // limits.BLOCK)
+                    run = self.medium.run(Address(address_of(extent.first) + first), last - first)
+                    found += self._whole(node, run)[low - first * limits.BLOCK : high - first * limits.BLOCK]
+                at += extent.size
+            for begin, data in whole:
+                found += data[max(start - begin, 0) : max(end - begin, 0)]
+                at += len(data)
+        if start < 0 or len(found) != size:
+            raise VolumeDiffers(f"{self.image}: {text_of(file.path)} has fewer bytes than the catalogue says: run 'check --data', then 'repair'")
+        return bytes(found)
 
     def _extent(self, node: StateNode, index: int) -> bytes:
         """The bytes of an extent."""

@@ -107,9 +107,9 @@ class Filler:
         return jobs[1:]
 
     def _as_parts(self, job: VolumeJob) -> List[VolumeJob]:
-        """A file that no volume has room for, in parts."""
+        """A file that no volume has room for, in parts; or the files of a bundle, one by one."""
         try:
-            return [job.as_parts()]
+            return job.otherwise()
         except SourceError as error:
             self.failed(job, str(error))
             return []
@@ -233,9 +233,9 @@ class Filler:
         volume.resync()
         left: List[VolumeJob] = []
         for job in jobs:
-            if job.failure is not None:
-                self.failed(job, job.failure)
-            elif not job.stored():
+            for file, why in job.failures():
+                self.failed(file, why)
+            if job.failure is None and not job.stored():
                 left.append(job.again())
         if full:
             self._full(volume)
@@ -269,14 +269,15 @@ class Filler:
         if volume.last_commit == volume.row.last_commit:
             return
         self.claims.require()
-        rows = [job.held(volume.row.number, volume.began) for job in (*done, *cut)]
-        fresh = sum(1 for job in (*done, *cut) if job.begun == job.first)
+        rows = [row for job in (*done, *cut) for row in job.rows(volume.row.number, volume.began)]
+        fresh = sum(len(job.files()) for job in (*done, *cut) if job.begun == job.first)
         volume.row = volume.filled(volume.last_commit, volume.row.files + fresh)
         self.catalogue.add(volume.row, rows)
-        for job in (*done, *cut):
-            self.sent[job.source.path] = self.sent.get(job.source.path, 0) + job.sent_bytes()
+        for path, count in (each for job in (*done, *cut) for each in job.counts()):
+            self.sent[path] = self.sent.get(path, 0) + count
         # A file is stored once all of it is: what follows may be on its way to another volume.
-        whole = [job for job in done if not job.in_parts or job.rest() is None and is_whole(job.own_rows_in(self.catalogue))]
+        ended = [job for job in done if not job.in_parts or job.rest() is None and is_whole(job.own_rows_in(self.catalogue))]
+        whole = [file for job in ended for file in job.files()]
         sent = [self.sent.pop(job.source.path, 0) for job in whole]
         for job, count in zip(whole, sent):
             self.tell.step("stored", job.source.path, count, volume.row.label, job.commit)

@@ -13,6 +13,7 @@ from .base import Range, Row
 from .catalogue import Catalogue, folder_back, versions
 from .names import kept_name, name_back
 from .patterns import trigrams
+from .schema import LISTED
 
 WILD = "*?["
 
@@ -20,7 +21,7 @@ FEW = 1000
 """Rows of a literal beginning or end that are compared before the index is asked."""
 
 
-TABLES = (("file", "part_count"), ("same", "part_count * 0"))
+TABLES = ((f"file ON file.folder = folder.id AND {LISTED}", "part_count"), ("same ON same.folder = folder.id", "part_count * 0"))
 """The tables of files, with what says whether a row is of parts."""
 
 LAST = "\U0010ffff"
@@ -93,7 +94,7 @@ def by_path(catalogue: Catalogue, pattern: str) -> Iterator[Row]:
         return
     for where, values in (("path = ?", (folder,)), ("path >= ? AND path < ?", (begin, after(begin)))):
         # Files, and those whose bytes are another's.
-        both = (f"SELECT path, name, {parts} FROM folder JOIN {table} ON {table}.folder = folder.id WHERE {where}" for table, parts in TABLES)
+        both = (f"SELECT path, name, {parts} FROM folder JOIN {table} WHERE {where}" for table, parts in TABLES)
         for row in catalogue.base.stream(f"{' UNION ALL '.join(both)} ORDER BY path, name", values * 2):
             if fnmatchcase(f"{row[0]}/{row[1]}", pattern):
                 yield row

@@ -45,7 +45,7 @@ class Fresh:
 
     def _counts(self, source: Source, row: Held) -> bool:
         """Whether the archive has what a row says. A volume that was retired does not count. Of one that is damaged what can be seen does."""
-        if row.noted is not None and (self.again or not row.there or not self._says(row)):
+        if row.noted is not None and (self.again and not row.is_member() or not row.there or not self._says(row)):
             return False
         volume = self._volume(row.volume)
         if volume is None or volume.state != STATE_CLOSED or volume.trouble is None:

@@ -93,7 +93,7 @@ class Getter:
         mode = self._mode(files)
         with Root.make(folder, folder_mode(mode)) as root, Saver(root, self._force, mode) as saver:
             try:
-                for want in sorted(files, key=lambda want: [(row.volume, row.commit) for row in want.rows]):
+                for want in sorted(files, key=lambda want: [(row.volume, row.commit, row.start or 0) for row in want.rows]):
                     self._one(want, saver)
                 saver.finish()
             finally:
@@ -153,7 +153,7 @@ class Getter:
             if file is None or file.path != row.stored_as():
                 raise VolumeDiffers(f"{contents.image}: does not have it as the catalogue says: run 'check' and 'rebuild'")
             skip = max(have - (row.first or 0), 0)
-            for index, piece in enumerate(contents.pieces(file)):
+            for index, piece in enumerate(contents.pieces_of_row(file, row)):
                 if index < skip:
                     continue
                 whole.update(piece)

@@ -19,7 +19,8 @@ class Held(NamedTuple):
     in parts `first` is the first mebibyte that is here, and `parts` how many are; both are None where the file is whole.
 
     A file whose bytes the archive had already has a line on a volume in the place of its bytes: `noted` is the volume and the commit of the
-    line, `at` the path that has the bytes, and `there` says whether the catalogue has that file.
+    line, `at` the path that has the bytes, and `there` says whether the catalogue has that file. Where the bytes are in a bundle, `start` is
+    the byte of it with which they begin. The line of a member of a bundle is in the bundle's own list, so `noted` is the bundle itself.
     """
 
     volume: int
@@ -34,6 +35,7 @@ class Held(NamedTuple):
     at: Optional[Path] = None
     noted: Optional[Tuple[int, Commit]] = None
     there: bool = True
+    start: Optional[int] = None
 
     def id(self) -> int:
         """The id of the row of a file; of a line a number below 0, which those of a text have in common."""
@@ -50,6 +52,10 @@ class Held(NamedTuple):
     def written(self) -> Tuple[int, Commit]:
         """The volume and the commit that say that the archive has it."""
         return self.noted or (self.volume, self.commit)
+
+    def is_member(self) -> bool:
+        """Whether it was stored in a bundle, and is no line that names another file."""
+        return self.start is not None and self.noted == (self.volume, self.commit)
 
     def stored_as(self) -> Path:
         """The path that has its bytes."""
@@ -72,8 +78,9 @@ def folder_text(path: Path) -> str:
 
 
 def folder_back(text: str) -> Path:
-    """The folder that the catalogue has."""
-    return tuple(name_back(name) for name in text.split("/")[1:])
+    """The folder that the catalogue has, or the path that has the bytes of a line, which may be a bundle's: that has a slash in its name."""
+    above, slashes, bundle = text.partition("//")
+    return tuple(name_back(name) for name in above.split("/")[1:]) + (("/" + bundle,) if slashes else ())
 
 
 def path_line(path: Path) -> str:

@@ -111,6 +111,28 @@ class VolumeJob:
         """The same file in parts, since no volume has room for all of it; or `SourceError`, since its digest comes first."""
         return VolumeJob(self.source, self.digest or digest_of(self.source), in_parts=True)
 
+    def otherwise(self) -> List["VolumeJob"]:
+        """What is stored in its place where no volume has room for it; or `SourceError`."""
+        return [self.as_parts()]
+
+    # ---- its files: one, or those of a bundle
+
+    def files(self) -> List["VolumeJob"]:
+        """The files that it stores."""
+        return [self]
+
+    def counts(self) -> List[Tuple[Path, int]]:
+        """The paths of those, each with the bytes of it that are stored by now."""
+        return [(self.source.path, self.sent_bytes())]
+
+    def failures(self) -> List[Tuple["VolumeJob", str]]:
+        """The files that are not stored, each with why."""
+        return [] if self.failure is None else [(self, self.failure)]
+
+    def rows(self, volume: int, added: Moment) -> List[Held]:
+        """The rows of the catalogue for what is stored by now."""
+        return [self.held(volume, added)]
+
     # ---- planned
 
     def plan(self, tree: PlannedTree, partly: bool, unfinished: Optional[Unfinished] = None) -> bool:

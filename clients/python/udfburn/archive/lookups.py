@@ -29,7 +29,7 @@ def place(row: Held, labels: Dict[int, str]) -> Dict[str, object]:
     """Where bytes of a version are, for programs; of a line also which path has them, and the line's own volume and commit."""
     found: Dict[str, object] = {"volume": labels[row.volume], "commit": row.commit, "first": row.first, "parts": row.parts}
     if row.noted is not None:
-        found.update({"as": shown_path(row.stored_as()), "noted": {"volume": labels[row.noted[0]], "commit": row.noted[1]}, "known": row.there})
+        found.update({"as": shown_path(row.stored_as()), "noted": {"volume": labels[row.noted[0]], "commit": row.noted[1]}, "known": row.there, "start": row.start})
     return found
 
 
@@ -184,8 +184,10 @@ def where(arguments: argparse.Namespace) -> int:
 
 
 def as_noted(held: Held, labels: VolumeLabels) -> Tuple[str, Dict[str, object]]:
-    """What a row says of a file whose bytes another one has, for people and for programs; nothing of others."""
+    """What a row says of a file whose bytes another one or a bundle has, for people and for programs; nothing of others."""
     if held.noted is None:
         return "", {}
     volume, commit = labels[held.noted[0]], held.noted[1]
-    return f" as {printed_path(held.stored_as())}, which {volume} commit {commit} says", {"as": shown_path(held.stored_as()), "noted": {"volume": volume, "commit": commit}}
+    fields: Dict[str, object] = {"as": shown_path(held.stored_as()), "noted": {"volume": volume, "commit": commit}, "start": held.start}
+    where = printed_path(held.stored_as()) + (f", bytes {held.start} to {held.start + held.size - 1}" if held.start is not None and held.size else "")
+    return (f" in {where}" if held.is_member() else f" as {where}, which {volume} commit {commit} says"), fields

@@ -2,8 +2,8 @@
 
 A name keeps its spelling where UDF can spell it and it does not begin with `=`. Names that begin with `=` are this
 program's: `=s1` and on hold names of the folder above that found no room in it, `=v2` and on hold later versions,
-`=000000000000000` and on are the parts of a file, `=file.txt` describes them, and `==` begins an escaped name. To undo the
-layout, leave out the `=s` and `=v` folders, and decode escaped names.
+`=000000000000000` and on are the parts of a file, `=file.txt` describes them, `=b1.tar` and on are bundles of the small files
+of their folder, and `==` begins an escaped name. To undo the layout, leave out the `=s` and `=v` folders, and decode escaped names.
 """
 
 from __future__ import annotations
@@ -43,6 +43,7 @@ CODED = "%\r\n"
 SPREAD = re.compile(r"=s([1-9][0-9]*)")
 VERSION_FOLDER = re.compile(r"=v([1-9][0-9]*)")
 PART = re.compile(r"=([0-9]{15,})")
+BUNDLE = re.compile(r"=b[1-9][0-9]{0,4}\.tar")
 HEXED = re.compile(rb"=([0-9A-F]{2})")
 
 
@@ -56,7 +57,29 @@ def is_plain(name: str) -> bool:
 
 def spelled(name: str) -> Path:
     """The names, one below the other, under which a name is stored: most often itself alone."""
+    if is_bundle(name):
+        return (stored_bundle(name),)
     return (name,) if is_plain(name) else name_pieces(tokens(name))
+
+
+# ---- bundles
+
+def bundle_name(number: int) -> str:
+    """The name that a bundle of a folder has in the archive. It has a slash, so it is no file's."""
+    return f"/b{number}.tar"
+
+
+def is_bundle(name: str) -> bool:
+    """Whether a name of the archive is a bundle's."""
+    return name[:1] == "/"
+
+
+def stored_bundle(name: str) -> str:
+    """The name of a bundle on a volume."""
+    return MARK + name[1:]
+
+
+# ---- escaped names
 
 
 def tokens(name: str) -> List[str]:
@@ -147,11 +170,14 @@ def read_back(names: Path) -> Optional[Stored]:
         names, part = names[:-1], -1
     else:
         names, part = part_back(names)
+    bundle: Path = ()
+    if part is None and names and BUNDLE.fullmatch(names[-1]):
+        names, bundle = names[:-1], ("/" + names[-1][len(MARK) :],)
     kept = tuple(name for name in names if not SPREAD.fullmatch(name))
     path = decoded(kept)
-    if not path or any(name in ("", ".", "..") or "/" in name or "\0" in name for name in path):
+    if not path + bundle or any(name in ("", ".", "..") or "/" in name or "\0" in name for name in path):
         return None
-    return Stored(path, version, part)
+    return Stored(path + bundle, version, part)
 
 
 def part_back(names: Path) -> Tuple[Path, Optional[int]]:
@@ -189,7 +215,9 @@ def name_back(kept: str) -> str:
 
 
 def text_of(path: Path) -> str:
-    """A path as users write it."""
+    """A path as users write it; of a bundle with its name on the volume."""
+    if path and is_bundle(path[-1]):
+        path = path[:-1] + (stored_bundle(path[-1]),)
     return "/" + "/".join(path)
 
 

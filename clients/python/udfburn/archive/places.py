@@ -57,6 +57,8 @@ class Reading:
     def has(self, source: Source, held: Held) -> bool:
         """Whether the bytes of a row are those of its source, both read now; `SourceError` where the source cannot be read as it was."""
         file = self.files.get(held.commit)
+        if held.start is not None:
+            return file is not None and file.path == held.stored_as() and has_same_bytes(source, self.contents.pieces_of_row(file, held))
         if file is None or (file.path, file.size, file.first, file.parts) != (held.stored_as(), held.size, held.first, held.parts):
             return False
         # A line has a moment of its own.

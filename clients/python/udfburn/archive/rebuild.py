@@ -19,6 +19,7 @@ from ..base.own_files import from_top, untold
 from ..base.scratch import room, sweep
 from ..local.sources import shown
 from ..protocol import limits
+from ..protocol.units import Commit
 from ..wire.operations import now
 from . import same_rows
 from .bag import manifest_size
@@ -29,6 +30,7 @@ from .config import Config, traces, volume_label
 from .contents import ABOUT, ARCHIVE, About, Contents, about_of, read_fields
 from .deletions import Event, events_on, replace_events
 from .errors import ArchiveError, CatalogueError, Claimed, CopyFailed, VolumeDiffers
+from .fetching import fetched, known_length, length_on
 from .markers import markers_of, move_marker
 from .remake import NO_CATALOGUE, KeptCatalogue
 from .remotes import Print, Remote, owner_of, print_of_file, remote_of
@@ -84,6 +86,8 @@ class VolumeRead(NamedTuple):
     rows: List[Held]
     events: List[Event]
     lines: List[Held]
+    unlisted: Dict[Commit, str]
+    """Bundles whose lists are damaged, by their commits, with what is said of each."""
 
 
 def read_volume(image: str, closed: bool, holder: str) -> Optional[VolumeRead]:
@@ -99,13 +103,14 @@ def _read_volume(image: str, closed: bool, holder: str) -> Optional[VolumeRead]:
         if (ABOUT,) not in contents.nodes:
             return None
         about = contents.about()
-        rows, lines = contents.rows(about.number), rows_on(contents, about.number)
+        unlisted: Dict[Commit, str] = {}
+        rows, lines = contents.rows(about.number), rows_on(contents, about.number, unlisted)
         names: Dict[Tuple[str, ...], int] = {}
         for path in contents.nodes:
             if path:
                 names[path[:-1]] = names.get(path[:-1], 0) + 1
         row = VolumeRow(
-            about.number, contents.label, STATE_OPEN, holder, contents.capacity, contents.formatted, last_commit=contents.last_commit, files=len(rows) + count_of(lines),
+            about.number, contents.label, STATE_OPEN, holder, contents.capacity, contents.formatted, last_commit=contents.last_commit, files=count_of(rows, lines),
             nodes=len(contents.nodes), blocks=contents.medium.blocks, clients=len(contents.clients()),
             manifest=sum(manifest_size(node.path) for node in contents.payload()), fullest_folder=max(names.values(), default=0),
         )
@@ -113,7 +118,7 @@ def _read_volume(image: str, closed: bool, holder: str) -> Optional[VolumeRead]:
         if closed and contents.is_bag():
             length, digest = sidecar(image)
             row = row._replace(state=STATE_CLOSED, length=length, sha256=digest, closed=contents.closed())
-        return VolumeRead(about, row, rows, events_on(contents, about.number), lines)
+        return VolumeRead(about, row, rows, events_on(contents, about.number), lines, unlisted)
 
 
 def read_all(wanted: Iterable[Tuple[str, bool]], holder: str, several: bool) -> Generator[Tuple[str, Callable[[], Optional[VolumeRead]]], None, None]:
@@ -176,36 +181,6 @@ def begin_reading() -> None:
     if signal.getsignal(signal.SIGINT) != signal.SIG_IGN:
         signal.signal(signal.SIGINT, signal.SIG_DFL)
     signal.pthread_sigmask(signal.SIG_UNBLOCK, {signal.SIGINT})
-
-
-def known_length(image: str) -> int:
-    """The bytes of an image, where they are known."""
-    try:
-        return os.path.getsize(image)
-    except OSError:
-        return 0
-
-
-def length_on(remote: Remote, base: str) -> int:
-    """The same on a remote."""
-    try:
-        return remote.length(base) or 0
-    except CopyFailed:
-        return 0
-
-
-def fetched(remote: Remote, base: str, folder: str) -> str:
-    """The path of an image that is brought from a remote into a folder, with what is known of it; where it has not been closed, of what its
-    copy has."""
-    image = os.path.join(folder, base)
-    with from_top(image) as place:
-        if remote.length(base) is None:
-            remote.fetch_grown(base, place)
-            return image
-        remote.fetch(base, place)
-    with suppress(CopyFailed), from_top(beside(image, ".info")) as place:
-        remote.fetch(os.path.basename(beside(image, ".info")), place)
-    return image
 
 
 class Rebuilder:
@@ -387,13 +362,17 @@ class Rebuilder:
         if old is not None and not closed and self._is_older(old, read.row):
             raise VolumeDiffers(f"{shown(image)}: is an older copy of {old.label}, which was closed or taken over since, and was left out")
         self._seen[number] = state
+        noted = same_rows.of_volume(self.catalogue.base, number)
+        # What the catalogue has of a bundle whose list is damaged is all that is known of its files.
+        lines = read.lines + [held._replace(there=True) for held in noted if held.is_member() and held.commit in read.unlisted]
+        self.summary.failures += read.unlisted.values()
         if is_new:
             self.summary.unknown[read.row.label] = read.row.files
         else:
-            self._compare(read.row.label, known + same_rows.of_volume(self.catalogue.base, number), read.rows + read.lines)
+            self._compare(read.row.label, known + noted, read.rows + lines)
         if not self.dry_run:
             replace_events(self.catalogue, number, read.events)
-            same_rows.replace_lines(self.catalogue, number, read.lines)
+            same_rows.replace_lines(self.catalogue, number, lines)
             self.catalogue.replace(self._row(read.row, closed, old), read.rows)
         self.summary.volumes += 1
         self.summary.files += read.row.files

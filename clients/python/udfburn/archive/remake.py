@@ -44,9 +44,9 @@ ODD_EVENTS = " OR ".join([f"typeof({name}) <> 'integer'" for name in ("folder", 
 ODD_LINES = " OR ".join(
     [f"typeof({name}) <> 'integer'" for name in ("folder", "volume", "commit_number", "size", "moment", "added", "target")]
     + ["volume < 0", "size < 0", "target < 0", "typeof(sha256) <> 'blob'", "length(sha256) <> 32", "typeof(name) <> 'text'", "typeof(target_path) <> 'text'"]
-    + [f"typeof({name}) NOT IN ('integer', 'null')" for name in ("first_part", "part_count")]
+    + [f"typeof({name}) NOT IN ('integer', 'null')" for name in ("first_part", "part_count", "first_byte")] + ["first_byte < 0"]
 )
-"""What no row of a line is."""
+"""What no row of a line or of a member of a bundle is."""
 
 
 class KeptCatalogue(NamedTuple):

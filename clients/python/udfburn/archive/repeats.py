@@ -86,7 +86,7 @@ class Repeats:
             return False
         source = job.source
         rows = [
-            held._replace(path=source.path, moment=source.moment(), added=Moment(0), at=held.path, noted=(0, Commit(0))) for held in group
+            held._replace(path=source.path, moment=source.moment(), added=Moment(0), at=held.stored_as(), noted=(0, Commit(0))) for held in group
         ]
         found = entry(rows, self.config.label, list(map(self.content.version_there, group)))
         self._lines.append(LineToWrite(job, found))

@@ -17,6 +17,7 @@ from .close import beside
 from .config import Config, volume_label
 from .contents import Contents
 from .errors import VolumeDiffers
+from .names import is_bundle
 from .status import VolumeStatus, lines
 from .tell import shown_path
 
@@ -51,10 +52,11 @@ def logged(log: str) -> List[Address]:
 def volume(config: Config, catalogue: Catalogue, line: VolumeStatus, folders: Dict[str, int]) -> Dict[str, Any]:
     """What the page has of a volume. Its files are in lists of one length, in order of their commits."""
     row = line.row
-    stored = catalogue.of_volume(row.number)
-    # One for each file whose bytes are another's.
+    own = [held for held in catalogue.of_volume(row.number) if not is_bundle(held.path[-1])]
+    # One for each file whose bytes are another's, and for each in a bundle.
     lines = {(held.written(), held.path): held for held in same_rows.of_volume(catalogue.base, row.number)}
-    rows = sorted([*stored, *lines.values()], key=lambda held: held.written()[1])
+    stored = own + [held for held in lines.values() if held.is_member()]
+    rows = sorted([*own, *lines.values()], key=lambda held: held.written()[1])
     return {
         "number": row.number, "label": row.label, "state": line.state, "capacity": row.capacity, "opened": row.formatted, "closed": row.closed,
         "checked": row.checked, "last": row.last_commit, "sha256": row.sha256.hex() if row.sha256 else None, "fullness": line.fullness,
@@ -69,7 +71,9 @@ def volume(config: Config, catalogue: Catalogue, line: VolumeStatus, folders: Di
 
 
 def words_of(config: Config, held: Held) -> str:
-    """Which file has the bytes of another one."""
+    """Which file has the bytes of another one, or which bundle."""
+    if held.is_member():
+        return f"in {shown_path(held.stored_as())}"
     return f"the same as {shown_path(held.stored_as())}, {volume_label(config.label, held.volume)} commit {held.commit}"
 
 

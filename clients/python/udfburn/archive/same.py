@@ -6,17 +6,18 @@ Programs go by the volume and the commit that stored the bytes, and compare what
 from __future__ import annotations
 
 import re
-from typing import Iterable, Iterator, List, NamedTuple, Sequence, Tuple
+from typing import Dict, Iterable, Iterator, List, NamedTuple, Optional, Sequence, Tuple
 
 from ..base.manifest import PAYLOAD_FOLDER
 from ..protocol import limits
 from ..protocol.units import Commit, Moment, Size
 from ..reader import FileType, StateNode
+from .bundle import members_on
 from .config import volume_label
 from .contents import SAME, SIZE, TEXT_BYTES, Contents, number
 from .errors import CannotStore, VolumeDiffers
 from .held import Held, is_whole, line_path, path_line
-from .names import kept_name, read_back, spelled, stored_folder, text_of
+from .names import is_bundle, kept_name, read_back, spelled, stored_folder, text_of
 from .schema import COMMITS, NUMBERS
 
 SAME_TITLE = "udfburn-archive same 1"
@@ -26,10 +27,11 @@ WORDS = f"""{SAME_TITLE}
 The archive had the bytes of these files already, so they are not stored again.
 A file has a line with its SHA-256, its size in bytes, its time of modification
 in microseconds from 1970-01-01 UTC, and its path in the archive. Below it is
-where its bytes are: the volume, the commit that stored them, and their path on
-that volume. If another file is there, look in =s1, =s2 .. of its folder and in
-data/=v2, data/=v3 .. for the one with this SHA-256; if that volume is closed,
-its manifest-sha256.txt has it. In paths %25 is a percent sign.
+where its bytes are: the volume, the commit that stored them, their path on that
+volume, and which bytes of that, where they are not all. If another file is there,
+look in =s1, =s2 .. of its folder and in data/=v2, data/=v3 .. for the one with
+this SHA-256; if that volume is closed, its manifest-sha256.txt has it. In paths
+%25 is a percent sign.
 
 """
 
@@ -58,7 +60,9 @@ def entry(rows: Sequence[Held], label: str, places: Sequence[int]) -> SameEntry:
 
 
 def span(row: Held) -> str:
-    """Which bytes of a file in parts a volume has."""
+    """Which bytes of a file in parts a volume has, or which of a bundle they are."""
+    if row.start is not None:
+        return f", bytes {row.start} to {row.start + row.size - 1}"
     if row.parts is None:
         return ""
     first = (row.first or 0) * limits.FILE
@@ -130,12 +134,22 @@ def row_of_place(line: str, head: Held, label: str) -> Held:
     for name in stored.path:
         kept_name(name)
     row = head._replace(volume=number(found.group(1), NUMBERS), commit=Commit(number(found.group(2), COMMITS - 1)), at=stored.path)
+    if is_bundle(stored.path[-1]):
+        return in_bundle(line, row, found.group(3), found.group(4))
     if found.group(3) is None:
         return row
     start, end = number(found.group(3), head.size), number(found.group(4), head.size) + 1
     if start % limits.FILE or end <= start:
         raise ValueError(f"{line[:60]!r} names no part of a file")
     return row._replace(first=start // limits.FILE, parts=-(-end // limits.FILE) - start // limits.FILE)
+
+
+def in_bundle(line: str, row: Held, first: Optional[str], last: Optional[str]) -> Held:
+    """The row of a file whose bytes a bundle has."""
+    start = number(first or "", limits.FILE)
+    if number(last or "", limits.FILE) + 1 - start != row.size:
+        raise ValueError(f"{line[:60]!r} names no bytes of a bundle")
+    return row._replace(start=start)
 
 
 def whole_rows(rows: List[Held]) -> List[Held]:
@@ -145,8 +159,8 @@ def whole_rows(rows: List[Held]) -> List[Held]:
     return rows
 
 
-def rows_on(contents: Contents, volume: int) -> List[Held]:
-    """The rows of all lines that a volume has."""
+def rows_on(contents: Contents, volume: int, unlisted: Optional[Dict[Commit, str]] = None) -> List[Held]:
+    """The rows of all lines that a volume has, and of the members of its bundles. `unlisted` is as in `members_on`."""
     nodes = nodes_on(contents)
     if sum(node.size for node in nodes) > SAME_TEXTS_BYTES:
         raise VolumeDiffers(f"{contents.image}: has more than {SAME_TEXTS_BYTES} bytes of files whose bytes are elsewhere")
@@ -156,7 +170,7 @@ def rows_on(contents: Contents, volume: int) -> List[Held]:
         added = contents.added(noted[1])
         for rows in read_same(contents.bytes_of(node), f"{contents.image}: {text_of(node.path)}", contents.about().label):
             found += [row._replace(noted=noted, added=added) for row in rows]
-    return found
+    return found + members_on(contents, volume, unlisted)
 
 
 def nodes_on(contents: Contents) -> List[StateNode]:
@@ -164,9 +178,9 @@ def nodes_on(contents: Contents) -> List[StateNode]:
     return [node for path, node in contents.nodes.items() if len(path) == 2 and path[0] == SAME and node.kind is FileType.FILE]
 
 
-def count_of(rows: Iterable[Held]) -> int:
-    """How many files rows of lines are of."""
-    return len({(row.noted, row.path) for row in rows})
+def count_of(rows: Iterable[Held], lines: Iterable[Held]) -> int:
+    """How many files the rows of a volume, and those of lines and of members of bundles, are of."""
+    return sum(not is_bundle(row.path[-1]) for row in rows) + len({(row.noted, row.path) for row in lines})
 
 
 __all__ = ["SAME_TEXTS_BYTES", "SAME_TITLE", "SameEntry", "count_of", "entry", "nodes_on", "read_same", "rows_on", "same_texts", "text_size"]

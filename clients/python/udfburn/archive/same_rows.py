@@ -18,24 +18,28 @@ IDS_ASKED = 500
 """Ids that one statement asks for."""
 
 LINE = """same.name, same.volume, same.commit_number, same.size, same.moment, same.sha256, same.added, same.target, same.target_path,
-same.first_part, same.part_count, there.id"""
-THERE = "LEFT JOIN file AS there ON there.id = same.target AND there.size = same.size AND there.sha256 = same.sha256"
-"""The file that a line names, where the catalogue has it."""
+same.first_part, same.part_count, same.first_byte, there.id"""
+THERE = """LEFT JOIN file AS there ON there.id = same.target AND CASE WHEN same.first_byte IS NULL THEN there.size = same.size AND there.sha256 = same.sha256
+ELSE there.size >= same.first_byte + same.size END"""
+"""The file that a line names, or the bundle, where the catalogue has it."""
+
+MEMBER = f"same.first_byte IS NOT NULL AND same.target = same.volume * {COMMITS} + same.commit_number"
+"""What the row of a member of a bundle is, beside those of lines that name bytes in bundles."""
 
 INSERT_LINE = """
-INSERT INTO same (folder, name, volume, commit_number, size, moment, sha256, added, target, target_path, first_part, part_count)
-VALUES (?, ?, ?, ?, ?, ?, ?, ?, ?, ?, ?, ?) ON CONFLICT (folder, name, volume, commit_number, target) DO UPDATE SET size = excluded.size,
+INSERT INTO same (folder, name, volume, commit_number, size, moment, sha256, added, target, target_path, first_part, part_count, first_byte)
+VALUES (?, ?, ?, ?, ?, ?, ?, ?, ?, ?, ?, ?, ?) ON CONFLICT (folder, name, volume, commit_number, target) DO UPDATE SET size = excluded.size,
 moment = excluded.moment, sha256 = excluded.sha256, added = excluded.added, target_path = excluded.target_path,
-first_part = excluded.first_part, part_count = excluded.part_count
+first_part = excluded.first_part, part_count = excluded.part_count, first_byte = excluded.first_byte
 """
 
 
 def line_row(folder: Path, row: Row) -> Held:
     """A row of lines."""
-    name, number, commit, size, moment, sha256, added, target, at, first, count, there = row
+    name, number, commit, size, moment, sha256, added, target, at, first, count, start, there = row
     path, place = (*folder, name_back(name)), volume_and_commit(int(target))
     held = Held(*place, path, Size(int(size)), Moment(int(moment)), bytes(sha256), Moment(int(added)), first, count)
-    return held._replace(at=folder_back(at), noted=(int(number), Commit(int(commit))), there=there is not None)
+    return held._replace(at=folder_back(at), noted=(int(number), Commit(int(commit))), there=there is not None, start=start)
 
 
 # ---- kept
@@ -46,7 +50,7 @@ def insert_lines(catalogue: "Catalogue", rows: Sequence[Held]) -> None:
     catalogue.base.many(INSERT_LINE, [
         (
             folders[folder_text(row.path[:-1])], kept_name(row.path[-1]), *row.written(), row.size, row.moment, row.sha256, row.added, row.target(),
-            folder_text(row.stored_as()), row.first, row.parts,
+            folder_text(row.stored_as()), row.first, row.parts, row.start,
         )
         for row in rows
     ])
@@ -112,9 +116,28 @@ def of_targets(base: Base, rows: Iterable[Held]) -> List[Held]:
 
 
 def count_named(base: Base, number: int) -> int:
-    """How many files have lines that name bytes of a volume."""
+    """How many files have lines that name bytes of a volume; the members of its bundles are its own files."""
     values = (number * COMMITS, (number + 1) * COMMITS)
-    return int(base.run("SELECT count(*) FROM (SELECT DISTINCT folder, name FROM same WHERE target >= ? AND target < ?) AS named", values)[0][0])
+    statement = f"SELECT DISTINCT folder, name FROM same WHERE target >= ? AND target < ? AND NOT ({MEMBER})"
+    return int(base.run(f"SELECT count(*) FROM ({statement}) AS named", values)[0][0])
+
+
+def count_members(base: Base, number: int) -> int:
+    """How many files the bundles of a volume have."""
+    return int(base.run(f"SELECT count(*) FROM same WHERE volume = ? AND {MEMBER}", (number,))[0][0])
+
+
+def has_member(base: Base, size: int) -> bool:
+    """Whether a bundle has a file of so many bytes."""
+    return bool(base.run("SELECT 1 FROM same WHERE first_byte IS NOT NULL AND size = ? LIMIT 1", (size,)))
+
+
+def members_with(base: Base, size: int, sha256: bytes, most: int) -> List[Held]:
+    """Members of bundles that have these bytes, so many at most, the first that were stored first."""
+    statement = f"""SELECT {LINE}, folder.path FROM same JOIN folder ON folder.id = same.folder {THERE}
+    WHERE same.size = ? AND substr(same.sha256, 1, 8) = ? AND same.sha256 = ? AND {MEMBER} ORDER BY same.target LIMIT {most}"""
+    rows = base.run(statement, (size, sha256[:8], sha256))
+    return [held for held in (line_row(folder_back(row[-1]), row[:-1]) for row in rows) if held.there]
 
 
 def kept_files(base: Base, ids: Set[int]) -> Set[int]:
@@ -141,7 +164,7 @@ class WithoutBytes(NamedTuple):
 def lacking(catalogue: "Catalogue") -> List[WithoutBytes]:
     """The files of lines that have no bytes, by the volumes that had them."""
     statement = f"""SELECT {LINE}, folder.path FROM same JOIN folder ON folder.id = same.folder {THERE}
-    LEFT JOIN volume ON volume.number = same.target / {COMMITS} WHERE there.id IS NULL OR volume.state = 'retired'"""
+    LEFT JOIN volume ON volume.number = same.target / {COMMITS} WHERE there.id IS NULL OR volume.state = 'retired' AND NOT ({MEMBER})"""
     retired = {int(number) for (number,) in catalogue.base.run("SELECT number FROM volume WHERE state = 'retired'")}
     found: Dict[int, Set[Path]] = {}
     for row in catalogue.base.run(statement):
@@ -158,5 +181,6 @@ def has_stored_bytes(catalogue: "Catalogue", held: Held, retired: Set[int]) -> b
 
 
 __all__ = [
-    "WithoutBytes", "count_named", "insert_lines", "kept_files", "lacking", "last_added", "line_runs", "lines_in_folder", "lines_of_path", "of_targets", "of_volume", "replace_lines",
+    "WithoutBytes", "count_members", "count_named", "has_member", "insert_lines", "kept_files", "lacking", "last_added", "line_runs", "lines_in_folder", "lines_of_path",
+    "members_with", "of_targets", "of_volume", "replace_lines",
 ]

@@ -6,14 +6,15 @@ indexes that have all that is asked for; only the folder's path is looked up. Th
 its own. The fourth has where users have put images away. The fifth has the engines' indexes of such text: `name_text` of FTS5 over
 `known_name`, which has each name once, or more often where its files were gone meanwhile; an index by pg_trgm. The sixth has what was
 deleted at its source. The seventh has files whose bytes are another's, which it finds by size and the first bytes of the SHA-256; their
-names have ids below 0.
+names have ids below 0. The eighth has bundles: each is a file whose name begins with a slash, and that no table of names has; its members
+are rows of `same` with the byte of it with which they begin.
 """
 
 from __future__ import annotations
 
 from typing import List
 
-CATALOGUE_VERSION = 7
+CATALOGUE_VERSION = 8
 """The version of the tables that this program reads and writes."""
 
 COMMITS = 1 << 18
@@ -146,9 +147,25 @@ CREATE OR REPLACE VIEW by_ending AS SELECT ending, path, file.id, part_count FRO
 UNION ALL SELECT ending, path, -(volume * {COMMITS} + commit_number), part_count * 0 FROM same JOIN folder ON folder.id = folder
 """
 
+LISTED = "substr(file.name, 1, 1) <> '/'"
+"""What the row of a file is that people see: it is no bundle."""
+
+EIGHTH = """
+ALTER TABLE same ADD COLUMN first_byte BIGINT;
+CREATE INDEX same_content ON same (size, substr(sha256, 1, 8)) WHERE first_byte IS NOT NULL
+"""
+
+EIGHTH_POSTGRESQL = f"""
+{EIGHTH.strip()};
+CREATE OR REPLACE VIEW by_name AS SELECT name, path, file.id, part_count FROM file JOIN folder ON folder.id = folder WHERE {LISTED}
+UNION ALL SELECT name, path, -(volume * {COMMITS} + commit_number), part_count * 0 FROM same JOIN folder ON folder.id = folder;
+CREATE OR REPLACE VIEW by_ending AS SELECT ending, path, file.id, part_count FROM file JOIN folder ON folder.id = folder WHERE {LISTED}
+UNION ALL SELECT ending, path, -(volume * {COMMITS} + commit_number), part_count * 0 FROM same JOIN folder ON folder.id = folder
+"""
+
 MIGRATIONS = {
-    "sqlite": [FIRST_TABLES, SECOND_SQLITE, THIRD.rstrip() + " WITHOUT ROWID", FOURTH, FIFTH_SQLITE, SIXTH, SEVENTH_SQLITE],
-    "postgresql": [FIRST_TABLES, SECOND_POSTGRESQL, THIRD, FOURTH, FIFTH_POSTGRESQL, SIXTH, SEVENTH_POSTGRESQL],
+    "sqlite": [FIRST_TABLES, SECOND_SQLITE, THIRD.rstrip() + " WITHOUT ROWID", FOURTH, FIFTH_SQLITE, SIXTH, SEVENTH_SQLITE, EIGHTH],
+    "postgresql": [FIRST_TABLES, SECOND_POSTGRESQL, THIRD, FOURTH, FIFTH_POSTGRESQL, SIXTH, SEVENTH_POSTGRESQL, EIGHTH_POSTGRESQL],
 }
 """The statements of an engine that make version n + 1 of version n, from the empty one on."""
 

@@ -2,6 +2,7 @@
 
 from __future__ import annotations
 
+from itertools import count
 from typing import Dict, Iterable, List, NamedTuple, Optional, Tuple
 
 from ..base.manifest import PAYLOAD_FOLDER
@@ -9,7 +10,8 @@ from ..image.blocks import Layout, Reckoner, Space, blocks_for, data_blocks, tab
 from ..protocol import Path, limits
 from ..protocol.units import Address
 from .bag import manifest_size
-from .names import DESCRIPTION, SPREAD, spelled, stored_folder, stored_part_name
+from .bundle import MOST
+from .names import DESCRIPTION, SPREAD, bundle_name, spelled, stored_folder, stored_part_name
 
 KEPT_NODES = 10
 """Nodes that are kept for what `close` writes and for the next run."""
@@ -60,6 +62,8 @@ class PlannedTree:
         self.names: Dict[Path, Dict[str, bool]] = {(): {}}
         self.actual: Dict[Path, List[Path]] = {(): [()]}
         self._undo: List[Undo] = []
+        self.lists = 0
+        """Bytes of the lists of its bundles."""
         self._keep_room()
 
     @staticmethod
@@ -162,6 +166,19 @@ class PlannedTree:
     def place_part(self, whole: Path, start: int, size: int, unfinished: Path, kept: int) -> Optional[StoredPlace]:
         """Plans a part of a file, from a byte of it on, whose folder is there or planned."""
         return self._plan(logical(whole) + (stored_part_name(start),), size, unfinished, kept)
+
+    def place_bundle(self, folder: Path, size: int, listed: int) -> Optional[StoredPlace]:
+        """Plans a bundle of a folder, with a list of so many bytes, under the first number that is free there."""
+        if self.lists + listed > MOST:
+            return None
+        for version in range(1, limits.NODES):
+            above = (PAYLOAD_FOLDER,) + ((f"=v{version}",) if version > 1 else ()) + stored_folder(folder)
+            if not any(self.at(above[:depth]) is False for depth in range(1, len(above) + 1)):
+                break
+        free = next(number for number in count(1) if self.at(above + spelled(bundle_name(number))) is None)
+        place = self._plan(above + spelled(bundle_name(free)), size)
+        self.lists += listed if place is not None else 0
+        return place
 
     def _free(self, folder: Path, name: str) -> Optional[Path]:
         """The path of a file in the first version in which nothing else has it."""

@@ -19,7 +19,7 @@ from .catalogue import STATE_NEW, Catalogue, Held, below, folder_text, versions,
 from .config import Config
 from .deletions import Event, are_known, deletion_runs, events_in_folder, events_of_path, present
 from .errors import CannotStore, CatalogueLost, VolumeDiffers
-from .names import kept_name
+from .names import is_bundle, kept_name
 from .reach import Reach, Way
 from .schema import COMMITS
 from .tell import Tell, printed_path, shown_path
@@ -204,7 +204,10 @@ class NewestTree:
     def __init__(self, view: ArchiveView, number: int):
         self.files: Dict[Path, Dict[str, List[Held]]] = {(): {}}
         self.folders: Dict[Path, Dict[str, None]] = {(): {}}
-        for row in view.base().of_volume(number):
+        base = view.base()
+        stored = [row for row in base.of_volume(number) if not is_bundle(row.path[-1])]
+        members = [row for row in same_rows.of_volume(base.base, number) if row.is_member()]
+        for row in sorted(stored + members, key=lambda row: row.commit):
             group = self._group(view, row) if view.was_there(number, row.commit) else None
             if group is None:
                 continue
@@ -268,7 +271,7 @@ class ArchiveFile(ShownFile):
             file = files.get(row.commit)
             if file is None or file.path != row.stored_as():
                 raise VolumeDiffers(f"{contents.image}: does not have {self.name()} as the catalogue says: run 'check' and 'rebuild'")
-            return contents.piece(file, index - (row.first or 0))
+            return contents.piece(file, index - (row.first or 0)) if row.start is None else contents.span(file, row.start, row.size)
         except (UdfburnError, OSError):
             # By the next time it may be repaired.
             self.view.reach.drop(image)

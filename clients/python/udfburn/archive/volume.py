@@ -22,6 +22,7 @@ from ..wire.operations import Operation, Outcome, now
 from . import same_rows
 from .bag import manifest_size
 from .batch import Batch, NoBatch, cut_tail, has_room, is_worth, memory_folder, sound_length
+from .bundle import lists_on
 from .catalogue import STATE_NEW, STATE_OPEN, Catalogue, VolumeRow, image_of, is_whole
 from .claims import Claims
 from .config import Config, traces, volume_label
@@ -68,6 +69,9 @@ begin with = are the archive's:
                parts, each named by the byte of the file with which it begins:
                "cat NAME/=0*" joins them. The text has its size and its SHA-256.
                Where parts are missing here they are on other volumes.
+  =b1.tar, =b2.tar ..
+               Small files of the folder in which it is, in a tar, whose first
+               header has a list of them with their SHA-256.
   ==NAME       A name that UDF cannot spell, one that begins with =, or several
                names in one where a path is too deep. =XX is the byte XX in
                hexadecimal digits, as in quoted-printable; =2F separates names.
@@ -244,7 +248,7 @@ class OpenVolume:
         replace_events(self.catalogue, self.row.number, events_on(contents, self.row.number))
         same_rows.replace_lines(self.catalogue, self.row.number, lines)
         # The row comes last: it says that the catalogue has all up to the last commit.
-        self.row = self.filled(contents.last_commit, len(rows) + count_of(lines))._replace(state=state)
+        self.row = self.filled(contents.last_commit, count_of(rows, lines))._replace(state=state)
         self.catalogue.replace(self.row, rows)
 
     def _tree(self, contents: Contents) -> PlannedTree:
@@ -257,6 +261,7 @@ class OpenVolume:
             if path:
                 tree.has(path, node.kind is FileType.DIRECTORY)
         tree.lay_out()
+        tree.lists = lists_on(contents)
         return tree
 
     def filled(self, last_commit: Commit, files: int) -> VolumeRow:
