@@ -180,7 +180,7 @@ class Adder:
     # ---- what is there
 
     def _fresh_jobs(self, found: ScannedFolder, filler: Filler) -> List[VolumeJob]:
-        """The files of a folder that the archive does not have."""
+        """The files of a folder that are to be stored. Of the others, lines are written once enough wait."""
         fresh: List[VolumeJob] = []
         try:
             stored_folder(found.folder)
@@ -202,10 +202,10 @@ class Adder:
         return fresh
 
     def _fresh(self, source: Source, rows: List[Held], filler: Filler) -> Optional[VolumeJob]:
-        """What is to be stored of a file; None where the archive has it, by its size, its moment and its digest."""
+        """What is to be stored of a file; None where the archive has it, by its size, its moment and its digest, or where a line says where its bytes are."""
         job, same = self.fresh.compared(source, rows)
         if not same or not is_whole(same):
-            return None if self.repeats.takes(job) else self._go_on(job, same, filler)
+            return None if self.repeats.takes_over(job) else self._go_on(job, same, filler)
         self.summary.same += 1
         self.departed.same(source.path, same)
         self.tell.step("same", source.path, source.identity.size)

@@ -69,7 +69,7 @@ class Base:
         yield
 
     def matching(self, pattern: str) -> Range:
-        """Rows of names that have all those that a pattern matches. In PostgreSQL the server finds them by its index of trigrams."""
+        """Rows of names that have all those that a pattern matches. So in PostgreSQL, whose server uses its index of trigrams; SQLite's own asks FTS5."""
         return Range("name", f"name LIKE ? ESCAPE '{LIKE_ESCAPE}'", (like(pattern),))
 
     def has_whole_index(self) -> bool:

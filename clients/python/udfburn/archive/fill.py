@@ -45,12 +45,12 @@ class Filler:
         self.weights: Dict[int, int] = {}
         self.sent: Dict[Path, int] = {}
         """The bytes that this run sent of files of which the archive has no more than parts."""
-        # What an earlier run left comes first, so that the catalogue has all that the volumes have.
         self.refused: Dict[int, str] = {}
         """The volumes that this run does not use, and why."""
         self.after = Moment(0)
         """The run counts as begun after this moment, even where the clock is slow."""
         self._began: Optional[Moment] = None
+        # What an earlier run left comes first, so that the catalogue has all that the volumes have.
         for volume in own_volumes(config, catalogue, claims, batches, self.refused):
             self.open.append(volume)
 
@@ -69,11 +69,11 @@ class Filler:
         sizes, names = [job.size() for job in waiting], [job.source.path[-1] for job in waiting]
         for volume in list(self.open):
             if volume.tree.fits(sizes, folder, names):
-                waiting = self._plan(volume, waiting)
+                waiting = self._plan_and_send(volume, waiting)
                 break
         else:
             if PlannedTree.empty(self.config.capacity, self.config.nodes).fits(sizes, folder, names):
-                waiting = self._plan(self._new(), waiting)
+                waiting = self._plan_and_send(self._new(), waiting)
         # They are too many for one volume, or took more than was computed.
         while waiting:
             waiting = self._spill(waiting)
@@ -87,18 +87,18 @@ class Filler:
                 left.append(job if job.whole is None else job.again())
             else:
                 onward = job.whole is not None
-                left += self._plan(volume, [job], partly=onward, onward=onward)
+                left += self._plan_and_send(volume, [job], partly=onward, onward=onward)
         return left
 
     def _spill(self, jobs: List[VolumeJob]) -> List[VolumeJob]:
         """Plans files wherever the first of them fits, else on a new volume; gives those that are left."""
         for volume in list(self.open):
-            left = self._plan(volume, jobs)
+            left = self._plan_and_send(volume, jobs)
             if not left or left[0] is not jobs[0]:
                 return left
         # Planned on nothing first, since a volume that was opened for nothing stays.
         if jobs[0].again().plan(PlannedTree.empty(self.config.capacity, self.config.nodes), True):
-            left = self._plan(self._new(), jobs, partly=True)
+            left = self._plan_and_send(self._new(), jobs, partly=True)
             if not left or left[0] is not jobs[0]:
                 return left
         elif not jobs[0].in_parts:
@@ -114,8 +114,8 @@ class Filler:
             self.failed(job, str(error))
             return []
 
-    def _plan(self, volume: OpenVolume, jobs: List[VolumeJob], partly: bool = False, onward: bool = False) -> List[VolumeJob]:
-        """Plans files on a volume as long as they fit; gives those that are left."""
+    def _plan_and_send(self, volume: OpenVolume, jobs: List[VolumeJob], partly: bool = False, onward: bool = False) -> List[VolumeJob]:
+        """Plans files on a volume as long as they fit, and sends them where they are enough; gives those that are left."""
         for index, job in enumerate(jobs):
             self._mark(volume)
             if not job.plan(volume.tree, partly, volume.unfinished):
@@ -145,7 +145,7 @@ class Filler:
         return len(self.planned[volume.row.number]) >= BATCH_FILES or self.weights[volume.row.number] >= BATCH_BYTES
 
     def _new(self) -> OpenVolume:
-        """A new volume. Where there are too many open ones, the fullest takes no more."""
+        """A new volume. Where there are too many open ones, what waits for the fullest is sent, and it takes no more."""
         if len(self.open) >= OPEN_TO_WRITE:
             fullest = max(self.open, key=lambda volume: volume.tree.share())
             for job in self.flush(fullest):
@@ -265,7 +265,7 @@ class Filler:
             done.append(job)
 
     def _keep(self, volume: OpenVolume, done: List[VolumeJob], cut: Sequence[VolumeJob] = ()) -> None:
-        """Has the catalogue keep what is stored, and then calls whoever deletes sources."""
+        """Has the catalogue keep what is stored, says so, and then calls whoever deletes sources."""
         if volume.last_commit == volume.row.last_commit:
             return
         self.claims.require()

@@ -1,6 +1,6 @@
 """Finds files by a pattern. A literal beginning or end of it is looked up in order of names or of their ends, where whole paths
 are side by side: so the time follows from what is found, and no hit takes a look-up of its own. Text inside names is looked up
-in the engine's index of three letters in a row."""
+in the engine's index of three letters in a row; if it is shorter, every name is compared."""
 
 from __future__ import annotations
 
@@ -101,7 +101,7 @@ def by_path(catalogue: Catalogue, pattern: str) -> Iterator[Row]:
 
 
 def by_name(catalogue: Catalogue, pattern: str) -> Iterator[Row]:
-    """The same of each row by its name."""
+    """What `by_path` gives, of each row by its name alone."""
     begin, end = literal(pattern), literal_end(pattern)
     if begin == pattern:
         yield from named(catalogue, Range("name", "name = ?", (begin,)), pattern)

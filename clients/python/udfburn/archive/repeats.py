@@ -54,8 +54,9 @@ class Repeats:
 
     # ---- found
 
-    def takes(self, job: VolumeJob) -> bool:
-        """Whether a file gets a line, now or once another file is stored that has its bytes; else it is to be stored."""
+    def takes_over(self, job: VolumeJob) -> bool:
+        """Takes over a file that gets a line, now or once another file is stored that has its bytes; else it is to be stored. It is read for
+        that if another has its size."""
         size = job.source.identity.size
         # A line is no shorter than nothing.
         if self.again or not size:
@@ -157,7 +158,7 @@ class Repeats:
         while self.left:
             left, self.left = self.left, []
             for job in left:
-                if not self.takes(job):
+                if not self.takes_over(job):
                     filler.put(job.source.path[:-1], [job])
             self.write(filler)
 

@@ -1,4 +1,4 @@
-"""The requests of files that go to one volume. A file that takes several of them gets its name once all its pieces are acknowledged."""
+"""The requests of files that go to one volume. A file that takes several of them gets its name once all its pieces have a reply."""
 
 from __future__ import annotations
 
@@ -18,7 +18,7 @@ class Sending:
 
     def __init__(self, volume: OpenVolume, jobs: Sequence[VolumeJob]):
         self.volume, self.jobs = volume, jobs
-        self._acknowledged: Dict[Part, int] = {}
+        self._replied: Dict[Part, int] = {}
         self._ready: Deque[Tuple[VolumeJob, Part]] = deque()
         self._refused: Set[VolumeJob] = set()
 
@@ -28,7 +28,7 @@ class Sending:
 
     def run(self, client: Client) -> Iterator[Outcome]:
         """Does all requests, from the first one on."""
-        self._acknowledged, self._refused = {}, set()
+        self._replied, self._refused = {}, set()
         self._ready.clear()
         full = None
         try:
@@ -51,7 +51,7 @@ class Sending:
             yield marker
         for job in self.jobs:
             for part in job.parts:
-                self._acknowledged[part] = part.left.pieces()
+                self._replied[part] = part.left.pieces()
                 self.volume.unfinished.take(part.unfinished)
             for operation in job.operations():
                 if self._ready:
@@ -61,7 +61,7 @@ class Sending:
                 self._ready.extend((job, part) for part in job.parts if part.grows() and part.left.pieces() == part.count())
 
     def _take(self, outcome: Outcome) -> None:
-        """Counts the pieces of files that are acknowledged."""
+        """Counts the pieces of files that have a reply."""
         operation = outcome.operation
         if operation.tag is None or operation.kind is Rename:
             return
@@ -69,12 +69,12 @@ class Sending:
         if outcome.code is not Code.DONE:
             self._refused.add(job)
         elif part is not None and part.grows():
-            self._acknowledged[part] += 1
-            if self._acknowledged[part] == part.count():
+            self._replied[part] += 1
+            if self._replied[part] == part.count():
                 self._ready.append((job, part))
 
     def _names(self) -> Iterator[Operation]:
-        """The requests that give their names to files whose pieces are all acknowledged."""
+        """The requests that give their names to files whose pieces all have a reply."""
         while self._ready:
             job, part = self._ready.popleft()
             if job.failure is None and job not in self._refused:

@@ -2,5 +2,5 @@
 
 Nothing here changes an image.
 
-Who may use it: `session`, `trees`, `commands` and `archive`. What it may use: `reader`, `local` and all below.
+Who may use it: `session`, `trees`, `commands` and `archive`. What it may use: `reader`, `local` and every earlier room.
 """

@@ -2,5 +2,5 @@
 
 `ledger` is the ledger itself, over the file of `file` with the tables of `schema`. `digests` says what it knows of files.
 
-Who may use it: every room further up. What it may use: `wire`, `base` and `protocol`.
+Who may use it: every later room. What it may use: `wire`, `base` and `protocol`.
 """

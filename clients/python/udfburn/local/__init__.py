@@ -2,5 +2,5 @@
 
 `sources` reads and deletes them, `saving` writes them, and `not_kept` says what of them a volume does not keep.
 
-Who may use it: every room further up, but not `reader`. What it may use: `ledger`, `wire`, `base` and `protocol`.
+Who may use it: every later room but `reader`. What it may use: `ledger`, `wire`, `base` and `protocol`.
 """

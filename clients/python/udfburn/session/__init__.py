@@ -3,5 +3,5 @@
 `session` runs them, four at most `in_flight`, and `recovery` sends again what has no reply. Each `conversation` first has `recognition`
 compare what is at the endpoint with what the ledger has of it.
 
-Who may use it: `trees`, and what is above. What it may use: `image`, `local`, `ledger`, `wire` and all below.
+Who may use it: `trees`. What it may use: `image` and every earlier room.
 """

@@ -2,5 +2,5 @@
 
 `connection` sends requests and queries, `endpoint` chooses the way, and `retrying` opens again what is lost.
 
-Who may use it: every room further up. What it may use: `base` and `protocol`.
+Who may use it: every later room. What it may use: `base` and `protocol`.
 """
