@@ -65,7 +65,7 @@ class Folders(Local):
         super().setUp()
         stack = ExitStack()
         self.addCleanup(stack.close)
-        for name in ("FLAT", "FOLDER"):
+        for name in ("FLAT", "FOLDER_PARTS"):
             stack.enter_context(mock.patch.object(split, name, 2))
 
     def files(self) -> List[str]:
