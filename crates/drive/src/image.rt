@@ -3,9 +3,12 @@
 //! What is answered must be on the disk. So a file that is written is held under an exclusive lock, and synced before
 //! anything is read from it: what an earlier process left in the system's cache is on the disk before it counts as
 //! written. Then the system is made to drop that cache, so that what is read is what the disk has, even if a sync
-//! failed in that process. Each write ends with a sync. After a write or a sync that failed, the file is cut back to
-//! the blocks that it had, and synced, before anything else. For the system may treat the pages of a failed sync as
-//! clean: then neither another sync nor writing them again brings them to the disk.
+//! failed in that process. Each write by `append` ends with a sync. After a write or a sync that failed, the file is
+//! cut back to the blocks that it had, and synced, before anything else. For the system may treat the pages of a failed
+//! sync as clean: then neither another sync nor writing them again brings them to the disk.
+//!
+//! A user that syncs less often gives blocks by `give` and `fill`, and waits by `sync`. If that fails, it cuts the file
+//! back itself, to what was synced last.
 //!
 //! A file that is only read is neither locked nor synced, so another may be writing it, or nobody may be allowed to.
 
@@ -28,7 +31,7 @@ enum Access {
 
 /// A regular file that is open as an image. Its user keeps how many of its blocks count, and passes that to each call.
 #[derive(Drop)]
-pub(crate) struct Image {
+pub struct Image {
     file: Descriptor,
     access: Access,
     /// Whether a write failed whose remains are not cut off yet.
@@ -70,7 +73,7 @@ impl Image {
     }
 
     /// Whether the file has `count` blocks. A file that is written must also have no other whole block, and a name.
-    pub(crate) fn has(&mut self, count: u32) -> Result<bool, DriveFault> {
+    pub fn has(&mut self, count: u32) -> Result<bool, DriveFault> {
         self.cut_back(count)?;
         let found = self.file.found()?;
         let shown = whole_blocks(&found)?;
@@ -81,13 +84,13 @@ impl Image {
     }
 
     /// Reads the block at an address.
-    pub(crate) fn read(&mut self, count: u32, at: u32, into: &mut Block) -> Result<(), DriveFault> {
+    pub fn read(&mut self, count: u32, at: u32, into: &mut Block) -> Result<(), DriveFault> {
         self.cut_back(count)?;
         self.file.read_exact_at(into, offset(at))
     }
 
     /// Makes the system begin to read these blocks. It is a hint, so the result is ignored.
-    pub(crate) fn read_soon(&self, at: u32, count: u32) {
+    pub fn read_soon(&self, at: u32, count: u32) {
         self.file
             .read_soon(offset(at), u64::from(count) * u64::from(BLOCK_BYTES));
     }
@@ -106,7 +109,7 @@ impl Image {
 
     /// Writes the blocks of both slices, the second after the first, after the `count` blocks that it has, and waits
     /// until the disk has them all. Blocks for another address are a fault, so none is written twice.
-    pub(crate) fn append(
+    pub fn append(
         &mut self,
         count: u32,
         at: u32,
@@ -122,10 +125,63 @@ impl Image {
         if is_written(&self.file, at, first, second) {
             return Ok(());
         }
-        self.is_torn = true;
-        // If this fails too, the next call begins with it.
-        let _ = self.cut_back(count);
+        self.cut(count);
         Err(DriveFault)
+    }
+
+    /// Writes the blocks of both slices, the second after the first, from an address on, and does not wait for the disk.
+    /// The file has `count` blocks. Any places between these and the address are left out, and `fill` fills them.
+    /// Blocks for a place that the file has are a fault.
+    pub fn give(
+        &mut self,
+        count: u32,
+        at: u32,
+        first: &[Block],
+        second: &[Block],
+    ) -> Result<(), DriveFault>
+        requires { at + (length first.now + length second.now) < 2 ^ 32 }
+    {
+        self.cut_back(count)?;
+        if self.access == Access::Read || at < count {
+            return Err(DriveFault);
+        }
+        if is_given(&self.file, at, first, second) {
+            return Ok(());
+        }
+        self.cut(count);
+        Err(DriveFault)
+    }
+
+    /// Writes a block at a place that was left out, and does not wait for the disk.
+    pub fn fill(&mut self, at: u32, block: &Block) -> Result<(), DriveFault> {
+        if self.access == Access::Read || self.is_torn {
+            return Err(DriveFault);
+        }
+        self.file.write_all_at(block, offset(at))
+    }
+
+    /// Makes the file at least `count` blocks long, with zeros at the places that were left out, and waits until the
+    /// disk has all of it. It is a fault if the file then has another length, or no name.
+    pub fn sync(&mut self, count: u32) -> Result<(), DriveFault> {
+        if self.access == Access::Read || self.is_torn {
+            return Err(DriveFault);
+        }
+        if self.file.found()?.len < offset(count) {
+            self.file.set_len(offset(count))?;
+        }
+        self.file.sync_all()?;
+        if is_whole(&self.file, count) {
+            Ok(())
+        } else {
+            Err(DriveFault)
+        }
+    }
+
+    /// Cuts the file back to its first `count` blocks, and waits until the disk knows. If that fails, the next call that
+    /// uses the file begins with it.
+    pub fn cut(&mut self, count: u32) {
+        self.is_torn = true;
+        let _ = self.cut_back(count);
     }
 
     /// Cuts off what a failed write may have left after `count` blocks, unless that is done. It is a fault if the file
@@ -150,17 +206,25 @@ impl Image {
 fn is_written(file: &Descriptor, at: u32, first: &[Block], second: &[Block]) -> bool
     requires { at + (length first.now + length second.now) < 2 ^ 32 }
 {
+    let end = at + (first.len() + second.len()) as u32;
+    is_given(file, at, first, second) && file.sync_all().is_ok() && is_whole(file, end)
+}
+
+/// Writes the blocks of both slices. Returns whether that worked.
+fn is_given(file: &Descriptor, at: u32, first: &[Block], second: &[Block]) -> bool
+    requires { at + (length first.now + length second.now) < 2 ^ 32 }
+{
     let middle = at + first.len() as u32;
-    if file.write_all_at(first.as_flattened(), offset(at)).is_err()
-        || file
+    file.write_all_at(first.as_flattened(), offset(at)).is_ok()
+        && file
             .write_all_at(second.as_flattened(), offset(middle))
-            .is_err()
-        || file.sync_all().is_err()
-    {
-        return false;
-    }
+            .is_ok()
+}
+
+/// Whether the file has exactly `count` whole blocks, and a name.
+fn is_whole(file: &Descriptor, count: u32) -> bool {
     match file.found() {
-        Ok(found) => { whole_blocks(&found) == Ok(middle + second.len() as u32) && found.has_name }
+        Ok(found) => whole_blocks(&found) == Ok(count) && found.has_name,
         Err(_) => false,
     }
 }

@@ -1,17 +1,17 @@
 //! A stream of input that counts the reads that failed.
 
-ghost use Rattle.std.specs.Prelude.{◌≡◌, ◌≤◌, ◌<◌, length, true, IfOk, IfErr, OnErr, is_err};
+ghost use Rattle.std.specs.Prelude.{◌≡◌, ◌≤◌, ◌<◌, true, IfOk, IfErr, OnErr, is_err};
 ghost use Rattle.std.specs.Io.{ReadsAtMost};
 ghost use Rattle.std.specs.Io.KnownBytes.{Keeps, ReadConsumes};
 ghost use Rattle.drive.specs.Journal.{counted};
 ghost use Rattle.request.specs.Streams.{ReadsPiece};
 ghost use Rattle.engine.specs.Streams.{is_feed_fault};
 
-use request::{FeedFault, Frames};
-use std::io::{self, ErrorKind, Read};
+use request::{FeedFault, Frames, read_some};
+use std::io::{self, Read};
 
 /// A stream that is read, and how many reads of it failed, which stops at 2^64 - 1. A read that a signal interrupts is
-/// tried again, and has failed only after 2^64 - 1 tries.
+/// tried again.
 #[derive(Drop)]
 pub struct CountedReader<R> {
     stream: R,
@@ -78,18 +78,4 @@ impl<R: Read> Read for CountedReader<R> {
         }
         read
     }
-}
-
-/// Reads the next bytes. A read that a signal interrupts is tried again.
-fn read_some<R: Read>(reader: &mut R, room: &mut [u8]) -> io::Result<usize>
-    ensures bound { IfOk result (λ count. count ≤ length room.new) }
-    ensures read { ReadConsumes (R.remaining reader.old) (R.remaining reader.new) result room.new }
-{
-    for _ in 0..u64::MAX {
-        match reader.read(room) {
-            Err(error) if error.kind() == ErrorKind::Interrupted => {}
-            told => return told,
-        }
-    }
-    Err(io::Error::from(ErrorKind::TimedOut))
 }

@@ -255,8 +255,9 @@ fn fill<R: Read>(reader: &mut R, bytes: &mut Vec<u8>, end: usize, most: usize) -
     read_some(reader, &mut bytes[end..end + most])
 }
 
-/// Reads the next bytes. A read that a signal interrupts is tried again.
-fn read_some<R: Read>(reader: &mut R, room: &mut [u8]) -> io::Result<usize>
+/// Reads the next bytes of a stream. A read that a signal interrupts is tried again, and has failed only after 2^64 - 1
+/// tries.
+pub fn read_some<R: Read>(reader: &mut R, room: &mut [u8]) -> io::Result<usize>
     ensures bound { IfOk result (λ count. count ≤ length room.new) }
     ensures read { ReadConsumes (R.remaining reader.old) (R.remaining reader.new) result room.new }
 {
@@ -266,5 +267,5 @@ fn read_some<R: Read>(reader: &mut R, room: &mut [u8]) -> io::Result<usize>
             told => return told,
         }
     }
-    Err(io::Error::from(ErrorKind::Interrupted))
+    Err(io::Error::from(ErrorKind::TimedOut))
 }

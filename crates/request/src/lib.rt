@@ -23,7 +23,7 @@ mod payload;
 
 pub use answer::{Answer, Code, Listed, Listing, NodeKind, NodeStatus, Reply};
 pub use encode::encode_answer;
-pub use frames::{FeedFault, Frames, PAYLOAD_BYTES};
+pub use frames::{FeedFault, Frames, PAYLOAD_BYTES, read_some};
 pub use laws::{feeding_goes_on, no_answer_begins_another, one_reading, taking_goes_on};
 pub use message::{
     AppendSlice, ByteCount, Cause, FileData, FileSlice, Message, Op, Query, Request,
