@@ -17,5 +17,5 @@ pub use held::answer_held;
 pub use laws::{calls_are_steps, losses_are_survived, runs_hold, steps_hold, writes_are_in_turn};
 pub use reading::CountedReader;
 pub use runs::{Delivery, run};
-pub use serving::{ServeFault, serve};
+pub use serving::{PIECE_BYTES, ServeFault, read_on, serve};
 pub use streams::{put_all, read_piece};

@@ -21,7 +21,7 @@ use std::io::{Read, Write};
 use thiserror::Error;
 
 /// The most bytes that are read at once.
-const PIECE_BYTES: usize = 65_536;
+pub const PIECE_BYTES: usize = 65_536;
 
 /// Why a stream was left before its end. It is shown as its number and its name.
 #[derive(Clone, Copy, Debug, PartialEq, Eq, Error)]
@@ -72,8 +72,12 @@ pub fn serve<R: Read, W: Write, D: Drive>(
     Err(ServeFault::Memory)
 }
 
-/// Reads the next bytes of a stream into the reader of frames. Returns how many: 0 only at the end of the stream.
-fn read_on<R: Read>(reader: &mut CountedReader<R>, frames: &mut Frames) -> Result<usize, ServeFault>
+/// Reads the next bytes of a stream into the reader of frames, at most 65,536. Returns how many: 0 only at the end of the
+/// stream.
+pub fn read_on<R: Read>(
+    reader: &mut CountedReader<R>,
+    frames: &mut Frames,
+) -> Result<usize, ServeFault>
     ensures bound { IfOk result (λ count. count ≤ PIECE_BYTES) }
     ensures ok { IfOk result (λ count. ReadsPiece count (R.remaining reader.old.stream) (R.remaining reader.new.stream) frames.old frames.new) }
     ensures err { IfErr result (λ fault. LeavesBy fault (R.remaining reader.old.stream) (R.remaining reader.new.stream)) }
