@@ -101,7 +101,7 @@ kept_none None b k = tt
 kept_none (Some xs) None k = absurd k
 kept_none (Some xs) (Some ys) k = k ∙ sym (append-nil xs)
 
-keeps_told : (a b c : Option (List ℕ)) (x : List ℕ) → Appends a b x → Keeps b c → Appends a c x
+pub keeps_told : (a b c : Option (List ℕ)) (x : List ℕ) → Appends a b x → Keeps b c → Appends a c x
 keeps_told None b c x h k = tt
 keeps_told (Some xs) None c x h k = absurd h
 keeps_told (Some xs) (Some ys) None x h k = absurd k
@@ -122,7 +122,7 @@ left_at faults.Write others last reader o v w told h = inr (h.0, (others, last, 
 left_at faults.Memory others last reader o v w told h = (others, last, refl, appends_more o v w (frames_of others) [] told (kept_none v w h))
 
 -- the same after other answers, each of which was written
-last_more : (answers more : List Answer) (count : ℕ) (o v w : Option (List ℕ)) → Appends o v (frames_of answers) → LastUntold more count v w → LastUntold (answers ++ more) count o w
+pub last_more : (answers more : List Answer) (count : ℕ) (o v w : Option (List ℕ)) → Appends o v (frames_of answers) → LastUntold more count v w → LastUntold (answers ++ more) count o w
 last_more answers more count o v w told (others, last, is, h) =
     let part : List ℕ = take count (answer_frame last) in (
       answers ++ others,
@@ -132,7 +132,7 @@ last_more answers more count o v w told (others, last, is, h) =
           (appends_more o v w (frames_of answers) (frames_of others ++ part) told h),
     )
 
-all_more : (answers more : List Answer) (reader o v w : Option (List ℕ)) → Appends o v (frames_of answers) → AllTold more reader v w → AllTold (answers ++ more) reader o w
+pub all_more : (answers more : List Answer) (reader o v w : Option (List ℕ)) → Appends o v (frames_of answers) → AllTold more reader v w → AllTold (answers ++ more) reader o w
 all_more answers more reader o v w told h =
     (h.0, subst (λ (x : List ℕ). Appends o w x) (sym (frames_append answers more)) (appends_more o v w (frames_of answers) (frames_of more) told h.1))
 
@@ -146,7 +146,7 @@ left_more faults.Memory bytes answers more reader o v w some told h = inl (last_
 pub took : (n : ℕ) (xs : List ℕ) → n ≤ length xs → (n ≡ 0 → ⊥) → take n xs ≡ [] → ⊥
 took n xs fits some e = some (sym (length-take-le n xs fits) ∙ ap length e)
 
-some_after : (xs ys : List ℕ) → (ys ≡ [] → ⊥) → xs ++ ys ≡ [] → ⊥
+pub some_after : (xs ys : List ℕ) → (ys ≡ [] → ⊥) → xs ++ ys ≡ [] → ⊥
 some_after [] ys some e = some e
 some_after (x ∷ xs) ys some e = absurd (omega (arith, ap length e))
 
@@ -237,7 +237,7 @@ serving_some fault reader between after s t u i l n o v w piece h takes some e m
       left_by = left_more fault (h.bytes ++ piece) h.answers more.answers after o v w (some_after h.bytes piece some) h.told more.left;
     }
 
-whole_front : (a b : Option (List ℕ)) (x : List ℕ) → Appends a b x → PutsPrefix a b x
+pub whole_front : (a b : Option (List ℕ)) (x : List ℕ) → Appends a b x → PutsPrefix a b x
 whole_front a b x h = (length x, subst (λ (y : List ℕ). Appends a b y) (sym (take-length x)) h)
 
 -- a piece more was read, and there was no memory for it
@@ -259,7 +259,7 @@ serving_read reader s t i l n o v piece h idle takes some = record {
   left_by = inr (inl (reader, piece, idle, some, refl, h.told));
 }
 
-consumes_kept : (a b c : Option (List ℕ)) (x : List ℕ) → Consumes a b x → Keeps b c → Consumes a c x
+pub consumes_kept : (a b c : Option (List ℕ)) (x : List ℕ) → Consumes a b x → Keeps b c → Consumes a c x
 consumes_kept None b c x h k = tt
 consumes_kept (Some xs) None c x h k = absurd h
 consumes_kept (Some xs) (Some ys) None x h k = absurd k
@@ -305,7 +305,7 @@ serving_left faults.Write reader s t i l n o v h idle k = absurd k
 serving_left faults.Memory reader s t i l n o v h idle (inl k) = serving_read reader s t i l n o v k.0 h idle k.2 k.1
 serving_left faults.Memory reader s t i l n o v h idle (inr k) = serving_short reader s t i l n o v h idle k
 
-kept_self : (a : Option (List ℕ)) → Keeps a a
+pub kept_self : (a : Option (List ℕ)) → Keeps a a
 kept_self None = tt
 kept_self (Some xs) = refl
 
