@@ -1,0 +1,9 @@
+pub mod Answers
+pub mod Back
+pub mod Settled
+pub mod Going
+pub mod Ending
+pub mod Phases
+pub mod Withstanding
+pub mod Streams
+pub mod Piecewise

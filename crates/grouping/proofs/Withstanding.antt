@@ -1,0 +1,114 @@
+-- What groups leave, one after another, and what a power loss leaves of them.
+use Rattle.std.proofs.Common.{◌≡◌, ◌⊎◌, inl, inr, ℕ, ◌≤◌, List, [], ◌∷◌, ◌++◌, length, Bool, true, false, IsTrue, refl, sym, ap, subst, ◌∙◌, arith, lt-ltb}
+use Rattle.drive.specs.Journal.{Event, written}
+use Rattle.drive.specs.declared.Drive.{Ghosts}
+use Rattle.model.specs.Session.{State, Request, after, after_one}
+use Rattle.gathering.specs.Groups.{Commit, with_marks, none_there}
+use Rattle.group_losses.specs.Gathered.{AreGathered, Grows, NoneGrows}
+use Rattle.group_losses.proofs.Enduring.{group_survives}
+use Rattle.request.specs.declared.answer.Answer.{Answer}
+use Rattle.request.specs.declared.message.Message.{Message}
+use Rattle.request.specs.declared.message.Message.TheVariants as message
+use Rattle.request.specs.declared.message.Op.{Op}
+use Rattle.request.specs.declared.message.Op.TheVariants as op
+use Rattle.lookup.specs.Asked.{model_operation}
+use Rattle.engine.specs.Served.{AllAnswered, EachWithstands}
+use Rattle.engine.specs.Situation.{Situation}
+use Rattle.engine.specs.Steps.{HoldsState}
+use Rattle.engine.specs.Withstanding.{AsksFor}
+use Rattle.engine.proofs.Served.{answered_honest, served_withstand}
+use Rattle.settling.specs.Phases.{two_phases}
+use Rattle.grouping.specs.Groups.{NoneAsksToGrow, StartsAt, grows, grows_by, marks_of}
+use Rattle.grouping.specs.Phases.{marks_from}
+use Rattle.grouping.specs.Served.{Group, IsSettledGroup, IsLoneGroup, AreGroups, GroupHolds, GroupsHold, GroupsWithstand}
+use Rattle.grouping.proofs.Back.{taking_back}
+use Rattle.grouping.proofs.Phases.{phases_are_of_commits}
+
+-- each message in turn leaves a recovered state
+withstood : (volume : ℕ) (messages : List Message) (S : State) (before : Situation) (answers : List Answer) (afterwards : Situation) (all : AllAnswered messages before answers afterwards) (T : State)
+    → HoldsState volume S before → EachWithstands volume messages S before answers afterwards all T → HoldsState volume T afterwards
+withstood volume [] S before [] afterwards all T at each = subst (λ (R : State). HoldsState volume R afterwards) (sym each) (subst (λ (s : Situation). HoldsState volume S s) (sym all) at)
+withstood volume [] S before (a ∷ answers) afterwards all T at each = absurd all
+withstood volume (m ∷ messages) S before [] afterwards all T at each = absurd all
+withstood volume (m ∷ messages) S before (a ∷ answers) afterwards all T at each = withstood volume messages each.0 all.0 answers afterwards all.2 T each.1.at each.3
+
+-- a request that adds bytes to a file that has some was asked for so
+grown : (m : Message) (request : Request) → AsksFor m request → grows m ≡ false → Grows request.operation → ⊥
+grown (message.Malformed cause) request asks calm more = absurd asks
+grown message.NoMemory request asks calm more = absurd asks
+grown (message.Query asked) request asks calm more = absurd asks
+grown (message.Request asked) request asks calm more = grown_op asked.op calm (subst (λ (r : Request). Grows r.operation) asks more)
+  where
+    grown_op : (o : Op) → grows_by o ≡ false → Grows (model_operation o) → ⊥
+    grown_op (op.Create path bytes) calm more = absurd more
+    grown_op (op.Replace path bytes) calm more = absurd more
+    grown_op (op.Append path offset bytes) calm more = let bad : ◌≡◌ {A = Bool} true false = sym (lt-ltb 0 offset more) ∙ calm in absurd (cc)
+    grown_op (op.MakeDir path) calm more = absurd more
+    grown_op (op.Rename from to) calm more = absurd more
+    grown_op (op.Remove path) calm more = absurd more
+
+calm_requests : (messages : List Message) (S : State) (before : Situation) (answers : List Answer) (afterwards : Situation) (all : AllAnswered messages before answers afterwards)
+    → (requests : List Request) (group : List Commit) → AreGathered messages S before answers afterwards all requests group → NoneAsksToGrow messages → NoneGrows requests
+calm_requests [] S before [] afterwards all requests group h calm = subst NoneGrows (sym h.0) tt
+calm_requests [] S before (a ∷ answers) afterwards all requests group h calm = absurd h
+calm_requests (m ∷ messages) S before [] afterwards all requests group h calm = absurd h
+calm_requests (m ∷ messages) S before (a ∷ answers) afterwards all requests group (inl (same, more)) calm = calm_requests messages S all.0 answers afterwards all.2 requests group more calm.1
+calm_requests (m ∷ messages) S before (a ∷ answers) afterwards all requests group (inr (request, commit, later, others, are, group_is, commits, rest)) calm =
+    subst NoneGrows (sym are) (grown m request commits.asks calm.0, calm_requests messages (after_one S request) all.0 answers afterwards all.2 later others rest calm.1)
+
+few_commits : (messages : List Message) (S : State) (before : Situation) (answers : List Answer) (afterwards : Situation) (all : AllAnswered messages before answers afterwards)
+    → (requests : List Request) (group : List Commit) → AreGathered messages S before answers afterwards all requests group → length group ≤ length messages
+few_commits [] S before [] afterwards all requests group h = omega (arith, ap length h.1)
+few_commits [] S before (a ∷ answers) afterwards all requests group h = absurd h
+few_commits (m ∷ messages) S before [] afterwards all requests group h = absurd h
+few_commits (m ∷ messages) S before (a ∷ answers) afterwards all requests group (inl (same, more)) = omega (arith, few_commits messages S all.0 answers afterwards all.2 requests group more)
+few_commits (m ∷ messages) S before (a ∷ answers) afterwards all requests group (inr (request, commit, later, others, are, group_is, commits, rest)) =
+    omega (arith, ap length group_is, few_commits messages (after_one S request) all.0 answers afterwards all.2 later others rest)
+
+none_or_one : (messages : List Message) (S : State) (before : Situation) (answers : List Answer) (afterwards : Situation) (all : AllAnswered messages before answers afterwards)
+    → (requests : List Request) (group : List Commit) → AreGathered messages S before answers afterwards all requests group → NoneAsksToGrow messages ⊎ (length messages ≡ 1) → NoneGrows requests ⊎ (length group ≤ 1)
+none_or_one messages S before answers afterwards all requests group h (inl calm) = inl (calm_requests messages S before answers afterwards all requests group h calm)
+none_or_one messages S before answers afterwards all requests group h (inr one) = inr (omega (arith, one, few_commits messages S before answers afterwards all requests group h))
+
+module _ {D : Type 0} (drive : Ghosts D) (phases : D → List (List Event)) (gathers : D → Bool) where
+  -- what is honest after groups was so before
+  starts_honest : (before start : Situation) → StartsAt before start → IsTrue start.honest → IsTrue before.honest
+  starts_honest before start (inl same) honest = subst (λ (s : Situation). IsTrue s.honest) same honest
+  starts_honest before start (inr back) honest = back.honest honest
+
+  group_honest : (before : Situation) (g : Group) → IsSettledGroup drive phases gathers before g ⊎ IsLoneGroup drive gathers before g → IsTrue g.afterwards.honest → IsTrue before.honest
+  group_honest before g (inl settled) honest = subst (λ (s : Situation). IsTrue s.honest) settled.starts (answered_honest g.messages g.start g.answers g.afterwards settled.answered honest)
+  group_honest before g (inr lone) honest = starts_honest before g.start lone.starts (answered_honest g.messages g.start g.answers g.afterwards lone.answered honest)
+
+  groups_honest : (groups : List Group) (before afterwards : Situation) → AreGroups drive phases gathers groups before afterwards → IsTrue afterwards.honest → IsTrue before.honest
+  groups_honest [] before afterwards same honest = subst (λ (s : Situation). IsTrue s.honest) same honest
+  groups_honest (g ∷ groups) before afterwards all honest = group_honest before g all.0 (groups_honest groups g.afterwards afterwards all.1 honest)
+
+  -- one group
+  settled_holds : (volume : ℕ) (S : State) (before : Situation) (g : Group) (settled : IsSettledGroup drive phases gathers before g) → IsTrue g.afterwards.honest → HoldsState volume S before
+      → (T : State) × GroupHolds drive phases gathers volume S before g (inl settled) T × HoldsState volume T g.afterwards
+  settled_holds volume S before g settled honest at =
+      let from : HoldsState volume S g.start = subst (λ (s : Situation). HoldsState volume S s) (sym settled.starts) at in
+      let (requests, commits, are, ends, endures) = group_survives volume g.messages S g.start g.answers g.afterwards from honest settled.answered settled.none_failed in
+      let given : phases settled.shown ≡ settled.settled.earlier ++ written (length g.start.journal) (with_marks none_there commits) ∷ marks_from (length g.start.journal) commits ∷ [] =
+      settled.settled.given ∙ ap (λ (two : List (List Event)). settled.settled.earlier ++ two) (phases_are_of_commits g.messages S g.start g.answers g.afterwards settled.answered requests commits are) in
+      (after S requests, (requests, commits, are, refl, endures, none_or_one g.messages S g.start g.answers g.afterwards settled.answered requests commits are settled.alone, given), ends)
+
+  lone_holds : (volume : ℕ) (S : State) (before : Situation) (g : Group) (lone : IsLoneGroup drive gathers before g) → IsTrue g.afterwards.honest → HoldsState volume S before
+      → (T : State) × GroupHolds drive phases gathers volume S before g (inr lone) T × HoldsState volume T g.afterwards
+  lone_holds volume S before g lone honest at =
+      let from : HoldsState volume S g.start = (taking_back before g.start lone.starts).1 volume S at in
+      let (T, each) = served_withstand g.messages g.start g.answers g.afterwards lone.answered volume S honest from in
+      (T, (from, each), withstood volume g.messages S g.start g.answers g.afterwards lone.answered T from each)
+
+  group_holds : (volume : ℕ) (S : State) (before : Situation) (g : Group) (is : IsSettledGroup drive phases gathers before g ⊎ IsLoneGroup drive gathers before g) → IsTrue g.afterwards.honest → HoldsState volume S before
+      → (T : State) × GroupHolds drive phases gathers volume S before g is T × HoldsState volume T g.afterwards
+  group_holds volume S before g (inl settled) honest at = settled_holds volume S before g settled honest at
+  group_holds volume S before g (inr lone) honest at = lone_holds volume S before g lone honest at
+
+  pub groups_withstand : (groups : List Group) (before afterwards : Situation) (all : AreGroups drive phases gathers groups before afterwards) → GroupsWithstand drive phases gathers groups before afterwards all
+  groups_withstand [] before afterwards all volume S honest at = (S, refl)
+  groups_withstand (g ∷ groups) before afterwards all volume S honest at =
+      let (T, holds, then) = group_holds volume S before g all.0 (groups_honest groups g.afterwards afterwards all.1 honest) at in
+      let (S', rest) = groups_withstand groups g.afterwards afterwards all.1 volume T honest then in
+      (S', (T, holds, then, rest))

@@ -1,0 +1,195 @@
+use Rattle.std.proofs.Common.{◌≡◌, ◌++◌, rules, inl, List, ℕ, Some, ap, sym, ◌∙◌}
+use Rattle.drive.proofs.Reading.{follows_any, follows_none, follows_then}
+use Rattle.drive.specs.Journal.{next_of}
+use Rattle.drive.specs.Reads.{one_if}
+use Rattle.request.proofs.FrameLaws.{taken_first}
+use Rattle.engine.proofs.Messages.{taken_less}
+use Rattle.engine.specs.Answered.{faults}
+use Rattle.engine.specs.Served.{frames_of}
+use Rattle.engine.specs.Situation.{seen_on}
+use Rattle.grouping.specs.Groups.{mark_between}
+use Rattle.grouping.proofs.Answers.{going_none, some_there}
+use Rattle.grouping.proofs.Going.{adds_none, adds_then, adds_untouched, both_are, goes_full, goes_on, goes_some, not_both, ok_of, err_of, OneMore}
+use Rattle.grouping.proofs.Settled.{untouched_follows}
+use Rattle.grouping.proofs.group.gather.Goals as goal
+
+pub loop-message-init : goal.loop-message-init
+loop-message-init g c = record {
+  going = going_none _ _ _ _ c.requires.none;
+  follows = adds_none _ c.requires.ready;
+  lent = follows_none _ _;
+}
+
+pub loop-message-smaller : goal.loop-message-smaller
+loop-message-smaller g c = taken_less _ _ c.in-Some.message (taken_first c.loop-message.frames c.skip.new.self c.in-Some.message c.in-Some.ensures.some c.skip.ensures.taken)
+
+pub loop-message-smaller-else-is_full : goal.loop-message-smaller-else-is_full
+loop-message-smaller-else-is_full g c = taken_less _ _ c.in-Some.message (taken_first c.loop-message.frames c.skip.new.self c.in-Some.message c.in-Some.ensures.some c.skip.ensures.taken)
+
+pub loop-message-smaller-else-is_full-2 : goal.loop-message-smaller-else-is_full-2
+loop-message-smaller-else-is_full-2 g c = taken_less _ _ c.in-Some.message (taken_first c.loop-message.frames c.skip.new.self c.in-Some.message c.in-Some.ensures.some c.skip.ensures.taken)
+
+pub answer-answer-requires : goal.answer-answer-requires
+answer-answer-requires g c = c.loop-message.invariant.follows.ready
+
+-- The parts of what became of one message more.
+pub loop-message-preserved : goal.loop-message-preserved
+loop-message-preserved g c =
+    let i = c.loop-message.invariant in
+    let e = c.answer-answer.ensures in
+    record {
+      going = goes_on g.D.Drive _ c.loop-message.frames c.skip.new.self _ _ _ c.answer-answer.new.drive c.end_commit.new.drive _ _ _ _ _ c.in-Some.message c.answer-answer.result c.count-before.result c.loop-message.is_begun i.going
+          (record {
+            takes = taken_first c.loop-message.frames c.skip.new.self c.in-Some.message c.in-Some.ensures.some c.skip.ensures.taken;
+            answered = record { answered = e.answered; calls = e.calls; withstands = e.withstands; planned = e.planned; nothing = e.nothing };
+            none = c.is_fault.ensures ∙ ap one_if c.if-is_fault.false;
+            untouched = c.end_commit.ensures.untouched;
+            first = g.met.D.Settles.once c.loop-message.drive;
+            second = g.met.D.Settles.once c.answer-answer.new.drive;
+            before_is = c.count-before.ensures;
+            marked = ok_of c.end_commit.result _ (sym c.is_err.ensures.value ∙ c.if-is_err.false) c.end_commit.ensures.ok;
+          })
+          (ok_of c.encode_answer.result _ (sym c.is_err-in-Some.ensures.value ∙ c.if-is_err-2.false) c.encode_answer.ensures.ok)
+          (sym c.asks_to_grow-is_alone.ensures ∙ c.is_full.ensures c.if-is_full.false);
+      follows = adds_then _ _ _ i.follows (adds_untouched g.D.Drive _ _ c.answer-answer.new.drive c.end_commit.new.drive c.end_commit.ensures.untouched e.answered.follows);
+      lent = follows_then i.lent (follows_then (follows_any e.lent) (untouched_follows c.answer-answer.new.drive c.end_commit.new.drive c.end_commit.ensures.untouched));
+    }
+
+pub loop-message-preserved-else-is_full : goal.loop-message-preserved-else-is_full
+loop-message-preserved-else-is_full g c =
+    let i = c.loop-message.invariant in
+    let e = c.answer-answer.ensures in
+    record {
+      going = goes_on g.D.Drive _ c.loop-message.frames c.skip.new.self _ _ _ c.answer-answer.new.drive c.end_commit.new.drive _ _ _ _ _ c.in-Some.message c.answer-answer.result c.count-before.result c.loop-message.is_begun i.going
+          (record {
+            takes = taken_first c.loop-message.frames c.skip.new.self c.in-Some.message c.in-Some.ensures.some c.skip.ensures.taken;
+            answered = record { answered = e.answered; calls = e.calls; withstands = e.withstands; planned = e.planned; nothing = e.nothing };
+            none = c.is_fault.ensures ∙ ap one_if c.if-is_fault.false;
+            untouched = c.end_commit.ensures.untouched;
+            first = g.met.D.Settles.once c.loop-message.drive;
+            second = g.met.D.Settles.once c.answer-answer.new.drive;
+            before_is = c.count-before.ensures;
+            marked = ok_of c.end_commit.result _ (sym c.is_err.ensures.value ∙ c.if-is_err.false) c.end_commit.ensures.ok;
+          })
+          (ok_of c.encode_answer.result _ (sym c.is_err-in-Some.ensures.value ∙ c.if-is_err-2.false) c.encode_answer.ensures.ok)
+          (sym c.asks_to_grow-is_alone.ensures ∙ c.is_full.ensures c.if-is_full.false);
+      follows = adds_then _ _ _ i.follows (adds_untouched g.D.Drive _ _ c.answer-answer.new.drive c.end_commit.new.drive c.end_commit.ensures.untouched e.answered.follows);
+      lent = follows_then i.lent (follows_then (follows_any e.lent) (untouched_follows c.answer-answer.new.drive c.end_commit.new.drive c.end_commit.ensures.untouched));
+    }
+
+pub loop-message-preserved-else-is_full-2 : goal.loop-message-preserved-else-is_full-2
+loop-message-preserved-else-is_full-2 g c =
+    let i = c.loop-message.invariant in
+    let e = c.answer-answer.ensures in
+    record {
+      going = goes_on g.D.Drive _ c.loop-message.frames c.skip.new.self _ _ _ c.answer-answer.new.drive c.end_commit.new.drive _ _ _ _ _ c.in-Some.message c.answer-answer.result c.count-before.result c.loop-message.is_begun i.going
+          (record {
+            takes = taken_first c.loop-message.frames c.skip.new.self c.in-Some.message c.in-Some.ensures.some c.skip.ensures.taken;
+            answered = record { answered = e.answered; calls = e.calls; withstands = e.withstands; planned = e.planned; nothing = e.nothing };
+            none = c.is_fault.ensures ∙ ap one_if c.if-is_fault.false;
+            untouched = c.end_commit.ensures.untouched;
+            first = g.met.D.Settles.once c.loop-message.drive;
+            second = g.met.D.Settles.once c.answer-answer.new.drive;
+            before_is = c.count-before.ensures;
+            marked = ok_of c.end_commit.result _ (sym c.is_err.ensures.value ∙ c.if-is_err.false) c.end_commit.ensures.ok;
+          })
+          (ok_of c.encode_answer.result _ (sym c.is_err-in-Some.ensures.value ∙ c.if-is_err-2.false) c.encode_answer.ensures.ok)
+          (sym c.asks_to_grow-is_alone.ensures ∙ c.is_full.ensures c.if-is_full.false);
+      follows = adds_then _ _ _ i.follows (adds_untouched g.D.Drive _ _ c.answer-answer.new.drive c.end_commit.new.drive c.end_commit.ensures.untouched e.answered.follows);
+      lent = follows_then i.lent (follows_then (follows_any e.lent) (untouched_follows c.answer-answer.new.drive c.end_commit.new.drive c.end_commit.ensures.untouched));
+    }
+
+pub returns-then-is_fault : goal.returns-then-is_fault
+returns-then-is_fault g c =
+    let i = c.loop-message.invariant in
+    let e = c.answer-answer.ensures in
+    record {
+      gathers = tt;
+      held = (frames_of i.going.gathering.told.answers, i.going.gathering.told.told);
+      follows = adds_then _ _ _ i.follows e.answered.follows;
+      lent = follows_then i.lent (follows_any e.lent);
+    }
+
+pub returns-then-is_err : goal.returns-then-is_err
+returns-then-is_err g c =
+    let i = c.loop-message.invariant in
+    let e = c.answer-answer.ensures in
+    record {
+      gathers = tt;
+      held = (frames_of i.going.gathering.told.answers, i.going.gathering.told.told);
+      follows = adds_then _ _ _ i.follows (adds_untouched g.D.Drive _ _ c.answer-answer.new.drive c.end_commit.new.drive c.end_commit.ensures.untouched e.answered.follows);
+      lent = follows_then i.lent (follows_then (follows_any e.lent) (untouched_follows c.answer-answer.new.drive c.end_commit.new.drive c.end_commit.ensures.untouched));
+    }
+
+pub returns-then-is_err-2 : goal.returns-then-is_err-2
+returns-then-is_err-2 g c =
+    let i = c.loop-message.invariant in
+    let e = c.answer-answer.ensures in
+    let kept = err_of c.encode_answer.result _ (sym c.is_err-in-Some.ensures.value ∙ c.if-is_err-2.true) c.encode_answer.ensures.err in
+    record {
+      gathers = goes_some g.D.Drive _ c.loop-message.frames c.skip.new.self _ _ _ c.answer-answer.new.drive c.end_commit.new.drive _ _ _ _ _ c.in-Some.message c.answer-answer.result c.count-before.result c.loop-message.is_begun i.going
+          (record {
+            takes = taken_first c.loop-message.frames c.skip.new.self c.in-Some.message c.in-Some.ensures.some c.skip.ensures.taken;
+            answered = record { answered = e.answered; calls = e.calls; withstands = e.withstands; planned = e.planned; nothing = e.nothing };
+            none = c.is_fault.ensures ∙ ap one_if c.if-is_fault.false;
+            untouched = c.end_commit.ensures.untouched;
+            first = g.met.D.Settles.once c.loop-message.drive;
+            second = g.met.D.Settles.once c.answer-answer.new.drive;
+            before_is = c.count-before.ensures;
+            marked = ok_of c.end_commit.result _ (sym c.is_err.ensures.value ∙ c.if-is_err.false) c.end_commit.ensures.ok;
+          })
+          kept
+          c.asks_to_grow-is_alone.result c.asks_to_grow-is_alone.ensures (not_both _ _ (sym c.comes_later.ensures ∙ c.if-comes_later.false));
+      held = (frames_of i.going.gathering.told.answers, kept ∙ i.going.gathering.told.told);
+      follows = adds_then _ _ _ i.follows (adds_untouched g.D.Drive _ _ c.answer-answer.new.drive c.end_commit.new.drive c.end_commit.ensures.untouched e.answered.follows);
+      lent = follows_then i.lent (follows_then (follows_any e.lent) (untouched_follows c.answer-answer.new.drive c.end_commit.new.drive c.end_commit.ensures.untouched));
+    }
+
+pub returns-then-is_full : goal.returns-then-is_full
+returns-then-is_full g c =
+    let i = c.loop-message.invariant in
+    let e = c.answer-answer.ensures in
+    let gathered = goes_full g.D.Drive _ c.loop-message.frames c.skip.new.self _ _ _ c.answer-answer.new.drive c.end_commit.new.drive _ _ _ _ _ c.in-Some.message c.answer-answer.result c.count-before.result c.loop-message.is_begun i.going
+    (record {
+      takes = taken_first c.loop-message.frames c.skip.new.self c.in-Some.message c.in-Some.ensures.some c.skip.ensures.taken;
+      answered = record { answered = e.answered; calls = e.calls; withstands = e.withstands; planned = e.planned; nothing = e.nothing };
+      none = c.is_fault.ensures ∙ ap one_if c.if-is_fault.false;
+      untouched = c.end_commit.ensures.untouched;
+      first = g.met.D.Settles.once c.loop-message.drive;
+      second = g.met.D.Settles.once c.answer-answer.new.drive;
+      before_is = c.count-before.ensures;
+      marked = ok_of c.end_commit.result _ (sym c.is_err.ensures.value ∙ c.if-is_err.false) c.end_commit.ensures.ok;
+    })
+    (ok_of c.encode_answer.result _ (sym c.is_err-in-Some.ensures.value ∙ c.if-is_err-2.false) c.encode_answer.ensures.ok)
+    c.asks_to_grow-is_alone.result c.asks_to_grow-is_alone.ensures (not_both _ _ (sym c.comes_later.ensures ∙ c.if-comes_later.false)) in
+    record {
+      gathers = gathered;
+      held = (frames_of gathered.gathering.told.answers, gathered.gathering.told.told);
+      follows = adds_then _ _ _ i.follows (adds_untouched g.D.Drive _ _ c.answer-answer.new.drive c.end_commit.new.drive c.end_commit.ensures.untouched e.answered.follows);
+      lent = follows_then i.lent (follows_then (follows_any e.lent) (untouched_follows c.answer-answer.new.drive c.end_commit.new.drive c.end_commit.ensures.untouched));
+    }
+
+pub returns : goal.returns
+returns g c =
+    let i = c.loop-message.invariant in
+    record {
+      gathers = record { gathering = i.going.gathering; some = λ none. (search rules); alone = inl i.going.quiet };
+      held = (frames_of i.going.gathering.told.answers, i.going.gathering.told.told);
+      follows = i.follows;
+      lent = i.lent;
+    }
+
+pub returns-then-comes_later : goal.returns-then-comes_later
+returns-then-comes_later g c =
+    let i = c.loop-message.invariant in
+    let both = sym c.comes_later.ensures ∙ c.if-comes_later.true in
+    record {
+      gathers = record {
+        gathering = i.going.gathering;
+        some = λ none. absurd (some_there i.going.gathering.told.messages (sym (both_are _ _ both) ∙ i.going.begun_is) none);
+        alone = inl i.going.quiet;
+      };
+      held = (frames_of i.going.gathering.told.answers, i.going.gathering.told.told);
+      follows = i.follows;
+      lent = i.lent;
+    }

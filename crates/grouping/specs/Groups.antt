@@ -1,0 +1,116 @@
+-- What becomes of messages that are answered as a group.
+use Rattle.std.specs.Prelude.{◌≡◌, ◌⊎◌, ℕ, ◌-◌, nat_lt, Bool, false, if◌then◌else◌, IsTrue, List, [], ◌∷◌, ◌++◌, length, Option, None}
+use Rattle.drive.specs.Journal.{Event}
+use Rattle.drive.specs.Reads.{CountsFailures}
+use Rattle.drive.specs.declared.Drive.{Ghosts}
+use Rattle.request.specs.declared.answer.Answer.{Answer}
+use Rattle.request.specs.declared.message.Message.{Message}
+use Rattle.request.specs.declared.message.Message.TheVariants as message
+use Rattle.request.specs.declared.message.Op.{Op}
+use Rattle.request.specs.declared.message.Op.TheVariants as op
+use Rattle.request.specs.Frames.{IsIdle}
+use Rattle.model.specs.Session.{State}
+use Rattle.settling.specs.Phases.{two_phases}
+use Rattle.store.specs.declared.store.Store.{Store}
+use Rattle.engine.specs.declared.serving.ServeFault.TheVariants.{Memory}
+use Rattle.engine.specs.Situation.{Situation, HoldsNothing, IsReady, situation_on}
+use Rattle.engine.specs.Steps.{HoldsState}
+use Rattle.engine.specs.Served.{AllAnswered, Answering, AnswersSome}
+use Rattle.group_losses.specs.Gathered.{NoneFailed}
+
+-- the address of the last block that came between two lengths of a journal, if any came
+abbrev pub mark_between : ℕ → ℕ → List ℕ
+mark_between before after = if nat_lt before after then (after - 1) ∷ [] else []
+
+-- the mark of a message: the last block that it added, if it added any
+abbrev pub mark_of : Situation → Situation → List ℕ
+mark_of before after = mark_between (length before.journal) (length after.journal)
+
+-- those of messages, in order
+abbrev pub marks_of : (messages : List Message) → (before : Situation) → (answers : List Answer) → (afterwards : Situation) → AllAnswered messages before answers afterwards → List ℕ
+marks_of [] before [] afterwards all = []
+marks_of [] before (a ∷ answers) afterwards all = []
+marks_of (m ∷ messages) before [] afterwards all = []
+marks_of (m ∷ messages) before (a ∷ answers) afterwards all = mark_of before all.0 ++ marks_of messages all.0 answers afterwards all.2
+
+-- The disk has the blocks of a group: it was given all but the marks, and then the marks, and each of both was synced. The drive gathers no more.
+pub record IsSettled (marks : List ℕ) (before afterwards : Situation) (phases : List (List Event)) (gathers : Bool) : Type 0 where
+  pub earlier : List (List Event)
+  pub given : phases ≡ earlier ++ two_phases (length before.journal) marks afterwards.journal
+  pub ended : gathers ≡ false
+
+-- A group was taken back: the store is forgotten, as by a restart, and the medium is as it was before the group.
+pub record IsTakenBack (before start : Situation) : Type 0 where
+  pub store : start.store ≡ None
+  pub journal : start.journal ≡ before.journal
+  pub capacity : start.capacity ≡ before.capacity
+  pub failures : CountsFailures 0 before.failures start.failures
+  pub honest : IsTrue start.honest → IsTrue before.honest
+
+-- where messages are answered one by one: where they came, or where they were taken back
+abbrev pub StartsAt : Situation → Situation → Type 0
+StartsAt before start = (start ≡ before) ⊎ IsTakenBack before start
+
+-- what holds before a group holds where it was taken back
+abbrev pub TakingBackHolds : Type 0
+TakingBackHolds =
+    (before start : Situation) → StartsAt before start
+    → (IsReady before → IsReady start) × ((volume : ℕ) (S : State) → HoldsState volume S before → HoldsState volume S start) × (HoldsNothing before → HoldsNothing start)
+
+-- a drive that does not gather shows this
+pub record IsAlone {D : Type 0} (drive : Ghosts D) (gathers : D → Bool) (s : Situation) : Type 0 where
+  pub store : Option Store
+  pub shown : D
+  pub shows : s ≡ situation_on drive store shown
+  pub alone : gathers shown ≡ false
+
+-- the message asks for bytes to be added to a file that has some
+abbrev pub grows_by : Op → Bool
+grows_by (op.Create path bytes) = false
+grows_by (op.Replace path bytes) = false
+grows_by (op.Append path offset bytes) = nat_lt 0 offset
+grows_by (op.MakeDir path) = false
+grows_by (op.Rename from to) = false
+grows_by (op.Remove path) = false
+
+abbrev pub grows : Message → Bool
+grows (message.Malformed cause) = false
+grows message.NoMemory = false
+grows (message.Query asked) = false
+grows (message.Request asked) = grows_by asked.op
+
+-- none of these does
+abbrev pub NoneAsksToGrow : List Message → Type 0
+NoneAsksToGrow [] = Unit {0}
+NoneAsksToGrow (m ∷ messages) = (grows m ≡ false) × NoneAsksToGrow messages
+
+-- Messages were answered as a group, each answer's frame was written, no answer tells of a failing drive, and these are the marks.
+pub record Gathering (reader after : Option (List ℕ)) (before afterwards : Situation) (output written : Option (List ℕ)) (marks : List ℕ) : Type 0 where
+  pub told : Answering reader after before afterwards output written
+  pub none_failed : NoneFailed told.answers
+  pub marks_are : marks ≡ marks_of told.messages before told.answers afterwards told.answered
+
+-- The group ends there: it has a message, or none was complete. A message that asks for a file to grow is a group alone.
+pub record Gathered (reader after : Option (List ℕ)) (before afterwards : Situation) (output written : Option (List ℕ)) (marks : List ℕ) : Type 0 where
+  pub gathering : Gathering reader after before afterwards output written marks
+  pub some : gathering.told.messages ≡ [] → IsIdle after
+  pub alone : NoneAsksToGrow gathering.told.messages ⊎ (length gathering.told.messages ≡ 1)
+
+-- The same, but there was no memory for the last answer's frame.
+pub record GatheringSome (reader after : Option (List ℕ)) (before afterwards : Situation) (output written : Option (List ℕ)) (marks : List ℕ) : Type 0 where
+  pub told : AnswersSome Memory reader after before afterwards output written
+  pub none_failed : NoneFailed told.answers
+  pub marks_are : marks ≡ marks_of told.messages before told.answers afterwards told.answered
+  pub alone : NoneAsksToGrow told.messages ⊎ (length told.messages ≡ 1)
+
+-- The messages of a group have their answers. Either the disk has the group, or they were answered one by one, on a drive that does not gather, until none was complete.
+abbrev pub GroupTold : {D : Type 0} → Ghosts D → (D → List (List Event)) → (D → Bool) → Option (List ℕ) → Option (List ℕ) → Situation → D → Situation → Option (List ℕ) → Option (List ℕ) → Type 0
+GroupTold drive phases gathers reader after before d afterwards output written =
+    ((marks : List ℕ) × Gathered reader after before afterwards output written marks × IsSettled marks before afterwards (phases d) (gathers d))
+    ⊎ ((start : Situation) × StartsAt before start × IsAlone drive gathers start × Answering reader after start afterwards output written × IsIdle after)
+
+-- The same up to an answer for whose frame there was no memory.
+abbrev pub GroupUntold : {D : Type 0} → Ghosts D → (D → List (List Event)) → (D → Bool) → Option (List ℕ) → Option (List ℕ) → Situation → D → Situation → Option (List ℕ) → Option (List ℕ) → Type 0
+GroupUntold drive phases gathers reader after before d afterwards output written =
+    ((marks : List ℕ) × GatheringSome reader after before afterwards output written marks × IsSettled marks before afterwards (phases d) (gathers d))
+    ⊎ ((start : Situation) × StartsAt before start × IsAlone drive gathers start × AnswersSome Memory reader after start afterwards output written)

@@ -1,0 +1,4 @@
+pub mod Groups
+pub mod Steps
+pub mod Phases
+pub mod Served

@@ -1,0 +1,150 @@
+-- What became of the messages of a stream that were answered in groups.
+use Rattle.std.proofs.Common.{inl, inr}
+use Rattle.std.specs.Prelude.{◌≡◌, ◌⊎◌, ℕ, ◌≤◌, List, [], ◌∷◌, ◌++◌, length, take, Bool, Option, Some, IsTrue}
+use Rattle.std.specs.List.{flat_map}
+use Rattle.std.specs.Io.KnownBytes.{Appends, Consumes, IsAtEnd}
+use Rattle.drive.specs.Journal.{Event, written}
+use Rattle.drive.specs.declared.Drive.{Ghosts}
+use Rattle.model.specs.Session.{State, Request, after}
+use Rattle.gathering.specs.Groups.{Commit, with_marks, none_there}
+use Rattle.group_losses.specs.Gathered.{AreGathered, NoneFailed, NoneGrows}
+use Rattle.group_losses.specs.Laws.{GroupEndures}
+use Rattle.request.specs.declared.answer.Answer.{Answer}
+use Rattle.request.specs.declared.message.Message.{Message}
+use Rattle.request.specs.Frames.{IsIdle, MessagesAre}
+use Rattle.store.specs.declared.store.Store.{Store}
+use Rattle.engine.specs.declared.serving.ServeFault.{ServeFault}
+use Rattle.engine.specs.declared.serving.ServeFault.TheVariants as faults
+use Rattle.engine.specs.Served.{AllAnswered, AllTaken, AllTold, EachWithstands, IsCutOff, LastUntold, Unlooked, frames_of}
+use Rattle.engine.specs.Situation.{Situation, situation_on}
+use Rattle.engine.specs.Steps.{HoldsState}
+use Rattle.engine.specs.Streams.{PutsPrefix}
+use Rattle.grouping.specs.Groups.{IsAlone, IsSettled, NoneAsksToGrow, StartsAt, marks_of}
+use Rattle.grouping.specs.Phases.{marks_from}
+
+-- Messages that were answered one after another, from a situation on.
+pub record Group : Type 0 where
+  pub start : Situation
+  pub messages : List Message
+  pub answers : List Answer
+  pub afterwards : Situation
+
+abbrev pub messages_of : List Group → List Message
+messages_of groups = flat_map (λ (g : Group). g.messages) groups
+
+abbrev pub answers_of : List Group → List Answer
+answers_of groups = flat_map (λ (g : Group). g.answers) groups
+
+-- The disk has the whole group, and no answer tells of a failing drive.
+pub record IsSettledGroup {D : Type 0} (drive : Ghosts D) (phases : D → List (List Event)) (gathers : D → Bool) (before : Situation) (g : Group) : Type 0 where
+  pub starts : g.start ≡ before
+  pub answered : AllAnswered g.messages g.start g.answers g.afterwards
+  pub none_failed : NoneFailed g.answers
+  pub alone : NoneAsksToGrow g.messages ⊎ (length g.messages ≡ 1)
+  pub store : Option Store
+  pub shown : D
+  pub shows : g.afterwards ≡ situation_on drive store shown
+  pub settled : IsSettled (marks_of g.messages g.start g.answers g.afterwards answered) g.start g.afterwards (phases shown) (gathers shown)
+
+-- The messages were answered on a drive that does not gather: where they came, or where their group was taken back.
+pub record IsLoneGroup {D : Type 0} (drive : Ghosts D) (gathers : D → Bool) (before : Situation) (g : Group) : Type 0 where
+  pub starts : StartsAt before g.start
+  pub alone : IsAlone drive gathers g.start
+  pub answered : AllAnswered g.messages g.start g.answers g.afterwards
+
+-- one group after another
+abbrev pub AreGroups : {D : Type 0} → Ghosts D → (D → List (List Event)) → (D → Bool) → List Group → Situation → Situation → Type 0
+AreGroups drive phases gathers [] before afterwards = afterwards ≡ before
+AreGroups drive phases gathers (g ∷ groups) before afterwards =
+    (IsSettledGroup drive phases gathers before g ⊎ IsLoneGroup drive gathers before g) × AreGroups drive phases gathers groups g.afterwards afterwards
+
+-- ---- what a power loss leaves
+
+-- The requests of a settled group were committed. What the disk was given of it are two phases, and what a power loss leaves of these
+-- is what it leaves of the group: none of its requests adds bytes to a file that has some, or it is one commit. Where messages were answered on a drive that does not gather, each of them withstands by itself.
+abbrev pub GroupHolds : {D : Type 0} → (drive : Ghosts D) → (phases : D → List (List Event)) → (gathers : D → Bool) → ℕ → State → (before : Situation) → (g : Group)
+    → IsSettledGroup drive phases gathers before g ⊎ IsLoneGroup drive gathers before g → State → Type 0
+GroupHolds drive phases gathers volume S before g (inl settled) T =
+    (requests : List Request) × (commits : List Commit) × AreGathered g.messages S g.start g.answers g.afterwards settled.answered requests commits × (T ≡ after S requests)
+    × GroupEndures g.start.capacity volume S g.start.journal requests commits g.afterwards.journal
+    × (NoneGrows requests ⊎ (length commits ≤ 1))
+    × (phases settled.shown ≡ settled.settled.earlier ++ written (length g.start.journal) (with_marks none_there commits) ∷ marks_from (length g.start.journal) commits ∷ [])
+GroupHolds drive phases gathers volume S before g (inr lone) T = HoldsState volume S g.start × EachWithstands volume g.messages S g.start g.answers g.afterwards lone.answered T
+
+-- each in turn, from the recovered state that the one before it left
+abbrev pub GroupsHold : {D : Type 0} → (drive : Ghosts D) → (phases : D → List (List Event)) → (gathers : D → Bool) → ℕ → State → (groups : List Group) → (before afterwards : Situation)
+    → AreGroups drive phases gathers groups before afterwards → State → Type 0
+GroupsHold drive phases gathers volume S [] before afterwards all S' = S' ≡ S
+GroupsHold drive phases gathers volume S (g ∷ groups) before afterwards all S' =
+    (T : State) × GroupHolds drive phases gathers volume S before g all.0 T × HoldsState volume T g.afterwards × GroupsHold drive phases gathers volume T groups g.afterwards afterwards all.1 S'
+
+-- so it is on an honest drive where a state is recovered that an open store knows
+abbrev pub GroupsWithstand : {D : Type 0} → (drive : Ghosts D) → (phases : D → List (List Event)) → (gathers : D → Bool) → (groups : List Group) → (before afterwards : Situation)
+    → AreGroups drive phases gathers groups before afterwards → Type 0
+GroupsWithstand drive phases gathers groups before afterwards all =
+    (volume : ℕ) (S : State) → IsTrue afterwards.honest → HoldsState volume S before → (S' : State) × GroupsHold drive phases gathers volume S groups before afterwards all S'
+
+-- ---- streams
+
+-- Messages that a reader of frames held were answered in groups, and each answer's frame was written.
+pub record Grouping {D : Type 0} (drive : Ghosts D) (phases : D → List (List Event)) (gathers : D → Bool) (reader after : Option (List ℕ)) (before afterwards : Situation) (output written : Option (List ℕ)) : Type 0 where
+  pub groups : List Group
+  pub taken : AllTaken reader (messages_of groups) after
+  pub are : AreGroups drive phases gathers groups before afterwards
+  pub told : Appends output written (frames_of (answers_of groups))
+
+-- the frames of the last group's answers were not written whole: those of each other group were, and so many bytes of these
+abbrev pub LastGroupUntold : List Group → ℕ → Option (List ℕ) → Option (List ℕ) → Type 0
+LastGroupUntold groups count output written =
+    (others : List Group) × (last : Group) × (groups ≡ others ++ last ∷ []) × Appends output written (frames_of (answers_of others) ++ take count (frames_of last.answers))
+
+-- Why messages that are there were left: a write failed, in the last group's answers or after all of them; or there was no memory
+-- for the last answer's frame.
+abbrev pub LeftIn : ServeFault → List Group → Option (List ℕ) → Option (List ℕ) → Option (List ℕ) → Type 0
+LeftIn faults.Read groups reader output written = ⊥
+LeftIn faults.Write groups reader output written = AllTold (answers_of groups) reader output written ⊎ ((count : ℕ) × LastGroupUntold groups count output written)
+LeftIn faults.Memory groups reader output written = LastUntold (answers_of groups) 0 output written
+
+-- The same, but it ended with a fault, and of the answers' frames a prefix was written.
+pub record GroupingSome {D : Type 0} (drive : Ghosts D) (phases : D → List (List Event)) (gathers : D → Bool) (fault : ServeFault) (reader after : Option (List ℕ)) (before afterwards : Situation) (output written : Option (List ℕ)) : Type 0 where
+  pub groups : List Group
+  pub taken : AllTaken reader (messages_of groups) after
+  pub are : AreGroups drive phases gathers groups before afterwards
+  pub front : PutsPrefix output written (frames_of (answers_of groups))
+  pub left : LeftIn fault groups after output written
+
+-- Bytes were read. Their messages were answered in groups, and each answer's frame was written.
+pub record ServingGroups {D : Type 0} (drive : Ghosts D) (phases : D → List (List Event)) (gathers : D → Bool) (reader : Option (List ℕ)) (before afterwards : Situation) (input left output written : Option (List ℕ)) : Type 0 where
+  pub bytes : List ℕ
+  pub groups : List Group
+  pub consumed : Consumes input left bytes
+  pub messages_are : MessagesAre bytes (messages_of groups) reader
+  pub are : AreGroups drive phases gathers groups before afterwards
+  pub told : Appends output written (frames_of (answers_of groups))
+
+-- All messages of the bytes that were read were answered in groups, and each answer's frame was written. The stream is at its end, or a frame was too long.
+pub record ServesGroups {D : Type 0} (drive : Ghosts D) (phases : D → List (List Event)) (gathers : D → Bool) (before afterwards : Situation) (input left output written : Option (List ℕ)) : Type 0 where
+  pub reader : Option (List ℕ)
+  pub serving : ServingGroups drive phases gathers reader before afterwards input left output written
+  pub withstand : GroupsWithstand drive phases gathers serving.groups before afterwards serving.are
+  pub idle : IsIdle reader
+  pub ends : IsAtEnd left ⊎ IsCutOff serving.bytes reader
+
+-- Why a stream was left, as it is where messages are answered one by one.
+abbrev pub LeftByIn : ServeFault → List ℕ → List Group → Option (List ℕ) → Option (List ℕ) → Option (List ℕ) → Type 0
+LeftByIn faults.Read bytes groups reader output written = AllTold (answers_of groups) reader output written
+LeftByIn faults.Write bytes groups reader output written = (bytes ≡ [] → ⊥) × LeftIn faults.Write groups reader output written
+LeftByIn faults.Memory bytes groups reader output written =
+    LeftIn faults.Memory groups reader output written ⊎ (Unlooked (answers_of groups) reader output written ⊎ AllTold (answers_of groups) reader output written)
+
+-- The first messages of the bytes that were read were answered in groups, and of the answers' frames a prefix was written, up to where this fault came.
+pub record ServesGroupsUntil {D : Type 0} (fault : ServeFault) (drive : Ghosts D) (phases : D → List (List Event)) (gathers : D → Bool) (before afterwards : Situation) (input left output written : Option (List ℕ)) : Type 0 where
+  pub bytes : List ℕ
+  pub groups : List Group
+  pub reader : Option (List ℕ)
+  pub consumed : Consumes input left bytes
+  pub messages_are : MessagesAre bytes (messages_of groups) reader
+  pub are : AreGroups drive phases gathers groups before afterwards
+  pub withstand : GroupsWithstand drive phases gathers groups before afterwards are
+  pub front : PutsPrefix output written (frames_of (answers_of groups))
+  pub left_by : LeftByIn fault bytes groups reader output written

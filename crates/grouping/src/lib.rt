@@ -1,0 +1,14 @@
+//! Messages that wait are answered as a group: each request is a commit of its own, and the disk is synced twice for
+//! all of them. No answer is given before the disk has the whole group.
+//!
+//! If the drive fails, the group is taken back as if it had not come, and its messages are answered one by one. So each
+//! answer is one that the messages would get without groups.
+#![tactic(auto)]
+
+mod group;
+mod laws;
+mod serving;
+
+pub use group::answer_group;
+pub use laws::{phases_are_of_commits, taking_back_holds};
+pub use serving::serve_groups;
