@@ -7,6 +7,8 @@ mod drives;
 #[cfg(test)]
 mod files;
 #[cfg(test)]
+mod group_files;
+#[cfg(test)]
 mod groups;
 #[cfg(test)]
 mod images;

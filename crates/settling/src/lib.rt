@@ -5,10 +5,14 @@
 //! recovered of what a power loss leaves of these two phases is not stated here.
 #![tactic(auto)]
 
+mod file;
+mod group;
 mod memory;
 mod phase;
+mod record;
 mod settles;
 
+pub use file::GatheringFileDrive;
 pub use memory::GatheringDrive;
 pub use phase::Phase;
 pub use settles::Settles;

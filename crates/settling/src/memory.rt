@@ -1,12 +1,13 @@
 //! A drive in memory that gathers.
 ghost use Rattle.limits.specs.declared.TheConstants.{BLOCK_BYTES};
-ghost use Rattle.std.specs.Prelude.{◌≡◌, ◌≤◌, ◌++◌, [], ◌∷◌, length, take, vec_len, refl, true, false, All, IsTrue, IsErr, OnErr, OnOk};
+ghost use Rattle.std.specs.Prelude.{◌≡◌, ◌≤◌, ◌++◌, [], ◌∷◌, length, take, vec_len, refl, true, false, All, IsTrue, OnErr, OnOk};
 ghost use Rattle.drive.specs.Journal.{AreWhole, counted, written};
 ghost use Rattle.drive.specs.MemDrive.{capacity_of, writes_of};
 ghost use Rattle.settling.specs.Calls.{GivesFront};
 ghost use Rattle.settling.specs.Given.{blocks_in, phases_in};
 ghost use Rattle.settling.specs.Phases.{two_phases};
 
+use crate::settles::fail;
 use crate::{Phase, Settles};
 use drive::{Drive, DriveFault, MemDrive, Scheduled};
 use limits::Block;
@@ -229,15 +230,6 @@ impl Settles for GatheringDrive {
         self.gathers = false;
         self.cut(from);
     }
-}
-
-/// Counts a failure.
-fn fail(failures: &mut u64) -> Result<(), DriveFault>
-    ensures err { IsErr result }
-    ensures counted { failures.new ≡ counted true failures.old }
-{
-    *failures = failures.saturating_add(1);
-    Err(DriveFault)
 }
 
 /// Adds blocks at the end. If there is no memory, it adds none.

@@ -1,5 +1,5 @@
 //! What a drive whose writes may wait does.
-ghost use Rattle.std.specs.Prelude.{◌≡◌, ◌++◌, [], ◌∷◌, Bool, List, true, false, take, drop, is_err, OnOk, OnErr};
+ghost use Rattle.std.specs.Prelude.{◌≡◌, ◌++◌, [], ◌∷◌, Bool, List, true, false, take, drop, is_err, IsErr, OnOk, OnErr};
 ghost use Rattle.drive.specs.Journal.{Event, Once, counted, next_of};
 ghost use Rattle.settling.specs.Phases.{blanked, two_phases};
 ghost use Rattle.settling.specs.Calls.{GivesFront, IsUntouched, KeepsRest};
@@ -54,4 +54,13 @@ pub trait Settles: Drive {
 
     /// Each address was written once, in order. So the first blocks of the journal are those below an address.
     ghost once: { (d : Self) → Once (Self.journal d) };
+}
+
+/// Counts a failure.
+pub(crate) fn fail(failures: &mut u64) -> Result<(), DriveFault>
+    ensures err { IsErr result }
+    ensures counted { failures.new ≡ counted true failures.old }
+{
+    *failures = failures.saturating_add(1);
+    Err(DriveFault)
 }
