@@ -7,3 +7,4 @@ pub mod Phases
 pub mod Withstanding
 pub mod Streams
 pub mod Piecewise
+pub mod Running

@@ -16,6 +16,7 @@ use Rattle.engine.specs.Streams.{LeavesBy, PutsPrefix, TakesPiece, is_read}
 use Rattle.engine.proofs.Messages.{appends_more, consumes_kept, consumes_more, frames_append, front_more, kept_self, last_more, messages_taken, nothing_more, nothing_read, some_after, whole_front}
 use Rattle.grouping.specs.Served.{Group, AreGroups, Grouping, GroupingSome, LastGroupUntold, LeftIn, LeftByIn, ServingGroups, ServesGroups, ServesGroupsUntil, answers_of, messages_of}
 use Rattle.grouping.proofs.Streams.{are_append}
+use Rattle.grouping.proofs.Running.{groups_run}
 use Rattle.grouping.proofs.Withstanding.{groups_withstand}
 
 messages_join : (groups more : List Group) → messages_of (groups ++ more) ≡ messages_of groups ++ messages_of more
@@ -95,6 +96,7 @@ module _ {D : Type 0} (drive : Ghosts D) (phases : D → List (List Event)) (gat
             (messages_taken (messages_of more.groups) (messages_of h.groups) (h.bytes ++ piece) between after
             (subst (λ (r : Option (List ℕ)). MessagesAre (h.bytes ++ piece) (messages_of h.groups) r) (sym e) (feeding (messages_of h.groups) h.bytes piece reader h.messages_are)) more.taken);
         are = are;
+        run = groups_run drive phases gathers (h.groups ++ more.groups) s u are;
         withstand = groups_withstand drive phases gathers (h.groups ++ more.groups) s u are;
         front = subst (λ (x : List ℕ). PutsPrefix o w x) (frames_join h.groups more.groups) (front_more o v w (frames_of (answers_of h.groups)) (frames_of (answers_of more.groups)) h.told more.front);
         left_by = left_join fault (h.bytes ++ piece) h.groups more.groups after o v w (some_after h.bytes piece some) h.told more.left;
@@ -110,6 +112,7 @@ module _ {D : Type 0} (drive : Ghosts D) (phases : D → List (List Event)) (gat
     consumed = consumes_more i l n h.bytes piece h.consumed takes.consumed;
     messages_are = feeding (messages_of h.groups) h.bytes piece reader h.messages_are;
     are = h.are;
+    run = groups_run drive phases gathers h.groups s t h.are;
     withstand = groups_withstand drive phases gathers h.groups s t h.are;
     front = whole_front o v (frames_of (answers_of h.groups)) h.told;
     left_by = inr (inl (reader, piece, idle, some, refl, h.told));
@@ -124,6 +127,7 @@ module _ {D : Type 0} (drive : Ghosts D) (phases : D → List (List Event)) (gat
     consumed = consumes_kept i l n h.bytes h.consumed k;
     messages_are = h.messages_are;
     are = h.are;
+    run = groups_run drive phases gathers h.groups s t h.are;
     withstand = groups_withstand drive phases gathers h.groups s t h.are;
     front = whole_front o v (frames_of (answers_of h.groups)) h.told;
     left_by = left;
@@ -153,6 +157,7 @@ module _ {D : Type 0} (drive : Ghosts D) (phases : D → List (List Event)) (gat
       are = h.are;
       told = h.told;
     };
+    run = groups_run drive phases gathers h.groups s t h.are;
     withstand = groups_withstand drive phases gathers h.groups s t h.are;
     idle = idle;
     ends = inl (takes.end none);
@@ -168,6 +173,7 @@ module _ {D : Type 0} (drive : Ghosts D) (phases : D → List (List Event)) (gat
       record {
         reader = after;
         serving = serving_more reader between after s t u i l n o v w piece h takes e more;
+        run = groups_run drive phases gathers all.groups s u all.are;
         withstand = groups_withstand drive phases gathers all.groups s u all.are;
         idle = at_last;
         ends = inr (record {

@@ -20,7 +20,6 @@ use Rattle.engine.specs.Streams.{LeavesBy, PutsPrefix, TakesPiece}
 use Rattle.engine.proofs.Messages.{appends_more, consumes_kept, consumes_more, frames_append, front_more, kept_self, keeps_told, last_more, left_of, messages_taken, nothing_more, nothing_read, some_after, taken_less, whole_front}
 use Rattle.grouping.specs.Groups.{Gathered, GatheringSome, GroupTold, GroupUntold, IsSettled}
 use Rattle.grouping.specs.Served.{Group, IsSettledGroup, IsLoneGroup, AreGroups, Grouping, GroupingSome, LastGroupUntold, LeftIn, LeftByIn, ServingGroups, ServesGroups, ServesGroupsUntil, answers_of, messages_of}
-use Rattle.grouping.proofs.Withstanding.{groups_withstand}
 
 -- a prefix of a prefix is one
 take_both : (a b : ℕ) (xs : List ℕ) → (m : ℕ) × (take a (take b xs) ≡ take m xs)

@@ -80,7 +80,7 @@ module _ {D : Type 0} (drive : Ghosts D) (phases : D → List (List Event)) (gat
   group_honest before g (inl settled) honest = subst (λ (s : Situation). IsTrue s.honest) settled.starts (answered_honest g.messages g.start g.answers g.afterwards settled.answered honest)
   group_honest before g (inr lone) honest = starts_honest before g.start lone.starts (answered_honest g.messages g.start g.answers g.afterwards lone.answered honest)
 
-  groups_honest : (groups : List Group) (before afterwards : Situation) → AreGroups drive phases gathers groups before afterwards → IsTrue afterwards.honest → IsTrue before.honest
+  pub groups_honest : (groups : List Group) (before afterwards : Situation) → AreGroups drive phases gathers groups before afterwards → IsTrue afterwards.honest → IsTrue before.honest
   groups_honest [] before afterwards same honest = subst (λ (s : Situation). IsTrue s.honest) same honest
   groups_honest (g ∷ groups) before afterwards all honest = group_honest before g all.0 (groups_honest groups g.afterwards afterwards all.1 honest)
 

@@ -15,7 +15,13 @@ use Rattle.request.specs.Frames.{IsIdle, MessagesAre}
 use Rattle.store.specs.declared.store.Store.{Store}
 use Rattle.engine.specs.declared.serving.ServeFault.{ServeFault}
 use Rattle.engine.specs.declared.serving.ServeFault.TheVariants as faults
-use Rattle.engine.specs.Served.{AllAnswered, AllTaken, AllTold, EachWithstands, IsCutOff, LastUntold, Unlooked, frames_of}
+use Rattle.durability.specs.Commit.{need}
+use Rattle.durability.specs.Journal.{HoldsOnJournal}
+use Rattle.durability.specs.Runs.{Delivery}
+use Rattle.durability.specs.Runs.Delivery.{Restart}
+use Rattle.udf.specs.Udf.{udf, spelled_length}
+use Rattle.engine.specs.Said.{model_answers}
+use Rattle.engine.specs.Served.{AllAnswered, AllTaken, AllTold, EachWithstands, IsCutOff, LastUntold, Unlooked, brought, frames_of}
 use Rattle.engine.specs.Situation.{Situation, situation_on}
 use Rattle.engine.specs.Steps.{HoldsState}
 use Rattle.engine.specs.Streams.{PutsPrefix}
@@ -84,6 +90,28 @@ abbrev pub GroupsWithstand : {D : Type 0} → (drive : Ghosts D) → (phases : D
 GroupsWithstand drive phases gathers groups before afterwards all =
     (volume : ℕ) (S : State) → IsTrue afterwards.honest → HoldsState volume S before → (S' : State) × GroupsHold drive phases gathers volume S groups before afterwards all S'
 
+-- What came, as the model says it: where a group was taken back, all is forgotten that is not on the medium, as at a restart.
+abbrev pub restart_of : (before start : Situation) → StartsAt before start → List Delivery
+restart_of before start (inl same) = []
+restart_of before start (inr back) = Restart ∷ []
+
+abbrev pub restart_before : {D : Type 0} → (drive : Ghosts D) → (phases : D → List (List Event)) → (gathers : D → Bool) → (before : Situation) → (g : Group)
+    → IsSettledGroup drive phases gathers before g ⊎ IsLoneGroup drive gathers before g → List Delivery
+restart_before drive phases gathers before g (inl settled) = []
+restart_before drive phases gathers before g (inr lone) = restart_of before g.start lone.starts
+
+abbrev pub said_in : {D : Type 0} → (drive : Ghosts D) → (phases : D → List (List Event)) → (gathers : D → Bool) → (groups : List Group) → (before afterwards : Situation) → AreGroups drive phases gathers groups before afterwards → List Delivery
+said_in drive phases gathers [] before afterwards all = []
+said_in drive phases gathers (g ∷ groups) before afterwards all =
+    (restart_before drive phases gathers before g all.0 ++ brought g.messages) ++ said_in drive phases gathers groups g.afterwards afterwards all.1
+
+-- On an honest drive, where a state is recovered that an open store knows: what is recovered at each prefix of what was written is the
+-- state after the first of the requests that were committed.
+abbrev pub GroupsRun : {D : Type 0} → (drive : Ghosts D) → (phases : D → List (List Event)) → (gathers : D → Bool) → (groups : List Group) → (before afterwards : Situation) → AreGroups drive phases gathers groups before afterwards → Type 0
+GroupsRun drive phases gathers groups before afterwards all =
+    (volume : ℕ) (S : State) → IsTrue afterwards.honest → HoldsState volume S before
+    → HoldsOnJournal udf (need spelled_length) before.capacity volume S before.journal afterwards.journal (said_in drive phases gathers groups before afterwards all) (model_answers (answers_of groups))
+
 -- ---- streams
 
 -- Messages that a reader of frames held were answered in groups, and each answer's frame was written.
@@ -126,6 +154,7 @@ pub record ServingGroups {D : Type 0} (drive : Ghosts D) (phases : D → List (L
 pub record ServesGroups {D : Type 0} (drive : Ghosts D) (phases : D → List (List Event)) (gathers : D → Bool) (before afterwards : Situation) (input left output written : Option (List ℕ)) : Type 0 where
   pub reader : Option (List ℕ)
   pub serving : ServingGroups drive phases gathers reader before afterwards input left output written
+  pub run : GroupsRun drive phases gathers serving.groups before afterwards serving.are
   pub withstand : GroupsWithstand drive phases gathers serving.groups before afterwards serving.are
   pub idle : IsIdle reader
   pub ends : IsAtEnd left ⊎ IsCutOff serving.bytes reader
@@ -145,6 +174,7 @@ pub record ServesGroupsUntil {D : Type 0} (fault : ServeFault) (drive : Ghosts D
   pub consumed : Consumes input left bytes
   pub messages_are : MessagesAre bytes (messages_of groups) reader
   pub are : AreGroups drive phases gathers groups before afterwards
+  pub run : GroupsRun drive phases gathers groups before afterwards are
   pub withstand : GroupsWithstand drive phases gathers groups before afterwards are
   pub front : PutsPrefix output written (frames_of (answers_of groups))
   pub left_by : LeftByIn fault bytes groups reader output written
