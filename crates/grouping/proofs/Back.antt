@@ -1,21 +1,18 @@
 -- What holds where a group was taken back, and how it is taken back.
-use Rattle.std.proofs.Common.{◌≡◌, ◌⊎◌, inl, inr, ℕ, ◌≤◌, List, [], ◌++◌, length, take, Option, Some, None, refl, sym, ap, subst, ◌∙◌, arith, IsTrue, Bool, false}
+use Rattle.std.proofs.Common.{◌≡◌, inl, inr, ℕ, List, ◌++◌, length, take, Option, Some, None, sym, ap, subst, ◌∙◌}
 use Rattle.std.proofs.Math.Seq.{take-append_seam}
 use Rattle.std.specs.Prelude.{IfSome}
 use Rattle.drive.specs.Journal.{Event, Once, next_of, held}
-use Rattle.drive.specs.declared.Drive.{Ghosts}
-use Rattle.drive.specs.Reads.{ReadsAndWrites, CountsFailures}
 use Rattle.drive.proofs.Once.{next_once}
 use Rattle.model.specs.Session.{State}
 use Rattle.durability.specs.Volume.{RecoversTo}
 use Rattle.udf.specs.Udf.{udf}
-use Rattle.settling.specs.Calls.{IsUntouched, KeepsRest}
 use Rattle.store.specs.declared.store.Store.{Store}
 use Rattle.store.specs.Agrees.{IsStoreOn}
 use Rattle.store.specs.Opened.{RecoversToNothingHere}
-use Rattle.engine.specs.Situation.{Situation, AddsBlocks, HoldsNothing, IsOpen, IsReady, situation_on}
+use Rattle.engine.specs.Situation.{Situation, HoldsNothing, IsOpen, IsReady}
 use Rattle.engine.specs.Steps.{HoldsState}
-use Rattle.grouping.specs.Groups.{IsTakenBack, StartsAt, TakingBackHolds}
+use Rattle.grouping.specs.Groups.{IsTakenBack, TakingBackHolds}
 
 not_open : (s : Situation) → s.store ≡ None → (store : Store) → IsOpen s store → ⊥
 not_open s none store kept = let both : ◌≡◌ {A = Option Store} None (Some store) = sym none ∙ kept.0 in cc

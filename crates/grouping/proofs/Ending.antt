@@ -1,5 +1,5 @@
 -- How a group ends: the disk has it, or it was taken back and its messages were answered one by one.
-use Rattle.std.proofs.Common.{◌≡◌, inl, inr, ℕ, Bool, true, false, List, ◌++◌, length, take, Option, Some, None, Result, Ok, Err, refl, sym, ap, subst, ◌∙◌, arith}
+use Rattle.std.proofs.Common.{◌≡◌, inl, inr, ℕ, Bool, true, false, List, ◌++◌, length, take, Option, Some, None, Result, Ok, Err, ap, subst, ◌∙◌, arith}
 use Rattle.std.specs.Prelude.{OnOk, OnErr}
 use Rattle.std.proofs.Math.Seq.{take-append_seam}
 use Rattle.drive.specs.Journal.{Event, counted}
@@ -10,7 +10,7 @@ use Rattle.engine.specs.declared.serving.ServeFault.TheVariants.{Memory}
 use Rattle.engine.specs.Situation.{Situation, situation_on}
 use Rattle.engine.specs.Served.{Answering, AnswersSome}
 use Rattle.request.specs.Frames.{IsIdle}
-use Rattle.grouping.specs.Groups.{Gathered, GatheringSome, GroupTold, GroupUntold, IsSettled, StartsAt}
+use Rattle.grouping.specs.Groups.{GroupTold, GroupUntold, IsSettled, StartsAt}
 use Rattle.grouping.specs.Steps.{Gathers}
 use Rattle.grouping.proofs.Settled.{gathered_same, gathering_some_same}
 

@@ -1,5 +1,5 @@
 -- A group that goes on, message by message.
-use Rattle.std.proofs.Common.{◌≡◌, ℕ, ◌-◌, ◌<◌, ◌≤◌, List, [], ◌∷◌, ◌++◌, length, Option, Some, None, Result, Ok, Err, Bool, true, false, ◌&&◌, refl, sym, ap, subst, ◌∙◌, append_assoc, append-nil, lt-ltb, le-ltb}
+use Rattle.std.proofs.Common.{◌≡◌, ℕ, ◌-◌, ◌<◌, ◌≤◌, List, [], ◌∷◌, ◌++◌, length, Option, Result, Ok, Err, Bool, true, false, ◌&&◌, refl, sym, ap, subst, ◌∙◌, append_assoc, append-nil, lt-ltb, le-ltb}
 use Rattle.std.specs.Prelude.{OnOk, OnErr, is_err}
 use Rattle.drive.specs.Journal.{Event, Once, next_of}
 use Rattle.drive.specs.declared.Drive.{Ghosts}

@@ -8,3 +8,4 @@ pub mod Withstanding
 pub mod Streams
 pub mod Piecewise
 pub mod Running
+pub mod Cutting

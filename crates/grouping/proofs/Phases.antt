@@ -1,7 +1,5 @@
 -- The two phases of a group are those of its commits.
-use Rattle.std.proofs.Common.{◌≡◌, ◌≢◌, inl, inr, ℕ, zero, suc, ◌+◌, ◌-◌, ◌<◌, ◌≤◌, ◌==◌, cond, Bool, true, false, List, [], ◌∷◌, ◌++◌, length, drop, refl, sym, ap, subst, ◌∙◌, arith, append_assoc, append-nil, length-append, eq-eqb, ne_eqb}
-use Rattle.std.specs.List.{list_any}
-use Rattle.std.specs.Prelude.{filter}
+use Rattle.std.proofs.Common.{◌≡◌, ◌≢◌, inl, inr, ℕ, suc, ◌+◌, ◌-◌, ◌<◌, ◌≤◌, cond, Bool, true, false, List, [], ◌∷◌, ◌++◌, length, drop, refl, sym, ap, subst, ◌∙◌, arith, append_assoc, append-nil, length-append, eq-eqb, ne_eqb}
 use Rattle.std.proofs.Math.Seq.{drop-append_seam}
 use Rattle.std.proofs.lemmas.List.Elements.{filter-append}
 use Rattle.drive.specs.Journal.{Event, written}
@@ -16,7 +14,7 @@ use Rattle.request.specs.declared.message.Message.{Message}
 use Rattle.engine.specs.Served.{AllAnswered}
 use Rattle.engine.specs.Situation.{Situation}
 use Rattle.group_losses.specs.Gathered.{AreGathered}
-use Rattle.grouping.specs.Groups.{mark_between, mark_of, marks_of}
+use Rattle.grouping.specs.Groups.{mark_of, marks_of}
 use Rattle.grouping.specs.Phases.{marks_from, PhasesAreOfCommits}
 use Rattle.grouping.proofs.Going.{no_mark, some_mark}
 

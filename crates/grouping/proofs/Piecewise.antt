@@ -1,6 +1,6 @@
 -- A stream whose messages are answered in groups, one more piece at a time.
-use Rattle.std.proofs.Common.{◌≡◌, ◌⊎◌, inl, inr, ℕ, ◌≤◌, List, [], ◌∷◌, ◌++◌, length, take, Bool, false, Option, Some, None, refl, sym, ap, subst, ◌∙◌, append_assoc, append-nil, arith}
-use Rattle.std.specs.Io.KnownBytes.{Appends, Consumes, IsAtEnd, Keeps}
+use Rattle.std.proofs.Common.{◌≡◌, inl, inr, ℕ, ◌≤◌, List, [], ◌∷◌, ◌++◌, length, take, Bool, false, Option, Some, None, refl, sym, ap, subst, ◌∙◌, append_assoc, append-nil}
+use Rattle.std.specs.Io.KnownBytes.{Appends, Consumes, Keeps}
 use Rattle.std.proofs.lemmas.Grind.{flat_map-append}
 use Rattle.drive.specs.Journal.{Event}
 use Rattle.drive.specs.declared.Drive.{Ghosts}
@@ -14,8 +14,10 @@ use Rattle.engine.specs.Served.{AllTold, LastUntold, frames_of}
 use Rattle.engine.specs.Situation.{Situation}
 use Rattle.engine.specs.Streams.{LeavesBy, PutsPrefix, TakesPiece, is_read}
 use Rattle.engine.proofs.Messages.{appends_more, consumes_kept, consumes_more, frames_append, front_more, kept_self, last_more, messages_taken, nothing_more, nothing_read, some_after, whole_front}
-use Rattle.grouping.specs.Served.{Group, AreGroups, Grouping, GroupingSome, LastGroupUntold, LeftIn, LeftByIn, ServingGroups, ServesGroups, ServesGroupsUntil, answers_of, messages_of}
+use Rattle.grouping.specs.Served.{Group, AreGroups, answers_of, messages_of}
+use Rattle.grouping.specs.Streams.{Grouping, GroupingSome, LastGroupUntold, LeftIn, LeftByIn, ServingGroups, ServesGroups, ServesGroupsUntil}
 use Rattle.grouping.proofs.Streams.{are_append}
+use Rattle.grouping.proofs.Cutting.{groups_are_lives}
 use Rattle.grouping.proofs.Running.{groups_run}
 use Rattle.grouping.proofs.Withstanding.{groups_withstand}
 
@@ -98,6 +100,7 @@ module _ {D : Type 0} (drive : Ghosts D) (phases : D → List (List Event)) (gat
         are = are;
         run = groups_run drive phases gathers (h.groups ++ more.groups) s u are;
         withstand = groups_withstand drive phases gathers (h.groups ++ more.groups) s u are;
+        lives = groups_are_lives drive phases gathers (h.groups ++ more.groups) s u are;
         front = subst (λ (x : List ℕ). PutsPrefix o w x) (frames_join h.groups more.groups) (front_more o v w (frames_of (answers_of h.groups)) (frames_of (answers_of more.groups)) h.told more.front);
         left_by = left_join fault (h.bytes ++ piece) h.groups more.groups after o v w (some_after h.bytes piece some) h.told more.left;
       }
@@ -114,6 +117,7 @@ module _ {D : Type 0} (drive : Ghosts D) (phases : D → List (List Event)) (gat
     are = h.are;
     run = groups_run drive phases gathers h.groups s t h.are;
     withstand = groups_withstand drive phases gathers h.groups s t h.are;
+    lives = groups_are_lives drive phases gathers h.groups s t h.are;
     front = whole_front o v (frames_of (answers_of h.groups)) h.told;
     left_by = inr (inl (reader, piece, idle, some, refl, h.told));
   }
@@ -129,6 +133,7 @@ module _ {D : Type 0} (drive : Ghosts D) (phases : D → List (List Event)) (gat
     are = h.are;
     run = groups_run drive phases gathers h.groups s t h.are;
     withstand = groups_withstand drive phases gathers h.groups s t h.are;
+    lives = groups_are_lives drive phases gathers h.groups s t h.are;
     front = whole_front o v (frames_of (answers_of h.groups)) h.told;
     left_by = left;
   }
@@ -159,6 +164,7 @@ module _ {D : Type 0} (drive : Ghosts D) (phases : D → List (List Event)) (gat
     };
     run = groups_run drive phases gathers h.groups s t h.are;
     withstand = groups_withstand drive phases gathers h.groups s t h.are;
+    lives = groups_are_lives drive phases gathers h.groups s t h.are;
     idle = idle;
     ends = inl (takes.end none);
   }
@@ -175,6 +181,7 @@ module _ {D : Type 0} (drive : Ghosts D) (phases : D → List (List Event)) (gat
         serving = serving_more reader between after s t u i l n o v w piece h takes e more;
         run = groups_run drive phases gathers all.groups s u all.are;
         withstand = groups_withstand drive phases gathers all.groups s u all.are;
+        lives = groups_are_lives drive phases gathers all.groups s u all.are;
         idle = at_last;
         ends = inr (record {
           over = none;

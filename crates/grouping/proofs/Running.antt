@@ -1,5 +1,5 @@
 -- Groups, one after another, as a run of the medium's.
-use Rattle.std.proofs.Common.{◌≡◌, ◌⊎◌, inl, inr, ℕ, List, [], ◌∷◌, ◌++◌, length, Bool, Option, Some, None, IsTrue, refl, sym, ap, subst, ◌∙◌, append_assoc}
+use Rattle.std.proofs.Common.{◌≡◌, ◌⊎◌, inl, inr, ℕ, List, [], ◌∷◌, ◌++◌, length, Bool, None, IsTrue, refl, sym, ap, subst, ◌∙◌, append_assoc}
 use Rattle.std.specs.Option.{option_to_list}
 use Rattle.std.proofs.lemmas.List.{map-append}
 use Rattle.drive.specs.Journal.{Event}
@@ -75,9 +75,11 @@ module _ {D : Type 0} (drive : Ghosts D) (phases : D → List (List Event)) (gat
       let first = restart_before drive phases gathers before g all.0 ++ brought g.messages in
       let (T, steps) = group_steps volume S before g all.0 (groups_honest drive phases gathers groups g.afterwards afterwards all.1 honest) at in
       let (U, rest) = groups_steps volume T groups g.afterwards afterwards all.1 honest (steps_at volume first S before (model_answers g.answers) T g.afterwards at steps) in
-      let later = said_in drive phases gathers groups g.afterwards afterwards all.1 in
-      (U, subst (λ (a : List Answer). AllSteps volume (first ++ later) S before a U afterwards) (answers_joined g.answers groups)
-      (steps_join volume first later S before (model_answers g.answers) (model_answers (answers_of groups)) T g.afterwards U afterwards steps rest))
+      let later = said_in drive phases gathers groups g.afterwards afterwards all.1 in (
+        U,
+        subst (λ (a : List Answer). AllSteps volume (first ++ later) S before a U afterwards) (answers_joined g.answers groups)
+            (steps_join volume first later S before (model_answers g.answers) (model_answers (answers_of groups)) T g.afterwards U afterwards steps rest),
+      )
 
   pub groups_run : (groups : List Group) (before afterwards : Situation) (all : AreGroups drive phases gathers groups before afterwards) → GroupsRun drive phases gathers groups before afterwards all
   groups_run groups before afterwards all volume S honest at =

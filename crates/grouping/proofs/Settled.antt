@@ -1,5 +1,5 @@
 -- What becomes of a group at the drive.
-use Rattle.std.proofs.Common.{◌≡◌, ◌⊎◌, inl, inr, ℕ, ◌+◌, ◌≤◌, Bool, false, List, [], ◌∷◌, ◌++◌, length, take, Option, Some, None, refl, sym, ap, subst, ◌∙◌, arith, IsTrue, append-nil}
+use Rattle.std.proofs.Common.{◌≡◌, ℕ, ◌+◌, Bool, false, List, [], ◌++◌, length, take, Option, Some, None, refl, sym, ap, subst, ◌∙◌, arith, IsTrue, append-nil}
 use Rattle.drive.specs.Journal.{Event, Once, next_of}
 use Rattle.drive.specs.declared.Drive.{Ghosts}
 use Rattle.drive.specs.Reads.{CountsFailures, ReadsAndWrites}
@@ -8,10 +8,9 @@ use Rattle.settling.specs.Calls.{IsUntouched, KeepsRest}
 use Rattle.settling.specs.Phases.{two_phases}
 use Rattle.store.specs.declared.store.Store.{Store}
 use Rattle.engine.specs.declared.serving.ServeFault.TheVariants.{Memory}
-use Rattle.engine.specs.Situation.{Situation, AddsBlocks, situation, situation_on}
+use Rattle.engine.specs.Situation.{Situation, AddsBlocks, situation_on}
 use Rattle.engine.specs.Served.{Answering, AnswersSome}
-use Rattle.request.specs.Frames.{IsIdle}
-use Rattle.grouping.specs.Groups.{Gathered, GatheringSome, GroupTold, GroupUntold, IsAlone, IsSettled, IsTakenBack, StartsAt}
+use Rattle.grouping.specs.Groups.{Gathered, GatheringSome, IsSettled, IsTakenBack}
 use Rattle.grouping.specs.Steps.{Going}
 use Rattle.grouping.proofs.Back.{front_back}
 

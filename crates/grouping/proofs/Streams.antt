@@ -1,25 +1,23 @@
 -- Groups of a stream, one more at a time.
-use Rattle.std.proofs.Common.{◌≡◌, ◌⊎◌, inl, inr, ℕ, zero, suc, ◌+◌, ◌<◌, ◌≤◌, List, [], ◌∷◌, ◌++◌, length, take, Bool, Option, Some, None, Result, Ok, Err, refl, sym, ap, subst, ◌∙◌, append_assoc, append-nil, arith, length-append}
+use Rattle.std.proofs.Common.{◌≡◌, ◌⊎◌, inl, inr, ℕ, zero, suc, ◌+◌, ◌<◌, ◌≤◌, List, [], ◌∷◌, ◌++◌, length, take, Bool, Option, Some, None, Result, Ok, Err, refl, sym, ap, subst, ◌∙◌, append-nil, arith, length-append}
 use Rattle.std.specs.Prelude.{OnOk, OnErr}
-use Rattle.std.specs.Io.KnownBytes.{Appends, Consumes, IsAtEnd, Keeps}
+use Rattle.std.specs.Io.KnownBytes.{Appends, Keeps}
 use Rattle.std.proofs.lemmas.Grind.{flat_map-append}
 use Rattle.std.proofs.lemmas.Nat.{from_le_bytes-to_le_bytes_4}
 use Rattle.drive.specs.Journal.{Event}
 use Rattle.drive.specs.declared.Drive.{Ghosts}
 use Rattle.request.specs.declared.answer.Answer.{Answer}
 use Rattle.request.specs.declared.message.Message.{Message}
-use Rattle.request.specs.Answers.{answer_frame}
 use Rattle.request.specs.Frames.{IsFirstMessage, IsFramed, IsIdle, IsOverlong, IsPartial, TakesMessage, length_at}
-use Rattle.request.proofs.FrameLaws.{feeding}
 use Rattle.store.specs.declared.store.Store.{Store}
-use Rattle.engine.specs.declared.serving.ServeFault.{ServeFault}
 use Rattle.engine.specs.declared.serving.ServeFault.TheVariants as faults
-use Rattle.engine.specs.Served.{AllAnswered, AllTaken, AllTold, Answering, AnswersSome, LastUntold, frames_of}
+use Rattle.engine.specs.Served.{AllTaken, LastUntold, frames_of}
 use Rattle.engine.specs.Situation.{Situation, situation_on}
-use Rattle.engine.specs.Streams.{LeavesBy, PutsPrefix, TakesPiece}
-use Rattle.engine.proofs.Messages.{appends_more, consumes_kept, consumes_more, frames_append, front_more, kept_self, keeps_told, last_more, left_of, messages_taken, nothing_more, nothing_read, some_after, taken_less, whole_front}
-use Rattle.grouping.specs.Groups.{Gathered, GatheringSome, GroupTold, GroupUntold, IsSettled}
-use Rattle.grouping.specs.Served.{Group, IsSettledGroup, IsLoneGroup, AreGroups, Grouping, GroupingSome, LastGroupUntold, LeftIn, LeftByIn, ServingGroups, ServesGroups, ServesGroupsUntil, answers_of, messages_of}
+use Rattle.engine.specs.Streams.{PutsPrefix}
+use Rattle.engine.proofs.Messages.{appends_more, frames_append, front_more, keeps_told, last_more, left_of, nothing_more, taken_less, whole_front}
+use Rattle.grouping.specs.Groups.{GroupTold, GroupUntold, IsSettled}
+use Rattle.grouping.specs.Served.{Group, IsSettledGroup, IsLoneGroup, AreGroups, answers_of, messages_of}
+use Rattle.grouping.specs.Streams.{Grouping, GroupingSome}
 
 -- a prefix of a prefix is one
 take_both : (a b : ℕ) (xs : List ℕ) → (m : ℕ) × (take a (take b xs) ≡ take m xs)

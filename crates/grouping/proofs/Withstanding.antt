@@ -17,10 +17,9 @@ use Rattle.engine.specs.Situation.{Situation}
 use Rattle.engine.specs.Steps.{HoldsState}
 use Rattle.engine.specs.Withstanding.{AsksFor}
 use Rattle.engine.proofs.Served.{answered_honest, served_withstand}
-use Rattle.settling.specs.Phases.{two_phases}
-use Rattle.grouping.specs.Groups.{NoneAsksToGrow, StartsAt, grows, grows_by, marks_of}
+use Rattle.grouping.specs.Groups.{NoneAsksToGrow, StartsAt, grows, grows_by}
 use Rattle.grouping.specs.Phases.{marks_from}
-use Rattle.grouping.specs.Served.{Group, IsSettledGroup, IsLoneGroup, AreGroups, GroupHolds, GroupsHold, GroupsWithstand}
+use Rattle.grouping.specs.Served.{Group, IsSettledGroup, IsLoneGroup, AreGroups, GroupHolds, GroupsWithstand}
 use Rattle.grouping.proofs.Back.{taking_back}
 use Rattle.grouping.proofs.Phases.{phases_are_of_commits}
 

@@ -7,7 +7,7 @@ ghost use Rattle.request.specs.declared.message.Message.{Message};
 ghost use Rattle.request.specs.Frames.{IsFirstMessage, IsIdle};
 ghost use Rattle.engine.specs.Streams.{is_read_fault};
 ghost use Rattle.engine.specs.Situation.{IsReady, seen_on};
-ghost use Rattle.grouping.specs.Served.{Grouping, GroupingSome, ServesGroups, ServesGroupsUntil};
+ghost use Rattle.grouping.specs.Streams.{Grouping, GroupingSome, ServesGroups, ServesGroupsUntil};
 
 use crate::group::answer_group;
 use engine::{CountedReader, Engine, ServeFault, put_all, read_on};

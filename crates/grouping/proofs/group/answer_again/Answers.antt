@@ -1,4 +1,3 @@
-use Rattle.std.proofs.Common.{sym}
 use Rattle.engine.specs.Situation.{seen_on}
 use Rattle.grouping.proofs.Back.{back_ready}
 use Rattle.grouping.proofs.Ending.{again_ok, again_err}

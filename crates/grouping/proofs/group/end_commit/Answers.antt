@@ -1,6 +1,6 @@
-use Rattle.std.proofs.Common.{◌++◌, ◌≤◌, List, ℕ, ap, sym, ◌∙◌, arith, append-nil, subst}
+use Rattle.std.proofs.Common.{◌++◌, ◌≤◌, List, ℕ, ap, sym, ◌∙◌, arith, append-nil}
 use Rattle.drive.specs.Journal.{next_of}
-use Rattle.grouping.proofs.Going.{no_mark, some_mark, untouched_none}
+use Rattle.grouping.proofs.Going.{no_mark, untouched_none}
 use Rattle.grouping.proofs.group.end_commit.Goals as goal
 
 pub returns-then-after-before : goal.returns-then-after-before

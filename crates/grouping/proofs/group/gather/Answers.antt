@@ -1,15 +1,11 @@
-use Rattle.std.proofs.Common.{◌≡◌, ◌++◌, rules, inl, List, ℕ, Some, ap, sym, ◌∙◌}
+use Rattle.std.proofs.Common.{rules, inl, ap, sym, ◌∙◌}
 use Rattle.drive.proofs.Reading.{follows_any, follows_none, follows_then}
-use Rattle.drive.specs.Journal.{next_of}
 use Rattle.drive.specs.Reads.{one_if}
 use Rattle.request.proofs.FrameLaws.{taken_first}
 use Rattle.engine.proofs.Messages.{taken_less}
-use Rattle.engine.specs.Answered.{faults}
 use Rattle.engine.specs.Served.{frames_of}
-use Rattle.engine.specs.Situation.{seen_on}
-use Rattle.grouping.specs.Groups.{mark_between}
 use Rattle.grouping.proofs.Answers.{going_none, some_there}
-use Rattle.grouping.proofs.Going.{adds_none, adds_then, adds_untouched, both_are, goes_full, goes_on, goes_some, not_both, ok_of, err_of, OneMore}
+use Rattle.grouping.proofs.Going.{adds_none, adds_then, adds_untouched, both_are, goes_full, goes_on, goes_some, not_both, ok_of, err_of}
 use Rattle.grouping.proofs.Settled.{untouched_follows}
 use Rattle.grouping.proofs.group.gather.Goals as goal
 

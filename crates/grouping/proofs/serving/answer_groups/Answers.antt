@@ -1,13 +1,13 @@
-use Rattle.std.proofs.Common.{rules, refl, sym, subst, ◌∙◌, ℕ, List, Some}
+use Rattle.std.proofs.Common.{refl, sym, subst, ◌∙◌, ℕ, List}
 use Rattle.std.specs.Io.KnownBytes.{Appends}
 use Rattle.drive.proofs.Reading.{follows_none, follows_then}
 use Rattle.engine.specs.declared.serving.ServeFault.{ServeFault}
 use Rattle.engine.specs.Situation.{seen_on}
 use Rattle.engine.specs.Streams.{PutsPrefix}
 use Rattle.engine.proofs.Messages.{if_err}
-use Rattle.grouping.specs.Served.{GroupingSome}
+use Rattle.grouping.specs.Streams.{GroupingSome}
 use Rattle.grouping.proofs.Going.{ok_of, err_of}
-use Rattle.grouping.proofs.Streams.{cut_by, grouping_none, grouping_more, grouping_some, grouping_kept, grouping_flushed, one_told, one_untold, one_less}
+use Rattle.grouping.proofs.Streams.{cut_by, grouping_none, grouping_more, grouping_some, grouping_kept, one_told, one_untold, one_less}
 use Rattle.grouping.proofs.serving.answer_groups.Goals as goal
 
 pub loop-alloc-init : goal.loop-alloc-init

@@ -1,7 +1,7 @@
 use Rattle.drive.specs.Reads.{ReadsAndWrites}
 use Rattle.engine.specs.Situation.{IsReady, seen_on}
 use Rattle.engine.proofs.Messages.{left_of}
-use Rattle.grouping.specs.Served.{Grouping}
+use Rattle.grouping.specs.Streams.{Grouping}
 use Rattle.grouping.proofs.serving.answer_groups.Given as goal
 
 abbrev pub invariant-loop-alloc : goal.invariant-loop-alloc

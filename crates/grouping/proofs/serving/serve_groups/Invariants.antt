@@ -2,7 +2,7 @@ use Rattle.std.proofs.Common.{◌≡◌, ℕ, List, Some}
 use Rattle.request.specs.Frames.{IsIdle}
 use Rattle.drive.specs.Reads.{ReadsAndWrites}
 use Rattle.engine.specs.Situation.{IsReady, seen_on}
-use Rattle.grouping.specs.Served.{ServingGroups}
+use Rattle.grouping.specs.Streams.{ServingGroups}
 use Rattle.grouping.proofs.serving.serve_groups.Given as goal
 
 abbrev pub invariant-loop : goal.invariant-loop

@@ -1,0 +1,81 @@
+-- What became of the messages of a stream that were answered in groups.
+use Rattle.std.specs.Prelude.{◌≡◌, ◌⊎◌, ℕ, List, [], ◌∷◌, ◌++◌, take, Bool, Option}
+use Rattle.std.specs.Io.KnownBytes.{Appends, Consumes, IsAtEnd}
+use Rattle.drive.specs.Journal.{Event, written}
+use Rattle.drive.specs.declared.Drive.{Ghosts}
+use Rattle.model.specs.Session.{after}
+use Rattle.request.specs.Frames.{IsIdle, MessagesAre}
+use Rattle.engine.specs.declared.serving.ServeFault.{ServeFault}
+use Rattle.engine.specs.declared.serving.ServeFault.TheVariants as faults
+use Rattle.engine.specs.Served.{AllTaken, AllTold, IsCutOff, LastUntold, Unlooked, frames_of}
+use Rattle.engine.specs.Situation.{Situation}
+use Rattle.engine.specs.Streams.{PutsPrefix}
+use Rattle.grouping.specs.Losses.{GroupsAreLives}
+use Rattle.grouping.specs.Served.{AreGroups, Group, GroupsRun, GroupsWithstand, answers_of, messages_of}
+
+-- Messages that a reader of frames held were answered in groups, and each answer's frame was written.
+pub record Grouping {D : Type 0} (drive : Ghosts D) (phases : D → List (List Event)) (gathers : D → Bool) (reader after : Option (List ℕ)) (before afterwards : Situation) (output written : Option (List ℕ)) : Type 0 where
+  pub groups : List Group
+  pub taken : AllTaken reader (messages_of groups) after
+  pub are : AreGroups drive phases gathers groups before afterwards
+  pub told : Appends output written (frames_of (answers_of groups))
+
+-- the frames of the last group's answers were not written whole: those of each other group were, and so many bytes of these
+abbrev pub LastGroupUntold : List Group → ℕ → Option (List ℕ) → Option (List ℕ) → Type 0
+LastGroupUntold groups count output written =
+    (others : List Group) × (last : Group) × (groups ≡ others ++ last ∷ []) × Appends output written (frames_of (answers_of others) ++ take count (frames_of last.answers))
+
+-- Why messages that are there were left: a write failed, in the last group's answers or after all of them; or there was no memory
+-- for the last answer's frame.
+abbrev pub LeftIn : ServeFault → List Group → Option (List ℕ) → Option (List ℕ) → Option (List ℕ) → Type 0
+LeftIn faults.Read groups reader output written = ⊥
+LeftIn faults.Write groups reader output written = AllTold (answers_of groups) reader output written ⊎ ((count : ℕ) × LastGroupUntold groups count output written)
+LeftIn faults.Memory groups reader output written = LastUntold (answers_of groups) 0 output written
+
+-- The same, but it ended with a fault, and of the answers' frames a prefix was written.
+pub record GroupingSome {D : Type 0} (drive : Ghosts D) (phases : D → List (List Event)) (gathers : D → Bool) (fault : ServeFault) (reader after : Option (List ℕ)) (before afterwards : Situation) (output written : Option (List ℕ)) : Type 0 where
+  pub groups : List Group
+  pub taken : AllTaken reader (messages_of groups) after
+  pub are : AreGroups drive phases gathers groups before afterwards
+  pub front : PutsPrefix output written (frames_of (answers_of groups))
+  pub left : LeftIn fault groups after output written
+
+-- Bytes were read. Their messages were answered in groups, and each answer's frame was written.
+pub record ServingGroups {D : Type 0} (drive : Ghosts D) (phases : D → List (List Event)) (gathers : D → Bool) (reader : Option (List ℕ)) (before afterwards : Situation) (input left output written : Option (List ℕ)) : Type 0 where
+  pub bytes : List ℕ
+  pub groups : List Group
+  pub consumed : Consumes input left bytes
+  pub messages_are : MessagesAre bytes (messages_of groups) reader
+  pub are : AreGroups drive phases gathers groups before afterwards
+  pub told : Appends output written (frames_of (answers_of groups))
+
+-- All messages of the bytes that were read were answered in groups, and each answer's frame was written. The stream is at its end, or a frame was too long.
+pub record ServesGroups {D : Type 0} (drive : Ghosts D) (phases : D → List (List Event)) (gathers : D → Bool) (before afterwards : Situation) (input left output written : Option (List ℕ)) : Type 0 where
+  pub reader : Option (List ℕ)
+  pub serving : ServingGroups drive phases gathers reader before afterwards input left output written
+  pub run : GroupsRun drive phases gathers serving.groups before afterwards serving.are
+  pub withstand : GroupsWithstand drive phases gathers serving.groups before afterwards serving.are
+  pub lives : GroupsAreLives drive phases gathers serving.groups before afterwards serving.are
+  pub idle : IsIdle reader
+  pub ends : IsAtEnd left ⊎ IsCutOff serving.bytes reader
+
+-- Why a stream was left, as it is where messages are answered one by one.
+abbrev pub LeftByIn : ServeFault → List ℕ → List Group → Option (List ℕ) → Option (List ℕ) → Option (List ℕ) → Type 0
+LeftByIn faults.Read bytes groups reader output written = AllTold (answers_of groups) reader output written
+LeftByIn faults.Write bytes groups reader output written = (bytes ≡ [] → ⊥) × LeftIn faults.Write groups reader output written
+LeftByIn faults.Memory bytes groups reader output written =
+    LeftIn faults.Memory groups reader output written ⊎ (Unlooked (answers_of groups) reader output written ⊎ AllTold (answers_of groups) reader output written)
+
+-- The first messages of the bytes that were read were answered in groups, and of the answers' frames a prefix was written, up to where this fault came.
+pub record ServesGroupsUntil {D : Type 0} (fault : ServeFault) (drive : Ghosts D) (phases : D → List (List Event)) (gathers : D → Bool) (before afterwards : Situation) (input left output written : Option (List ℕ)) : Type 0 where
+  pub bytes : List ℕ
+  pub groups : List Group
+  pub reader : Option (List ℕ)
+  pub consumed : Consumes input left bytes
+  pub messages_are : MessagesAre bytes (messages_of groups) reader
+  pub are : AreGroups drive phases gathers groups before afterwards
+  pub run : GroupsRun drive phases gathers groups before afterwards are
+  pub withstand : GroupsWithstand drive phases gathers groups before afterwards are
+  pub lives : GroupsAreLives drive phases gathers groups before afterwards are
+  pub front : PutsPrefix output written (frames_of (answers_of groups))
+  pub left_by : LeftByIn fault bytes groups reader output written
