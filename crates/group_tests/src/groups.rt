@@ -163,7 +163,7 @@ fn a_call_that_fails_changes_no_answer(rt: HostRuntime) -> Result<(), Fail> {
             if outcome.drive.failures() == 0 {
                 break;
             }
-            failed += outcome.drive.failures();
+            failed = failed.saturating_add(outcome.drive.failures());
         }
     }
     // Reads to open the volume, the writes of four commits, and two syncs.
