@@ -14,7 +14,7 @@ from ..wire.operations import now
 from . import same_rows
 from .batch import tail_note
 from .catalogue import Catalogue, Held, VolumeRow, image_of
-from .close import beside, read_payload
+from .close import beside, known_rows, read_payload
 from .config import Config
 from .contents import ABOUT, Contents
 from .deletions import Event, events_on, replace_events
@@ -108,7 +108,7 @@ class BringBack:
             if (ABOUT,) in contents.nodes and (contents.about().archive, contents.about().number) != (self.catalogue.id, row.number):
                 raise CopyFailed(f"is volume {contents.about().number} of the archive {contents.about().archive}")
             known = self.catalogue.of_volume(row.number)
-            damaged = read_payload(contents, known, {}).damaged
+            damaged = read_payload(contents, known_rows(self.catalogue, row.number), {}).damaged
             if damaged:
                 raise CopyFailed(f"{plural(len(damaged), 'file is', 'files are')} not as stored, the first is {shown_path(damaged[0].path)}")
             rows = contents.rows(row.number, {held.commit: held for held in known})

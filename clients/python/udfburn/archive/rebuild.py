@@ -23,6 +23,7 @@ from ..protocol.units import Commit
 from ..wire.operations import now
 from . import same_rows
 from .bag import manifest_size
+from .bundle import damaged_on
 from .catalogue import STATE_CLOSED, STATE_CLOSING, STATE_FULL, STATE_NEW, STATE_OPEN, STATE_RETIRED, Catalogue, Copy, Held, VolumeRow
 from .claims import claims_of
 from .close import beside, sidecar
@@ -88,6 +89,8 @@ class VolumeRead(NamedTuple):
     lines: List[Held]
     unlisted: Dict[Commit, str]
     """Bundles whose lists are damaged, by their commits, with what is said of each."""
+    damaged: List[Held]
+    """Members of bundles that are not as they were stored."""
 
 
 def read_volume(image: str, closed: bool, holder: str) -> Optional[VolumeRead]:
@@ -118,7 +121,9 @@ def _read_volume(image: str, closed: bool, holder: str) -> Optional[VolumeRead]:
         if closed and contents.is_bag():
             length, digest = sidecar(image)
             row = row._replace(state=STATE_CLOSED, length=length, sha256=digest, closed=contents.closed())
-        return VolumeRead(about, row, rows, events_on(contents, about.number), lines, unlisted)
+        # The digests of a closed volume are its manifest's, and its payload is not read.
+        damaged = [] if row.state == STATE_CLOSED else damaged_on(contents, lines)
+        return VolumeRead(about, row, rows, events_on(contents, about.number), lines, unlisted, damaged)
 
 
 def read_all(wanted: Iterable[Tuple[str, bool]], holder: str, several: bool) -> Generator[Tuple[str, Callable[[], Optional[VolumeRead]]], None, None]:
@@ -366,6 +371,7 @@ class Rebuilder:
         # What the catalogue has of a bundle whose list is damaged is all that is known of its files.
         lines = read.lines + [held._replace(there=True) for held in noted if held.is_member() and held.commit in read.unlisted]
         self.summary.failures += read.unlisted.values()
+        self.summary.failures += [f"{read.row.label}: {shown_path(held.path)} is not as it was stored" for held in read.damaged]
         if is_new:
             self.summary.unknown[read.row.label] = read.row.files
         else:
