@@ -222,13 +222,15 @@ class Repairs(WithTwo):
         self.require_all()
 
     def test_a_closed_volume(self) -> None:
-        """By a copy, or by two that are damaged in other places."""
+        """By a copy, or by all that are damaged in other places."""
         self.do("close")
         self.damage(self.image(1))
         self.assertEqual(self.hurt(self.do("check", "--data", status=1)), {"/s/small/00123.txt"})
         self.assertEqual(self.get_all(), self.before)
         self.do("repair")
         self.require_all()
+        # The copies are known again.
+        self.do("close", "--full")
         for image, name in ((self.image(1), "small/00001.txt"), (self.copy(0), "small/00200.txt"), (self.copy(1), "more/00003.txt")):
             self.damage(image, name)
         self.do("check", "--remotes", status=1)

@@ -31,6 +31,7 @@ from .claims import Claims
 from .config import Config
 from .contents import SIZE, Contents, File, number, read_fields
 from .errors import ArchiveError, CopyFailed, NotAtHand, VolumeDiffers
+from .lag import forget_seen
 from .names import is_bundle
 from .parity import make as make_parity
 from .parity import parity_beside
@@ -136,6 +137,7 @@ class Closer:
                 raise VolumeDiffers(f"{shown(target)}: is among the closed volumes, but its bag was never finished")
         row = row._replace(state=STATE_CLOSED, length=length, sha256=digest, closed=closed, checked=now(), data_checked=now(), trouble=None)
         self.catalogue.save(row)
+        forget_seen(self.catalogue, row.number)
         self._forget_ledger(row)
         return row
 

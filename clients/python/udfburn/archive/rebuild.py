@@ -32,6 +32,7 @@ from .contents import ABOUT, ARCHIVE, About, Contents, about_of, read_fields
 from .deletions import Event, events_on, replace_events
 from .errors import ArchiveError, CatalogueError, Claimed, CopyFailed, VolumeDiffers
 from .fetching import fetched, known_length, length_on
+from .lag import forget_seen
 from .markers import markers_of, move_marker
 from .remake import NO_CATALOGUE, KeptCatalogue
 from .remotes import Print, Remote, owner_of, print_of_file, remote_of
@@ -199,6 +200,8 @@ class Rebuilder:
         """The moment of the format and the last commit of each volume that was read, by its number."""
         self._copied: Set[int] = set()
         """Open volumes of which only copies were found."""
+        self._hurt: Set[int] = set()
+        """Those of them whose copies have damaged bundles."""
         self._listed: Optional[Dict[str, List[int]]] = None
         """What remotes have, once they were asked."""
 
@@ -298,10 +301,12 @@ class Rebuilder:
         """Learns the files of a copy of an open volume, where no catalogue says more of it: then its image is lost."""
         number = read.about.number
         known = self.catalogue.volume(number)
-        if known is None or number in self._copied and known.last_commit < read.row.last_commit:
+        hurt = bool(read.damaged or read.unlisted)
+        if known is None or number in self._copied and (known.last_commit, number not in self._hurt) < (read.row.last_commit, not hurt):
             self._forget_copied(number)
             self._one(image, read)
             self._copied.add(number)
+            self._hurt = self._hurt | {number} if hurt else self._hurt - {number}
 
     def _forget_copied(self, number: int) -> None:
         """Has what comes next count in the place of an open volume's copy."""
@@ -371,12 +376,15 @@ class Rebuilder:
         # What the catalogue has of a bundle whose list is damaged is all that is known of its files.
         lines = read.lines + [held._replace(there=True) for held in noted if held.is_member() and held.commit in read.unlisted]
         self.summary.failures += read.unlisted.values()
-        self.summary.failures += [f"{read.row.label}: {shown_path(held.path)} is not as it was stored" for held in read.damaged]
+        self.summary.failures += [f"{shown(image)}: {shown_path(held.path)} is not as it was stored" for held in read.damaged]
         if is_new:
             self.summary.unknown[read.row.label] = read.row.files
         else:
             self._compare(read.row.label, known + noted, read.rows + lines)
         if not self.dry_run:
+            if closed or old is not None and read.row.last_commit < old.last_commit:
+                # Copies of an open volume may have more than this image, which will have something else in its place.
+                forget_seen(self.catalogue, number)
             replace_events(self.catalogue, number, read.events)
             same_rows.replace_lines(self.catalogue, number, lines)
             self.catalogue.replace(self._row(read.row, closed, old), read.rows)
