@@ -116,6 +116,7 @@ class Closer:
     def _close(self, row: VolumeRow) -> VolumeRow:
         target = self.config.path("closed", row.label + ".img")
         source = self.config.path("open", row.label + ".img")
+        closed: Optional[Moment] = None
         if os.path.isfile(source):
             if os.path.lexists(target):
                 raise VolumeDiffers(f"{shown(target)}: is there already, and would be replaced by the image in 'open': move the one away that is not meant")
@@ -123,6 +124,8 @@ class Closer:
             with closing(Contents(source)) as contents:
                 self._end(source, contents)
                 self._keep_beside(source, target, contents)
+                # Below its bytes are compared with the digest. Reading its tree once more would show nothing else.
+                closed = contents.closed()
             # The image comes last, so what is in the folder `closed` has all that belongs to it.
             move(source, target)
         elif not os.path.isfile(target):
@@ -131,10 +134,11 @@ class Closer:
         found = print_of_file(target, fresh=True, told=self.tell.passed)
         if found != Print(length, digest):
             raise VolumeDiffers(f"{shown(target)}: is not as it was closed: its length or SHA-256 differs")
-        with closing(Contents(target)) as contents:
-            closed = contents.closed()
-            if closed is None:
-                raise VolumeDiffers(f"{shown(target)}: is among the closed volumes, but its bag was never finished")
+        if closed is None:
+            with closing(Contents(target)) as contents:
+                closed = contents.closed()
+        if closed is None:
+            raise VolumeDiffers(f"{shown(target)}: is among the closed volumes, but its bag was never finished")
         row = row._replace(state=STATE_CLOSED, length=length, sha256=digest, closed=closed, checked=now(), data_checked=now(), trouble=None)
         self.catalogue.save(row)
         forget_seen(self.catalogue, row.number)

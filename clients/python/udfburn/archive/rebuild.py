@@ -382,15 +382,20 @@ class Rebuilder:
         else:
             self._compare(read.row.label, known + noted, read.rows + lines)
         if not self.dry_run:
-            if closed or old is not None and read.row.last_commit < old.last_commit:
-                # Copies of an open volume may have more than this image, which will have something else in its place.
-                forget_seen(self.catalogue, number)
-            replace_events(self.catalogue, number, read.events)
-            same_rows.replace_lines(self.catalogue, number, lines)
-            self.catalogue.replace(self._row(read.row, closed, old), read.rows)
+            self._keep(read, lines, old)
         self.summary.volumes += 1
         self.summary.files += read.row.files
         self.tell.working(f"read {plural(self.summary.volumes, 'volume', 'volumes')}, {plural(self.summary.files, 'file', 'files')}")
+
+    def _keep(self, read: VolumeRead, lines: List[Held], old: Optional[VolumeRow]) -> None:
+        """Has the catalogue say what was read of a volume."""
+        number, closed = read.about.number, read.row.state == STATE_CLOSED
+        if closed or old is not None and read.row.last_commit < old.last_commit:
+            # Copies of an open volume may have more than this image, which will have something else in its place.
+            forget_seen(self.catalogue, number)
+        replace_events(self.catalogue, number, read.events)
+        same_rows.replace_lines(self.catalogue, number, lines)
+        self.catalogue.replace(self._row(read.row, closed, old), read.rows)
 
     def _is_older(self, old: VolumeRow, row: VolumeRow) -> bool:
         """Whether an open image is not the volume any more: that one was closed, or another folder has it and has filled it since."""
