@@ -178,6 +178,17 @@ class Lags(WithOpen):
             self.assertEqual(base.execute("SELECT count(*) FROM open_copy").fetchone(), (0,))
         base.close()
 
+    def test_rows_that_are_none(self) -> None:
+        """A catalogue that has one is damaged, and made anew."""
+        for column, value in (("last_commit", "none"), ("seen", 1 << 62)):
+            with sqlite3.connect(os.path.join(self.archive, "catalogue.sqlite")) as base:
+                base.execute(f"UPDATE open_copy SET {column} = ?", (value,))
+            base.close()
+            self.do("rebuild")
+            self.assertEqual({lag["seen"] for lag in self.lags().values()}, {None})
+            self.do("copy")
+            self.require_all()
+
     def test_metrics(self) -> None:
         page = self.path("archive.prom")
         away, length = self.without(1), os.path.getsize(self.image())

@@ -19,6 +19,7 @@ from .close import beside, own_sidecars
 from .config import Config
 from .contents import Contents
 from .errors import LOST, NotAtHand, VolumeDiffers
+from .lag import forget_seen
 from .names import is_bundle, name_back
 from .remotes import Print, print_of_file
 from .same import rows_on
@@ -122,6 +123,8 @@ def go_on(config: Config, catalogue: Catalogue, row: VolumeRow) -> VolumeRow:
             row = volume.row
             if len(volume.tree.space.clients) > CLIENTS_MOST or volume.is_full():
                 row = row._replace(state=STATE_FULL)
+    # This folder has seen no copy yet.
+    forget_seen(catalogue, row.number)
     catalogue.save(row)
     return row
 

@@ -19,7 +19,7 @@ from .config import Config
 from .contents import ABOUT, Contents
 from .deletions import Event, events_on, replace_events
 from .errors import LOST, ArchiveError, CopyFailed, NotAtHand
-from .lag import forget_seen
+from .lag import forget_beyond, forget_seen
 from .names import is_bundle
 from .open_copies import Image, OpenCopies, opened_image
 from .remotes import remote_of
@@ -127,8 +127,7 @@ class BringBack:
         if lost or lines:
             count = plural(count_of(lost, lines), "file", "files")
             self.failures.append(f"{row.label}: the newest copy, on {best.remote}, lacks {count} that the catalogue had")
-        # Copies may have what this image lacks, and will have in its place later.
-        forget_seen(self.catalogue, row.number)
+        forget_beyond(self.catalogue, row.number, best.last_commit)
         replace_events(self.catalogue, row.number, best.events)
         same_rows.replace_lines(self.catalogue, row.number, best.lines)
         files = count_of(best.rows, best.lines)

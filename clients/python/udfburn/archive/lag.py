@@ -60,6 +60,11 @@ def forget_seen(catalogue: Catalogue, number: int, remote: Optional[str] = None)
     catalogue.base.run(f"DELETE FROM open_copy WHERE volume = ?{where}", (number, *values))
 
 
+def forget_beyond(catalogue: Catalogue, number: int, commit: Commit) -> None:
+    """Keeps nothing of copies that had more than this commit, which is the last one of the image now: later commits will be others."""
+    catalogue.base.run("DELETE FROM open_copy WHERE volume = ? AND last_commit > ?", (number, commit))
+
+
 def seen_copies(catalogue: Catalogue) -> Dict[Tuple[int, str], SeenCopy]:
     """What is known of copies of open volumes, by volume and remote."""
     rows = catalogue.base.run("SELECT volume, remote, last_commit, length, seen FROM open_copy")
@@ -89,4 +94,4 @@ def added_after(base: Base, number: int, commit: Commit) -> Optional[Moment]:
     return Moment(min((int(row[0]) for row in found if row[0] is not None), default=0)) or None
 
 
-__all__ = ["Lag", "SeenCopy", "added_after", "forget_seen", "lag_of", "lags", "save_seen", "seen_copies"]
+__all__ = ["Lag", "SeenCopy", "added_after", "forget_beyond", "forget_seen", "lag_of", "lags", "save_seen", "seen_copies"]

@@ -32,7 +32,7 @@ from .contents import ABOUT, ARCHIVE, About, Contents, about_of, read_fields
 from .deletions import Event, events_on, replace_events
 from .errors import ArchiveError, CatalogueError, Claimed, CopyFailed, VolumeDiffers
 from .fetching import fetched, known_length, length_on
-from .lag import forget_seen
+from .lag import forget_beyond
 from .markers import markers_of, move_marker
 from .remake import NO_CATALOGUE, KeptCatalogue
 from .remotes import Print, Remote, owner_of, print_of_file, remote_of
@@ -390,9 +390,7 @@ class Rebuilder:
     def _keep(self, read: VolumeRead, lines: List[Held], old: Optional[VolumeRow]) -> None:
         """Has the catalogue say what was read of a volume."""
         number, closed = read.about.number, read.row.state == STATE_CLOSED
-        if closed or old is not None and read.row.last_commit < old.last_commit:
-            # Copies of an open volume may have more than this image, which will have something else in its place.
-            forget_seen(self.catalogue, number)
+        forget_beyond(self.catalogue, number, Commit(0) if closed else read.row.last_commit)
         replace_events(self.catalogue, number, read.events)
         same_rows.replace_lines(self.catalogue, number, lines)
         self.catalogue.replace(self._row(read.row, closed, old), read.rows)
