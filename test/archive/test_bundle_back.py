@@ -185,6 +185,30 @@ class Repairs(WithTwo):
         self.do("repair")
         self.require_all()
 
+    def test_damage_that_no_copy_has(self) -> None:
+        """The image is made of a copy that has all, and kept. Where none has, it stays, and so do the copies."""
+        with open(self.copy(0), "rb") as file:
+            good = file.read()
+        self.damage(self.image(1, "open"))
+        change_in(self.image(1, "open"), self.bytes_of("large")[:40])
+        self.assertEqual(self.hurt(self.do("check", "--data", "T-000001", status=1)), {"/s/small/00123.txt", "/s/large"})
+        for name in os.listdir(self.source):
+            os.rename(os.path.join(self.source, name), self.path(name))
+        self.do("repair", "T-000001")
+        for name in os.listdir(self.room):
+            if name in ("small", "more", "large"):
+                os.rename(self.path(name), os.path.join(self.source, name))
+        self.require_all()
+        self.assertEqual(len([name for name in os.listdir(os.path.join(self.archive, "open")) if ".img.damaged-" in name]), 1)
+        write(os.path.join(self.source, "newest"), b"newest")
+        self.bundle("--no-copy")
+        self.damage(self.image(1, "open"))
+        done = self.do("repair", "T-000001", status=1)
+        self.assertIn("is not as it was stored, and no sound copy has all of T-000001", done.errors)
+        for index in range(2):
+            with open(self.copy(index), "rb") as file:
+                self.assertEqual(file.read(), good)
+
     def test_files_that_the_newest_copy_lacks(self) -> None:
         """Each file of a bundle that came later is named, and those of the others are given back."""
         self.make_small(20, 800, "later")

@@ -212,7 +212,8 @@ class Checker:
         if good:
             return f"'udfburn-archive repair {row.label}' replaces it by the copy on {good[0]}"
         if row.state != STATE_CLOSED:
-            return f"'udfburn-archive close --without-damaged {row.label}' closes it without what is damaged, and then 'add' stores that again"
+            first = f"'udfburn-archive repair {row.label}' replaces it, if a copy has all of it. Otherwise " if self.config.copies else ""
+            return f"{first}'udfburn-archive close --without-damaged {row.label}' closes it without what is damaged, and then 'add' stores that again"
         return "no copy is known: 'udfburn-client salvage' copies out what is intact"
 
 
