@@ -5,6 +5,7 @@ import argparse
 import os
 import random
 import shutil
+import signal
 import statistics
 import subprocess
 import sys
@@ -12,7 +13,7 @@ import tempfile
 import time
 from collections import defaultdict
 from pathlib import Path
-from typing import Sequence
+from typing import NoReturn, Sequence
 
 TOP = Path(__file__).resolve().parent.parent.parent
 sys.path[:0] = [str(TOP / "bench" / "apply"), str(Path(__file__).resolve().parent)]
@@ -21,6 +22,7 @@ from timing import load, ratio  # noqa: E402
 from ways import Step, Way, bytes_of, installed, package, require_same, syncs, timed, ways, without  # noqa: E402
 
 PIECE = 1 << 20
+STOPS = (signal.SIGHUP, signal.SIGINT, signal.SIGTERM)
 PARTS = {"small": "{files:,} small files, {size:,.0f} MB", "photos": "{files} photos, {size:,.0f} MB", "large": "{files} large files, {size:,.0f} MB"}
 
 Taken = dict[tuple[str, str], list[float]]
@@ -71,6 +73,7 @@ def one_round(way: Way, room: str, source: str, taken: Taken) -> int:
         os.sync()
         os.makedirs(back, exist_ok=True)
         taken[way.name, step].append(timed([back if word == "{}" else word for word in words], way.keys))
+        print(f"{way.name} {step}: {taken[way.name, step][-1]:.1f} s", file=sys.stderr)
         if step in ("first", "close"):
             size = bytes_of(os.path.join(room, "kept"))
     require_same(source, back)
@@ -168,6 +171,13 @@ def put_beside(program: str, room: str, asked: argparse.Namespace) -> None:
         shutil.rmtree(source)
 
 
+def stop(number: int, _: object) -> NoReturn:
+    """Ends the run, which removes its room."""
+    for other in STOPS:
+        signal.signal(other, signal.SIG_IGN)
+    sys.exit(128 + number)
+
+
 def main(words: Sequence[str]) -> int:
     parser = argparse.ArgumentParser(prog="bench/beside/run")
     parser.add_argument("--rounds", type=int, default=5)
@@ -181,6 +191,8 @@ def main(words: Sequence[str]) -> int:
         if not shutil.which(tool):
             parser.error(f"{tool} is not installed")
     program = os.path.abspath(asked.program)
+    for number in STOPS:
+        signal.signal(number, stop)
     with tempfile.TemporaryDirectory(prefix="bench.", dir=os.path.realpath(asked.folder or tempfile.gettempdir())) as room:
         if parts != ["put"]:
             print_head(room, asked, words)

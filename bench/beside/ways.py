@@ -4,9 +4,11 @@ from __future__ import annotations
 import os
 import re
 import shutil
+import signal
 import subprocess
 import sys
 import time
+from contextlib import suppress
 from pathlib import Path
 from typing import Callable, NamedTuple
 
@@ -63,10 +65,26 @@ def ways(program: str, room: str, source: str) -> list[Way]:
 
 
 def timed(words: Step, keys: dict[str, str]) -> float:
-    """The seconds of a command, which ends well."""
+    """The seconds of a command, which ends well. Where this run is ended, so is all that the command has started."""
     begun = time.monotonic()
-    subprocess.run(words, check=True, env={**os.environ, "PYTHONDONTWRITEBYTECODE": "1", **keys}, stdout=subprocess.DEVNULL)
+    process = subprocess.Popen(words, env={**os.environ, "PYTHONDONTWRITEBYTECODE": "1", **keys}, stdout=subprocess.DEVNULL, start_new_session=True)
+    try:
+        status = process.wait()
+    except BaseException:
+        end_all_of(process)
+        raise
+    if status:
+        raise subprocess.CalledProcessError(status, words)
     return time.monotonic() - begun
+
+
+def end_all_of(process: "subprocess.Popen[bytes]") -> None:
+    """Kills a command and what it has started, and waits until nothing of them writes any more."""
+    with suppress(ProcessLookupError):
+        while True:
+            os.killpg(process.pid, signal.SIGKILL)
+            process.poll()
+            time.sleep(0.01)
 
 
 def syncs(words: Step, keys: dict[str, str], room: str) -> int:

@@ -16,6 +16,16 @@ from .mounts import Mount, WithMounts, is_mounted, mounted
 from .support import WithArchive, change, change_in, digests, environment, make_tree, write
 
 
+def require_plain_line(test: WithArchive, words: List[str]) -> None:
+    """A mount says in one line what it needs where the module is missing."""
+    write(test.path("without", "pyfuse3.py"), b"raise ImportError('none')\n")
+    found = environment()
+    found["PYTHONPATH"] = test.path("without") + os.pathsep + found["PYTHONPATH"]
+    done = subprocess.run([sys.executable, "-m", *words], env=found, stdout=subprocess.PIPE, stderr=subprocess.STDOUT, check=False)
+    test.assertEqual((done.returncode, done.stdout.count(b"\n")), (1, 1), done.stdout)
+    test.assertIn(b"mounting needs pyfuse3 for this Python (Debian: python3-pyfuse3)", done.stdout)
+
+
 class ImageMounts(WithMounts, WithArchive):
     """`udfburn-client mount`."""
 
@@ -138,15 +148,8 @@ class ImageMounts(WithMounts, WithArchive):
         self.assertFalse(is_mounted(self.folder))
 
     def test_without_pyfuse3(self) -> None:
-        """A plain line where the module is missing."""
-        write(self.path("without", "pyfuse3.py"), b"raise ImportError('none')\n")
         self.fill()
-        found = environment()
-        found["PYTHONPATH"] = self.path("without") + os.pathsep + found["PYTHONPATH"]
-        for words in (["udfburn", "mount", self.image, self.folder],):
-            done = subprocess.run([sys.executable, "-m", *words], env=found, stdout=subprocess.PIPE, stderr=subprocess.STDOUT, check=False)
-            self.assertEqual((done.returncode, done.stdout.count(b"\n")), (1, 1), done.stdout)
-            self.assertIn(b"mounting needs pyfuse3 for this Python (Debian: python3-pyfuse3)", done.stdout)
+        require_plain_line(self, self.words())
 
 
 class ArchiveMounts(WithMounts, WithArchive):
@@ -168,6 +171,10 @@ class ArchiveMounts(WithMounts, WithArchive):
         write(os.path.join(self.source, "=odd 😀"), b"")
         self.init("--capacity", "1800", *words)
         self.add()
+
+    def test_without_pyfuse3(self) -> None:
+        self.init()
+        require_plain_line(self, self.words())
 
     def images(self) -> List[str]:
         """The images of the archive, by their labels."""

@@ -167,8 +167,8 @@ class Machines(OnServer):
 
     def test_a_newer_catalogue_is_refused(self) -> None:
         first = self.machine(1)
-        self.server.sql("UPDATE archive SET version = 9", "archive")
-        self.assertIn("version 9", self.run_in(first, "status", status=1).errors)
+        self.server.sql("UPDATE archive SET version = 99", "archive")
+        self.assertIn("version 99", self.run_in(first, "status", status=1).errors)
 
     def test_a_base_of_another_program_is_left_alone(self) -> None:
         url = self.server.new_base("other")

@@ -72,7 +72,7 @@ class TakenOver(WithArchive):
     def require_same(self, before: "List[Any]", version: Callable[[], Any]) -> None:
         self.assertEqual(version(), 1)
         self.assertEqual(self.rows(), before)
-        self.assertEqual(version(), 8)
+        self.assertEqual(version(), 9)
         for pattern, count in (("*.bin", 91), ("file 1*", 11), ("ünï*", 1), ("*é.ende", 1), ("*arge*", 1), ("*ile 1*", 11), ("*rge*bin*", 1), ("/*/large.bin", 1), ("/s/d0/*", 90), ("/s/large.bin", 1)):
             self.assertEqual(self.do("find", pattern).last()["files"], count, pattern)
         self.require_agreed()

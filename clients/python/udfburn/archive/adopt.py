@@ -4,11 +4,12 @@ from __future__ import annotations
 
 import os
 from contextlib import closing, contextmanager
-from typing import Iterator, List, Optional, Tuple
+from typing import Dict, Iterator, List, Optional, Tuple
 
 from ..base.own_files import copy_file, from_top, move, remove, set_mode
 from ..base.scratch import room, sweep
 from ..local.sources import shown
+from ..protocol.units import Commit
 from ..wire.operations import now
 from . import same_rows
 from .batch import sound_length
@@ -18,6 +19,7 @@ from .close import beside, own_sidecars
 from .config import Config
 from .contents import Contents
 from .errors import LOST, NotAtHand, VolumeDiffers
+from .lag import forget_seen
 from .names import is_bundle, name_back
 from .remotes import Print, print_of_file
 from .same import rows_on
@@ -39,8 +41,10 @@ def candidates(config: Config, catalogue: Catalogue, row: VolumeRow, given: Opti
     return found
 
 
-def require_whole(config: Config, catalogue: Catalogue, row: VolumeRow, image: str) -> None:
-    """Raises where an image is not the volume, is damaged, or lacks files that the catalogue has."""
+def require_whole(config: Config, catalogue: Catalogue, row: VolumeRow, image: str) -> List[str]:
+    """Raises where an image is not the volume, is damaged, or lacks files that the catalogue has. Gives what is said of bundles whose lists are
+    damaged: the catalogue has their files."""
+    unlisted: Dict[Commit, str] = {}
     if row.state != STATE_CLOSED and is_damaged(image):
         raise VolumeDiffers(f"{shown(image)}: is damaged: 'udfburn check' says where, and {LOST}")
     volume = OpenVolume(config, catalogue, row)
@@ -49,18 +53,20 @@ def require_whole(config: Config, catalogue: Catalogue, row: VolumeRow, image: s
         volume.require_own(contents)
         there = {file.commit for file in contents.files()}
         lacking = [held for held in catalogue.of_volume(row.number) if held.commit not in there]
-        lines = {held.key() for held in rows_on(contents, row.number)}
-        lacking += [held for held in same_rows.of_volume(catalogue.base, row.number) if held.key() not in lines]
+        lines = {held.key() for held in rows_on(contents, row.number, unlisted)}
+        noted = [held for held in same_rows.of_volume(catalogue.base, row.number) if not (held.is_member() and held.commit in unlisted)]
+        lacking += [held for held in noted if held.key() not in lines]
     if lacking:
         files = sum(not is_bundle(held.path[-1]) for held in lacking)
         raise VolumeDiffers(f"{shown(image)}: lacks {plural(files, 'file', 'files')} that the catalogue has of {row.label}: it is an older copy")
     if row.state == STATE_CLOSED and print_of_file(image) != Print(row.length or 0, row.sha256 or b""):
         raise VolumeDiffers(f"{shown(image)}: is not {row.label} as it was closed: its length or SHA-256 differs")
+    return list(unlisted.values())
 
 
 def take_over(config: Config, catalogue: Catalogue, claims: Claims, row: VolumeRow, given: Optional[str], tell: Tell, failures: List[str]) -> VolumeRow:
     """Takes a volume over. The image is copied; a new ledger, with a client of its own, goes on with it. Where no image of an open volume is
-    found its newest copy is taken, and `failures` gets what that lacks."""
+    found its newest copy is taken. `failures` gets what that lacks, and what is damaged."""
     claims.volume(row.number, row.label)
     row = catalogue.volume(row.number) or row
     target = config.path("closed" if row.state == STATE_CLOSED else "open", row.label + ".img")
@@ -75,12 +81,12 @@ def take_over(config: Config, catalogue: Catalogue, claims: Claims, row: VolumeR
         return from_copies(config, catalogue, claims, row, target, tell, failures)
     if image is None:
         raise NotAtHand(f"{row.label}: its image was not found: name it on the command line")
-    return taken(config, catalogue, row, image, target)
+    return taken(config, catalogue, row, image, target, failures)
 
 
-def taken(config: Config, catalogue: Catalogue, row: VolumeRow, image: str, target: str) -> VolumeRow:
-    """Takes a volume over whose image was found."""
-    require_whole(config, catalogue, row, image)
+def taken(config: Config, catalogue: Catalogue, row: VolumeRow, image: str, target: str, failures: List[str]) -> VolumeRow:
+    """Takes a volume over whose image was found. `failures` gets what is said of it that stops nobody."""
+    failures += require_whole(config, catalogue, row, image)
     row = row._replace(holder=config.id)
     if os.path.realpath(image) == os.path.realpath(target):
         return go_on(config, catalogue, row)
@@ -105,7 +111,7 @@ def from_copies(
         best = work.newest(row, folder)
         work.forget(row, best)
         failures += work.failures
-        return taken(config, catalogue, catalogue.volume(row.number) or row, best.path, target)
+        return taken(config, catalogue, catalogue.volume(row.number) or row, best.path, target, failures)
 
 
 def go_on(config: Config, catalogue: Catalogue, row: VolumeRow) -> VolumeRow:
@@ -117,6 +123,8 @@ def go_on(config: Config, catalogue: Catalogue, row: VolumeRow) -> VolumeRow:
             row = volume.row
             if len(volume.tree.space.clients) > CLIENTS_MOST or volume.is_full():
                 row = row._replace(state=STATE_FULL)
+    # This folder has seen no copy yet.
+    forget_seen(catalogue, row.number)
     catalogue.save(row)
     return row
 

@@ -3,22 +3,24 @@
 from __future__ import annotations
 
 import os
-from contextlib import closing
+from contextlib import closing, suppress
 from typing import Dict, List, NamedTuple, Optional
 
 from ..base.beneath import is_there
 from ..base.own_files import from_top, move, set_mode
 from ..base.scratch import room
+from ..local.sources import shown
 from ..protocol.units import Commit
 from ..wire.operations import now
 from . import same_rows
 from .batch import tail_note
 from .catalogue import Catalogue, Held, VolumeRow, image_of
-from .close import beside, read_payload
+from .close import beside, known_rows, read_payload
 from .config import Config
 from .contents import ABOUT, Contents
 from .deletions import Event, events_on, replace_events
-from .errors import LOST, ArchiveError, CopyFailed, NotAtHand
+from .errors import LOST, ArchiveError, CopyFailed, NotAtHand, VolumeDiffers
+from .lag import forget_beyond, forget_seen
 from .names import is_bundle
 from .open_copies import Image, OpenCopies, opened_image
 from .remotes import remote_of
@@ -47,9 +49,15 @@ class BringBack:
         self.repaired = 0
 
     def run(self, row: VolumeRow) -> None:
-        """Has the image be there and sound, and then the copies be beginnings of it."""
+        """Has the image be there and sound, and then the copies be beginnings of it. Where the image stays damaged, they stay as they are: they
+        may have what it lacks."""
         image = self.config.path("open", row.label + ".img")
-        if self._is_needed(row):
+        needed = self._is_needed(row)
+        hurt = None if needed else self._hurt(row, image)
+        if hurt is not None and not self._is_on_copy(row):
+            self.failures.append(f"{hurt}, and no sound copy has all of {row.label}: 'close --without-damaged {row.label}', and 'add' the source again")
+            return
+        if needed or hurt is not None:
             self._image(row, image)
             row = self.catalogue.volume(row.number) or row
         self._copies(row)
@@ -61,6 +69,21 @@ class BringBack:
             return True
         found = look(image)
         return found.damaged or found.commit is not None and found.commit < row.last_commit
+
+    def _hurt(self, row: VolumeRow, image: str) -> Optional[str]:
+        """What is said of an image of which something is not as it was stored; None where all is."""
+        try:
+            with closing(Contents(image)) as contents:
+                damaged = read_payload(contents, known_rows(self.catalogue, row.number), {}).damaged
+        except VolumeDiffers as error:
+            return str(error)
+        return f"{shown(image)}: {shown_path(damaged[0].path)} is not as it was stored" if damaged else None
+
+    def _is_on_copy(self, row: VolumeRow) -> bool:
+        """Whether a copy is sound, and has all that was acknowledged."""
+        with room(self.config.folder, self.config.room_name("repair")) as folder, suppress(NotAtHand):
+            return self.newest(row, folder).last_commit >= row.last_commit
+        return False
 
     def _image(self, row: VolumeRow, image: str) -> None:
         with room(self.config.folder, self.config.room_name("repair")) as folder:
@@ -108,7 +131,7 @@ class BringBack:
             if (ABOUT,) in contents.nodes and (contents.about().archive, contents.about().number) != (self.catalogue.id, row.number):
                 raise CopyFailed(f"is volume {contents.about().number} of the archive {contents.about().archive}")
             known = self.catalogue.of_volume(row.number)
-            damaged = read_payload(contents, known, {}).damaged
+            damaged = read_payload(contents, known_rows(self.catalogue, row.number), {}).damaged
             if damaged:
                 raise CopyFailed(f"{plural(len(damaged), 'file is', 'files are')} not as stored, the first is {shown_path(damaged[0].path)}")
             rows = contents.rows(row.number, {held.commit: held for held in known})
@@ -126,6 +149,7 @@ class BringBack:
         if lost or lines:
             count = plural(count_of(lost, lines), "file", "files")
             self.failures.append(f"{row.label}: the newest copy, on {best.remote}, lacks {count} that the catalogue had")
+        forget_beyond(self.catalogue, row.number, best.last_commit)
         replace_events(self.catalogue, row.number, best.events)
         same_rows.replace_lines(self.catalogue, row.number, best.lines)
         files = count_of(best.rows, best.lines)
@@ -146,6 +170,7 @@ class BringBack:
         remote, base = self.copies.remote(name), os.path.basename(image.path)
         try:
             remote.require_same_volume(image.descriptor, base)
+            forget_seen(self.catalogue, row.number, name)
             remote.set_aside(base, f".damaged-{now()}")
         except CopyFailed as error:
             self.failures.append(f"{row.label}: the copy on {name}: {why}; {error}")

@@ -197,7 +197,37 @@ def row_of(volume: int, file: File, member: Member, added: Moment) -> Held:
 
 def damaged_in(contents: Contents, file: File, rows: Iterable[Held]) -> List[Held]:
     """Those of the members of a bundle that are not as they were stored."""
-    return [row for row in rows if not is_as_stored(contents, file, row)]
+    try:
+        data = contents.span(file, 0, file.size)
+    except VolumeDiffers:
+        # Files in the blocks that can be read are as good.
+        return [row for row in rows if not is_as_stored(contents, file, row)]
+    return [row for row in rows if sha256(data[row.start or 0 : (row.start or 0) + row.size]).digest() != row.sha256]
+
+
+def members_by_bundle(rows: Iterable[Held]) -> Dict[Commit, List[Held]]:
+    """The members of bundles among the rows of a volume, by the commits of their bundles."""
+    found: Dict[Commit, List[Held]] = {}
+    for row in rows:
+        if row.is_member():
+            found.setdefault(row.commit, []).append(row)
+    return found
+
+
+def damaged_on(contents: Contents, rows: Iterable[Held]) -> List[Held]:
+    """Those of the members of the bundles of a volume that are not as they were stored."""
+    members = members_by_bundle(rows)
+    return [row for file in bundles_on(contents) for row in damaged_in(contents, file, members.get(file.commit, ()))]
+
+
+def is_sound(contents: Contents, file: File, rows: Sequence[Held]) -> bool:
+    """Whether the files of a bundle are as its list says, whatever a catalogue says of the tar. With a damaged list it is sound only where the
+    catalogue has none of its files: then nobody knows them."""
+    try:
+        members = read_list(contents, file).members
+    except VolumeDiffers:
+        return not rows
+    return not damaged_in(contents, file, [row_of(0, file, member, file.added) for member in members])
 
 
 def is_as_stored(contents: Contents, file: File, row: Held) -> bool:
@@ -209,6 +239,6 @@ def is_as_stored(contents: Contents, file: File, row: Held) -> bool:
 
 
 __all__ = [
-    "FIXED", "BundleList", "MOST", "Member", "bundled", "bundles_on", "costs", "damaged_in", "is_as_stored", "list_of", "list_size", "lists_on", "members_on",
-    "read_list",
+    "FIXED", "BundleList", "MOST", "Member", "bundled", "bundles_on", "costs", "damaged_in", "damaged_on", "is_as_stored", "is_sound", "list_of", "list_size", "lists_on",
+    "members_by_bundle", "members_on", "read_list",
 ]

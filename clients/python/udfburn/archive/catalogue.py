@@ -214,7 +214,8 @@ class Catalogue:
 
     def forget_copies(self, remote: str) -> None:
         """Keeps nothing of the copies on a remote."""
-        self.base.run("DELETE FROM copy WHERE remote = ?", (remote,))
+        for table in ("copy", "open_copy"):
+            self.base.run(f"DELETE FROM {table} WHERE remote = ?", (remote,))
 
     def put_away(self) -> Dict[int, str]:
         """Where the user has put images away, by the numbers of their volumes."""

@@ -18,14 +18,13 @@ from ..wire.operations import now
 from . import same_rows
 from .assemble import assembled
 from .bring_back import BringBack
-from .bundle import damaged_in
+from .bundle import damaged_in, members_by_bundle
 from .catalogue import DISC, STATE_CLOSED, STATE_RETIRED, Catalogue, Copy, Held, VolumeRow, image_of, mebibytes_of, odd_image
 from .claims import Claims
 from .close import SIDECARS, beside, complete, send
 from .config import Config
 from .contents import Contents, File
 from .errors import ArchiveError, Claimed, CopyFailed, NotAtHand, VolumeDiffers
-from .names import is_bundle
 from .open_copies import GROWING, OpenCopies
 from .parity import durable, gathered, mended, parity_names, require_program
 from .remotes import Print, Remote, print_of_file, remote_of
@@ -144,17 +143,21 @@ class Checker:
         manifest = contents.manifest()
         known = {held.commit: held for held in self.catalogue.of_volume(row.number)}
         noted = same_rows.of_volume(self.catalogue.base, row.number)
-        members = [held for held in noted if held.is_member()]
-        self.files += count_of(known.values(), members)
+        members = members_by_bundle(noted)
+        self.files += count_of(known.values(), [held for some in members.values() for held in some])
         bad: List[str] = []
-        for file in contents.files():
+        files = contents.files()
+        for file in files:
             held = known.pop(file.commit, None)
             same = self._is_as_stored(held, contents, file, manifest)
             if not same or held is not None and (file.path, file.parts) != (held.path, held.parts):
-                bad += hurt(contents, file, members)
-        # A bundle whose list is damaged was named.
+                bad += hurt(contents, file, members.get(file.commit, ()))
+            else:
+                # The catalogue may have been made of a bundle that was damaged by then. Its list has the digests of its files.
+                bad += [shown_path(held.path) for held in damaged_in(contents, file, members.get(file.commit, ()))]
         unlisted: Dict[Commit, str] = {}
         lines = {held.key(): held for held in rows_on(contents, row.number, unlisted)}
+        bad += [shown_path(file.path) for file in files if file.commit in unlisted]
         gone = [held for held in noted if lines.get(held.key()) != held._replace(there=True) and not (held.is_member() and held.commit in unlisted)]
         bad += [shown_path(held.path) for held in [*known.values(), *gone]]
         for path, digest in manifest.items():
@@ -209,14 +212,14 @@ class Checker:
         if good:
             return f"'udfburn-archive repair {row.label}' replaces it by the copy on {good[0]}"
         if row.state != STATE_CLOSED:
-            return f"'udfburn-archive close --without-damaged {row.label}' closes it without what is damaged, and then 'add' stores that again"
+            first = f"'udfburn-archive repair {row.label}' replaces it, if a copy has all of it. Otherwise " if self.config.copies else ""
+            return f"{first}'udfburn-archive close --without-damaged {row.label}' closes it without what is damaged, and then 'add' stores that again"
         return "no copy is known: 'udfburn-client salvage' copies out what is intact"
 
 
 def hurt(contents: Contents, file: File, members: Sequence[Held]) -> List[str]:
-    """What is damaged of a file that is: of a bundle those of its files whose own bytes are."""
-    damaged = damaged_in(contents, file, [held for held in members if held.commit == file.commit]) if is_bundle(file.path[-1]) else []
-    return [shown_path(held.path) for held in damaged] or [shown_path(file.path)]
+    """What is damaged of a file that is: of a bundle those of its members whose own bytes are."""
+    return [shown_path(held.path) for held in damaged_in(contents, file, members)] or [shown_path(file.path)]
 
 
 def has_print(image: str, wanted: Print, told: BytesTold = untold) -> bool:

@@ -184,7 +184,7 @@ def add_readers(subs: "Subs") -> None:
 
     status = command(subs, "status", "show how full each volume is, its copies, and what needs attention")
     status.add_argument("--check", action="store_true", help="print a line for each thing that needs attention, and nothing else; the status is 1 if there is one")
-    status.add_argument("--stale", metavar="AGE", help="what was not checked for so long needs attention: 12h, 180d or 26w (default: 400d)")
+    status.add_argument("--stale", metavar="AGE", help="what was not checked, or not copied while it is open, for so long needs attention: 12h, 180d or 26w (default: 400d)")
     status.add_argument("--prometheus", metavar="FILE", help="also write the state as metrics, for the textfile collector of node exporter, which reads names that end in .prom")
 
 

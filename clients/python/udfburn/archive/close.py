@@ -24,12 +24,14 @@ from ..wire.operations import Operation, now
 from . import same_rows
 from .bag import info, tag_manifest
 from .batch import locked
+from .bundle import is_sound, members_by_bundle
 from .bundle_mending import is_elsewhere, keep_members
 from .catalogue import Catalogue, Copy, Held, STATE_CLOSED, STATE_CLOSING, VolumeRow, image_of
 from .claims import Claims
 from .config import Config
 from .contents import SIZE, Contents, File, number, read_fields
 from .errors import ArchiveError, CopyFailed, NotAtHand, VolumeDiffers
+from .lag import forget_seen
 from .names import is_bundle
 from .parity import make as make_parity
 from .parity import parity_beside
@@ -114,6 +116,7 @@ class Closer:
     def _close(self, row: VolumeRow) -> VolumeRow:
         target = self.config.path("closed", row.label + ".img")
         source = self.config.path("open", row.label + ".img")
+        closed: Optional[Moment] = None
         if os.path.isfile(source):
             if os.path.lexists(target):
                 raise VolumeDiffers(f"{shown(target)}: is there already, and would be replaced by the image in 'open': move the one away that is not meant")
@@ -121,6 +124,8 @@ class Closer:
             with closing(Contents(source)) as contents:
                 self._end(source, contents)
                 self._keep_beside(source, target, contents)
+                # Below its bytes are compared with the digest. Reading its tree once more would show nothing else.
+                closed = contents.closed()
             # The image comes last, so what is in the folder `closed` has all that belongs to it.
             move(source, target)
         elif not os.path.isfile(target):
@@ -129,12 +134,14 @@ class Closer:
         found = print_of_file(target, fresh=True, told=self.tell.passed)
         if found != Print(length, digest):
             raise VolumeDiffers(f"{shown(target)}: is not as it was closed: its length or SHA-256 differs")
-        with closing(Contents(target)) as contents:
-            closed = contents.closed()
-            if closed is None:
-                raise VolumeDiffers(f"{shown(target)}: is among the closed volumes, but its bag was never finished")
+        if closed is None:
+            with closing(Contents(target)) as contents:
+                closed = contents.closed()
+        if closed is None:
+            raise VolumeDiffers(f"{shown(target)}: is among the closed volumes, but its bag was never finished")
         row = row._replace(state=STATE_CLOSED, length=length, sha256=digest, closed=closed, checked=now(), data_checked=now(), trouble=None)
         self.catalogue.save(row)
+        forget_seen(self.catalogue, row.number)
         self._forget_ledger(row)
         return row
 
@@ -167,7 +174,7 @@ class Closer:
     def _tag_files(self, volume: OpenVolume, contents: Contents) -> Dict[str, bytes]:
         """The tag files by their names, in the order in which they are written. Digests are of the bytes that the volume has, and
         agree with those of the catalogue."""
-        found = read_payload(contents, self.catalogue.of_volume(volume.row.number), volume.sent(), self.tell.passed)
+        found = read_payload(contents, known_rows(self.catalogue, volume.row.number), volume.sent(), self.tell.passed)
         if found.damaged:
             first, count = shown_path(found.damaged[0].path), plural(len(found.damaged), "file is not as it was", "files are not as they were")
             raise VolumeDiffers(
@@ -191,7 +198,7 @@ class Closer:
     def _remove_damaged(self, volume: OpenVolume) -> None:
         """Takes files off the volume's tree that are not as they were stored. Earlier commits have them still."""
         with closing(Contents(volume.image)) as contents:
-            damaged = read_payload(contents, self.catalogue.of_volume(volume.row.number), volume.sent()).damaged
+            damaged = read_payload(contents, known_rows(self.catalogue, volume.row.number), volume.sent()).damaged
             paths = [path for file in damaged for path in contents.stored_paths(file)]
             bundles = [file for file in damaged if is_bundle(file.path[-1])]
             self._done(volume, (operation for file in bundles for operation in keep_members(self.catalogue, volume.tree, contents, volume.row.number, file)))
@@ -319,10 +326,15 @@ class Payload(NamedTuple):
     damaged: List[File]
 
 
+def known_rows(catalogue: Catalogue, number: int) -> List[Held]:
+    """The rows of the files and bundles that a volume has, and of the members of these."""
+    return catalogue.of_volume(number) + [held for held in same_rows.of_volume(catalogue.base, number) if held.is_member()]
+
+
 def read_payload(contents: Contents, rows: Sequence[Held], sent: Mapping[int, bytes], told: BytesTold = untold) -> Payload:
-    """Reads every byte of a payload. Files that are whole on the volume are compared with the catalogue's digests, and parts of others
-    with those of what was sent, by their commits."""
-    known = {held.commit: held for held in rows}
+    """Reads every byte of a payload. Files that are whole on the volume are compared with the catalogue's digests, parts of others with those
+    of what was sent, by their commits, and the members of a bundle with its list."""
+    known, members = {held.commit: held for held in rows if not held.is_member()}, members_by_bundle(rows)
     digests: Dict[Path, bytes] = {}
     damaged: List[File] = []
     size = 0
@@ -338,6 +350,7 @@ def read_payload(contents: Contents, rows: Sequence[Held], sent: Mapping[int, by
             size += node.size
         if contents.has_all(file):
             same = file.commit not in known or known[file.commit].sha256 == whole.digest()
+            same = same and (not is_bundle(file.path[-1]) or is_sound(contents, file, members.get(file.commit, ())))
         else:
             same = all(digests[node.path] == sent.get(contents.commit_of(node), digests[node.path]) for node in file.nodes)
         if not same:

@@ -108,6 +108,7 @@ def check_open(checker: Checker, names: Sequence[str]) -> None:
     with closing(claims_of(catalogue.base, config.path("locks"), config.catalogue)) as claims:
         copies = OpenCopies(config, catalogue, claims, checker.tell)
         copies.check([row for row in catalogue.volumes() if not names or row.label in names])
+    checker.bad |= copies.said
     checker.copies += copies.made
     checker.failures += copies.failures
 

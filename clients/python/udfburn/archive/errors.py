@@ -49,11 +49,15 @@ class CopyFailed(ArchiveError):
     """A copy was not made, or is not what was sent."""
 
 
+class CopyDiffers(CopyFailed):
+    """The copy of an open image is no beginning of it."""
+
+
 class CannotStore(ArchiveError):
     """A file that no volume can hold under its path."""
 
 
 __all__ = [
-    "ArchiveError", "BadConfig", "CannotStore", "CatalogueError", "CatalogueLost", "Claimed", "CopyFailed", "LOST", "Lacking",
-    "NoArchive", "NotAtHand", "VolumeDiffers",
+    "ArchiveError", "BadConfig", "CannotStore", "CatalogueError", "CatalogueLost", "Claimed", "CopyDiffers", "CopyFailed", "LOST",
+    "Lacking", "NoArchive", "NotAtHand", "VolumeDiffers",
 ]

@@ -18,7 +18,7 @@ from ..local.saving import save_at, write_all
 from ..local.sources import shown
 from ..protocol import limits
 from .batch import tail_note
-from .errors import CopyFailed
+from .errors import CopyDiffers, CopyFailed
 
 Compared = Dict[str, Tuple[int, int, int]]
 """What was compared in this run of copies, by their names: which file, by its device and inode, and how many of its bytes."""
@@ -67,7 +67,7 @@ def begun(root: Root, name: str, descriptor: int, image: int, length: int, compa
     at = differs(descriptor, image, start, min(had, length), told)
     if at is not None:
         block = at // limits.BLOCK
-        raise CopyFailed(f"{shown(local)}: differs from the image in block {block}, and is not changed: it is damaged, or a copy of another image")
+        raise CopyDiffers(f"{shown(local)}: differs from the image in block {block}, and is not changed: it is damaged, or a copy of another image")
     compared[name] = status.st_dev, status.st_ino, min(had, length)
     return had
 

@@ -8,6 +8,7 @@ from ..local.saving import require_own, save
 from ..protocol import limits
 from .catalogue import STATE_CLOSED, STATE_CLOSING, STATE_FULL, STATE_NEW, STATE_OPEN, STATE_RETIRED
 from .config import Config
+from .lag import Lag
 from .status import NEED_KINDS, Incomplete, VolumeStatus
 
 METRICS_BEGIN = b"# HELP udfburn_archive_"
@@ -41,6 +42,20 @@ def metrics(config: Config, lines: Sequence[VolumeStatus], lacking: Sequence[Inc
         Metric(
             "copy_oldest_check_timestamp_seconds", "When the good copy was checked whose check is the oldest, by remote.",
             [((("remote", remote),), min(times) / 1e6) for remote, times in copies(config, closed) if times],
+        ),
+        *lagging(config, [lag for line in lines for lag in line.lags]),
+    ]
+
+
+def lagging(config: Config, found: Sequence[Lag]) -> List[Metric]:
+    """What the copies of open volumes lack, by remote."""
+    lacked = [(remote, sum(lag.bytes for lag in found if lag.remote == remote)) for remote in config.copies]
+    first = [(lag.remote, lag.since) for lag in sorted(found, key=lambda lag: lag.since or 0, reverse=True) if lag.since is not None]
+    return [
+        Metric("open_copy_lacking_bytes", "Bytes that the copies of open volumes lack, by remote.", [((("remote", remote),), count) for remote, count in lacked]),
+        Metric(
+            "open_copy_lacking_since_timestamp_seconds", "When the first of what the copies of open volumes lack was added, by remote.",
+            [((("remote", remote),), since / 1e6) for remote, since in dict(first).items()],
         ),
     ]
 

@@ -3,18 +3,20 @@
 from __future__ import annotations
 
 import os
+from bisect import bisect_right
 from contextlib import contextmanager
-from typing import Container, Dict, Iterator, List, NamedTuple, Optional, Sequence, Tuple
+from typing import Container, Dict, Iterator, List, NamedTuple, Optional, Sequence, Set, Tuple
 
 from ..base.beneath import is_own, open_own
 from ..local.sources import Source, shown
 from ..protocol import limits
-from ..protocol.units import Commit
+from ..protocol.units import Address, Commit
 from .catalogue import STATE_CLOSING, STATE_FULL, STATE_OPEN, Catalogue, Held, VolumeRow
 from .claims import Claims
 from .config import Config
 from .contents import Contents
-from .errors import ArchiveError, CopyFailed, VolumeDiffers
+from .errors import ArchiveError, CopyDiffers, CopyFailed, VolumeDiffers
+from .lag import forget_seen, save_seen
 from .places import Places
 from .remotes import Remote, remote_of
 from .tell import Tell, size
@@ -24,12 +26,17 @@ GROWING = (STATE_OPEN, STATE_FULL, STATE_CLOSING)
 
 
 class Image(NamedTuple):
-    """An open image: its descriptor, and the bytes up to the end of its last commit, which never change."""
+    """An open image: its descriptor, the bytes up to the end of its last commit, which never change, and the last block of each commit."""
 
     path: str
     descriptor: int
     length: int
     last_commit: Commit
+    ends: Sequence[Address]
+
+    def commit_at(self, length: int) -> Commit:
+        """The last commit of so many bytes."""
+        return Commit(self.last_commit - len(self.ends) + bisect_right(self.ends, length // limits.BLOCK - 1))
 
 
 @contextmanager
@@ -41,13 +48,13 @@ def opened_image(config: Config, row: VolumeRow) -> Iterator[Image]:
             raise VolumeDiffers(f"{shown(path)}: is not {row.label}: its label, moment of format or capacity differs")
         if contents.last_commit < row.last_commit:
             raise VolumeDiffers(f"{shown(path)}: has {contents.last_commit} commits, and {row.last_commit} were acknowledged: it is an older copy: bring the right one back")
-        length, last_commit = (contents.last_address + 1) * limits.BLOCK, contents.last_commit
+        length, last_commit, ends = (contents.last_address + 1) * limits.BLOCK, contents.last_commit, contents.addresses
     descriptor = open_own(path)
     try:
         # What the system has in memory and may never write is not copied.
         os.fsync(descriptor)
         os.posix_fadvise(descriptor, 0, 0, os.POSIX_FADV_DONTNEED)
-        yield Image(path, descriptor, length, last_commit)
+        yield Image(path, descriptor, length, last_commit, ends)
     finally:
         os.close(descriptor)
 
@@ -69,6 +76,8 @@ class OpenCopies:
         """Why a copy could not be made."""
         self._whole: Dict[Tuple[int, str], int] = {}
         """The last commit up to which this run has compared all bytes of a copy on a remote of rclone."""
+        self.said: Set[Tuple[str, str]] = set()
+        """Of which copies `check` has said what is wrong, by volume and remote."""
 
     def run(self) -> None:
         """Copies what each open volume of this folder has more, to each remote."""
@@ -108,6 +117,7 @@ class OpenCopies:
                 try:
                     self._extend(row, image, name)
                 except CopyFailed as error:
+                    self._forget(row, name, error)
                     self._told[row.number, name] = f"{row.label}: its copy on {name} was not made or lacks the newest files: {error}"
             self._commits[row.number] = image.last_commit
             # What was read of copies is older than what they have by now.
@@ -116,12 +126,19 @@ class OpenCopies:
     def _extend(self, row: VolumeRow, image: Image, name: str) -> None:
         remote, base = self.remote(name), os.path.basename(image.path)
         if remote.grown(base) == image.length and not remote.is_file(image.path, base):
+            save_seen(self.catalogue, row.number, name, image.last_commit, image.length)
             return
         self.tell.working(f"copying {row.label} to {name}")
         had = remote.extend(image.descriptor, base, image.length)
+        save_seen(self.catalogue, row.number, name, image.last_commit, image.length)
         self.made += 1
         line = f"copied {size(image.length - had)} of {row.label} to {name}"
         self.tell.say_step(line, did="copied", volume=row.label, remote=name, bytes=image.length - had, commit=image.last_commit)
+
+    def _forget(self, row: VolumeRow, name: str, error: CopyFailed) -> None:
+        """Keeps nothing of a copy that is no beginning of the image. One that is away may be as it was."""
+        if isinstance(error, CopyDiffers):
+            forget_seen(self.catalogue, row.number, name)
 
     # ---- looked at
 
@@ -145,9 +162,15 @@ class OpenCopies:
         try:
             had = self.remote(name).begun(image.descriptor, os.path.basename(image.path), image.length)
         except CopyFailed as error:
+            self._forget(row, name, error)
+            self.said.add((row.label, name))
             self.failures.append(f"{row.label}: {error}: 'repair {row.label}'")
             return
         self.made += 1
+        if had is None or had > image.length:
+            forget_seen(self.catalogue, row.number, name)
+        else:
+            save_seen(self.catalogue, row.number, name, image.commit_at(had), had)
         trouble = None
         if had is None:
             trouble = "is not there"
@@ -156,6 +179,7 @@ class OpenCopies:
         elif had < image.length:
             trouble = f"lacks the last {size(image.length - had)}"
         if trouble:
+            self.said.add((row.label, name))
             self.failures.append(f"{row.label}: the copy on {name} {trouble}: 'udfburn-archive copy'")
         self.tell.say_step(f"{row.label} on {name}: {trouble or 'is intact'}", did="checked", volume=row.label, remote=name, trouble=trouble)
 

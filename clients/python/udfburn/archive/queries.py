@@ -106,6 +106,7 @@ def status_line(line: VolumeStatus, elsewhere: str) -> str:
     words += f", put away at {line.place}" if line.place is not None and not line.at_hand else ""
     remotes = [copy.remote for copy in line.copies if not copy.disc()]
     words += f", copies {', '.join(remotes)}" if remotes else ""
+    words += "".join(f", {lag.words()}" for lag in line.lags)
     words += "".join(f", disc {copy.disc()} of {stamp(copy.made)[:10]}" for copy in line.copies if copy.disc())
     return words + (f", at {elsewhere}" if elsewhere else "")
 
@@ -120,5 +121,6 @@ def status_fields(line: VolumeStatus, holders: Dict[str, str]) -> Dict[str, obje
         "sha256": row.sha256.hex() if row.sha256 else None, "length": row.length, "checked": row.checked, "data_checked": row.data_checked,
         "copies": [{"remote": copy.remote, "checked": copy.checked, "trouble": copy.trouble} for copy in line.copies if not copy.disc()],
         "discs": [{"disc": copy.disc(), "burned": copy.made, "checked": copy.checked, "trouble": copy.trouble} for copy in line.copies if copy.disc()],
+        "open_copies": [lag._asdict() for lag in line.lags],
         "attention": line.attention, "lost": line.lost, "place": line.place,
     }

@@ -14,7 +14,7 @@ from typing import Any, BinaryIO, Dict, Iterator, List, NamedTuple, Optional, Se
 
 from ..base.beneath import PIECE, Place
 from ..base.own_files import BytesTold, untold
-from .errors import CopyFailed
+from .errors import CopyDiffers, CopyFailed
 from .remote import UNREADABLE, Print, Remote, failed, forget, last_line
 
 NOT_THERE = (3, 4)
@@ -207,7 +207,7 @@ class RcloneRemote(Remote):
         if tail.end > length:
             raise CopyFailed(f"{self._path(file)}: the image has {length} bytes: it is an older copy, or was cut short")
         if self.ask(file) != print_of_range(image, tail.start, tail.end):
-            raise CopyFailed(f"{self._path(file)}: differs from the image, and is not changed: it is damaged, or a copy of another image")
+            raise CopyDiffers(f"{self._path(file)}: differs from the image, and is not changed: it is damaged, or a copy of another image")
         self._read.add(file)
 
     def _send_tail(self, image: int, name: str, tail: Tail) -> None:

@@ -23,6 +23,7 @@ from ..protocol.units import Commit
 from ..wire.operations import now
 from . import same_rows
 from .bag import manifest_size
+from .bundle import damaged_on
 from .catalogue import STATE_CLOSED, STATE_CLOSING, STATE_FULL, STATE_NEW, STATE_OPEN, STATE_RETIRED, Catalogue, Copy, Held, VolumeRow
 from .claims import claims_of
 from .close import beside, sidecar
@@ -31,6 +32,7 @@ from .contents import ABOUT, ARCHIVE, About, Contents, about_of, read_fields
 from .deletions import Event, events_on, replace_events
 from .errors import ArchiveError, CatalogueError, Claimed, CopyFailed, VolumeDiffers
 from .fetching import fetched, known_length, length_on
+from .lag import forget_beyond
 from .markers import markers_of, move_marker
 from .remake import NO_CATALOGUE, KeptCatalogue
 from .remotes import Print, Remote, owner_of, print_of_file, remote_of
@@ -88,6 +90,8 @@ class VolumeRead(NamedTuple):
     lines: List[Held]
     unlisted: Dict[Commit, str]
     """Bundles whose lists are damaged, by their commits, with what is said of each."""
+    damaged: List[Held]
+    """Members of bundles that are not as they were stored."""
 
 
 def read_volume(image: str, closed: bool, holder: str) -> Optional[VolumeRead]:
@@ -118,7 +122,9 @@ def _read_volume(image: str, closed: bool, holder: str) -> Optional[VolumeRead]:
         if closed and contents.is_bag():
             length, digest = sidecar(image)
             row = row._replace(state=STATE_CLOSED, length=length, sha256=digest, closed=contents.closed())
-        return VolumeRead(about, row, rows, events_on(contents, about.number), lines, unlisted)
+        # The digests of a closed volume are its manifest's, and its payload is not read.
+        damaged = [] if row.state == STATE_CLOSED else damaged_on(contents, lines)
+        return VolumeRead(about, row, rows, events_on(contents, about.number), lines, unlisted, damaged)
 
 
 def read_all(wanted: Iterable[Tuple[str, bool]], holder: str, several: bool) -> Generator[Tuple[str, Callable[[], Optional[VolumeRead]]], None, None]:
@@ -194,6 +200,8 @@ class Rebuilder:
         """The moment of the format and the last commit of each volume that was read, by its number."""
         self._copied: Set[int] = set()
         """Open volumes of which only copies were found."""
+        self._hurt: Set[int] = set()
+        """Those of them whose copies have damaged bundles."""
         self._listed: Optional[Dict[str, List[int]]] = None
         """What remotes have, once they were asked."""
 
@@ -293,10 +301,12 @@ class Rebuilder:
         """Learns the files of a copy of an open volume, where no catalogue says more of it: then its image is lost."""
         number = read.about.number
         known = self.catalogue.volume(number)
-        if known is None or number in self._copied and known.last_commit < read.row.last_commit:
+        hurt = bool(read.damaged or read.unlisted)
+        if known is None or number in self._copied and (known.last_commit, number not in self._hurt) < (read.row.last_commit, not hurt):
             self._forget_copied(number)
             self._one(image, read)
             self._copied.add(number)
+            self._hurt = self._hurt | {number} if hurt else self._hurt - {number}
 
     def _forget_copied(self, number: int) -> None:
         """Has what comes next count in the place of an open volume's copy."""
@@ -366,17 +376,24 @@ class Rebuilder:
         # What the catalogue has of a bundle whose list is damaged is all that is known of its files.
         lines = read.lines + [held._replace(there=True) for held in noted if held.is_member() and held.commit in read.unlisted]
         self.summary.failures += read.unlisted.values()
+        self.summary.failures += [f"{shown(image)}: {shown_path(held.path)} is not as it was stored" for held in read.damaged]
         if is_new:
             self.summary.unknown[read.row.label] = read.row.files
         else:
             self._compare(read.row.label, known + noted, read.rows + lines)
         if not self.dry_run:
-            replace_events(self.catalogue, number, read.events)
-            same_rows.replace_lines(self.catalogue, number, lines)
-            self.catalogue.replace(self._row(read.row, closed, old), read.rows)
+            self._keep(read, lines, old)
         self.summary.volumes += 1
         self.summary.files += read.row.files
         self.tell.working(f"read {plural(self.summary.volumes, 'volume', 'volumes')}, {plural(self.summary.files, 'file', 'files')}")
+
+    def _keep(self, read: VolumeRead, lines: List[Held], old: Optional[VolumeRow]) -> None:
+        """Has the catalogue say what was read of a volume."""
+        number, closed = read.about.number, read.row.state == STATE_CLOSED
+        forget_beyond(self.catalogue, number, Commit(0) if closed else read.row.last_commit)
+        replace_events(self.catalogue, number, read.events)
+        same_rows.replace_lines(self.catalogue, number, lines)
+        self.catalogue.replace(self._row(read.row, closed, old), read.rows)
 
     def _is_older(self, old: VolumeRow, row: VolumeRow) -> bool:
         """Whether an open image is not the volume any more: that one was closed, or another folder has it and has filled it since."""

@@ -48,6 +48,11 @@ ODD_LINES = " OR ".join(
 )
 """What no row of a line or of a member of a bundle is."""
 
+ODD_SEEN = " OR ".join(
+    [f"typeof({name}) <> 'integer'" for name in ("volume", "last_commit", "length", "seen")] + ["typeof(remote) <> 'text'", f"seen NOT BETWEEN 0 AND {limits.MOMENT}"]
+)
+"""What no row of a copy of an open volume is."""
+
 
 class KeptCatalogue(NamedTuple):
     """What could still be read of a catalogue that was put aside."""
@@ -131,10 +136,12 @@ def why_odd(config: Config, base: SqliteBase) -> Optional[str]:
         return "a row of a file or a folder is none"
     if base.run(f"SELECT 1 FROM gone WHERE {ODD_EVENTS} LIMIT 1"):
         return "a row of a deletion is none"
+    if base.run(f"SELECT 1 FROM open_copy WHERE {ODD_SEEN} LIMIT 1"):
+        return "a row of a copy of an open volume is none"
     if base.run(f"SELECT 1 FROM same WHERE {ODD_LINES} LIMIT 1"):
         return "a row of a file whose bytes are another's is none"
     # Each text has to be UTF-8. The index of names is made again if it is damaged, but it has to be one.
-    for statement in ("SELECT id, host, place FROM holder", "SELECT name FROM file", "SELECT path FROM folder", "SELECT name FROM gone", "SELECT name, target_path FROM same", "SELECT rowid FROM name_text LIMIT 1"):
+    for statement in ("SELECT id, host, place FROM holder", "SELECT name FROM file", "SELECT path FROM folder", "SELECT name FROM gone", "SELECT name, target_path FROM same", "SELECT remote FROM open_copy", "SELECT rowid FROM name_text LIMIT 1"):
         for _ in base.stream(statement):
             pass
     return None

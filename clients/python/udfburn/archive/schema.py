@@ -7,14 +7,14 @@ its own. The fourth has where users have put images away. The fifth has the engi
 `known_name`, which has each name once, or more often where its files were gone meanwhile; an index by pg_trgm. The sixth has what was
 deleted at its source. The seventh has files whose bytes are another's, which it finds by size and the first bytes of the SHA-256; their
 names have ids below 0. The eighth has bundles: each is a file whose name begins with a slash, and that no table of names has; its members
-are rows of `same` with the byte of it with which they begin.
+are rows of `same` with the byte of it with which they begin. The ninth has what copies of open volumes had when they were last looked at.
 """
 
 from __future__ import annotations
 
 from typing import List
 
-CATALOGUE_VERSION = 8
+CATALOGUE_VERSION = 9
 """The version of the tables that this program reads and writes."""
 
 COMMITS = 1 << 18
@@ -163,9 +163,15 @@ CREATE OR REPLACE VIEW by_ending AS SELECT ending, path, file.id, part_count FRO
 UNION ALL SELECT ending, path, -(volume * {COMMITS} + commit_number), part_count * 0 FROM same JOIN folder ON folder.id = folder
 """
 
+NINTH = """
+CREATE TABLE open_copy (
+    volume BIGINT NOT NULL, remote {text} NOT NULL, last_commit BIGINT NOT NULL, length BIGINT NOT NULL, seen BIGINT NOT NULL, PRIMARY KEY (volume, remote)
+)
+"""
+
 MIGRATIONS = {
-    "sqlite": [FIRST_TABLES, SECOND_SQLITE, THIRD.rstrip() + " WITHOUT ROWID", FOURTH, FIFTH_SQLITE, SIXTH, SEVENTH_SQLITE, EIGHTH],
-    "postgresql": [FIRST_TABLES, SECOND_POSTGRESQL, THIRD, FOURTH, FIFTH_POSTGRESQL, SIXTH, SEVENTH_POSTGRESQL, EIGHTH_POSTGRESQL],
+    "sqlite": [FIRST_TABLES, SECOND_SQLITE, THIRD.rstrip() + " WITHOUT ROWID", FOURTH, FIFTH_SQLITE, SIXTH, SEVENTH_SQLITE, EIGHTH, NINTH],
+    "postgresql": [FIRST_TABLES, SECOND_POSTGRESQL, THIRD, FOURTH, FIFTH_POSTGRESQL, SIXTH, SEVENTH_POSTGRESQL, EIGHTH_POSTGRESQL, NINTH],
 }
 """The statements of an engine that make version n + 1 of version n, from the empty one on."""
 

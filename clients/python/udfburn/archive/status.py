@@ -14,6 +14,8 @@ from .batch import sound_length
 from .catalogue import FILE_COLUMNS, STATE_CLOSED, STATE_CLOSING, STATE_FULL, STATE_NEW, STATE_RETIRED, Catalogue, Copy, Held, VolumeRow, folder_back, held_row, image_of, is_whole
 from .config import Config, volume_label
 from .errors import LOST, VolumeDiffers
+from .lag import Lag, lags, seen_copies
+from .open_copies import GROWING
 from .same_rows import WithoutBytes
 from .same_rows import lacking as without_bytes
 from .tell import plural, shown_path
@@ -25,14 +27,14 @@ UNITS = {"h": HOUR, "d": 24 * HOUR, "w": 168 * HOUR}
 """Microseconds of the units of an age."""
 
 STALE = 400 * UNITS["d"]
-"""Microseconds after which a closed volume or a copy should be looked at again, where no other age is asked for."""
+"""Microseconds after which a closed volume or a copy should be looked at again, and an open one copied, where no other age is asked for."""
 
 NEED_KINDS = (
-    "lost", "damaged", "copy_damaged", "not_closed", "not_copied", "not_checked", "copy_not_checked", "older_image", "cut_short", "incomplete",
+    "lost", "damaged", "copy_damaged", "not_closed", "not_copied", "not_checked", "copy_not_checked", "copy_behind", "older_image", "cut_short", "incomplete",
 )
 """What somebody may be needed for."""
 
-HURT = ("lost", "damaged", "copy_damaged")
+HURT = ("lost", "damaged", "copy_damaged", "copy_behind")
 """Those of which `check` says what they are."""
 
 
@@ -55,6 +57,8 @@ class VolumeStatus(NamedTuple):
     needs: List[Need]
     place: Optional[str]
     """Where the user has put the image."""
+    lags: List[Lag]
+    """What the copies of an open volume of this folder lack."""
 
     @property
     def attention(self) -> List[str]:
@@ -151,6 +155,12 @@ def unchecked(row: VolumeRow, at_hand: bool, copies: List[Copy], now: int, stale
     return found
 
 
+def behind(lagging: Sequence[Lag], now: int, stale: int) -> List[Need]:
+    """What the copies of an open volume lack for longer than an age."""
+    old = [(lag, now - lag.since) for lag in lagging if lag.since is not None and now - lag.since > stale]
+    return [Need("copy_behind", f"has what was not copied to {lag.remote} for {days(count)}: 'copy'", lag.remote) for lag, count in old]
+
+
 def days(count: int) -> str:
     """Microseconds in whole days, or in hours where they are fewer than two days."""
     return plural(count // UNITS["d"], "day", "days") if count >= 2 * UNITS["d"] else plural(count // HOUR, "hour", "hours")
@@ -188,7 +198,7 @@ def lines(config: Config, catalogue: Catalogue, stale: int = STALE) -> List[Volu
     copies: Dict[int, List[Copy]] = {}
     for copy in catalogue.copies():
         copies.setdefault(copy.volume, []).append(copy)
-    now, places = time.time_ns() // 1000, catalogue.put_away()
+    now, places, seen = time.time_ns() // 1000, catalogue.put_away(), seen_copies(catalogue)
     found = []
     for row in catalogue.volumes():
         own, at_hand = row.holder == config.id, image_of(config, row) is not None
@@ -196,8 +206,9 @@ def lines(config: Config, catalogue: Catalogue, stale: int = STALE) -> List[Volu
         state = state_of(row, at_hand, good(have, config), config, own)
         lost = is_lost(row, config, at_hand, places.get(row.number))
         needed = [Need("lost", loss(row, have, config))] if lost else []
-        needed += needs(row, at_hand, have, config, now, stale) + (batch_words(config, row) or damaged(config, row))
-        found.append(VolumeStatus(row, state, at_hand, fullness(row, config.nodes), have, needed, places.get(row.number)))
+        lagging = lags(catalogue, row, seen, config.copies) if own and row.state in GROWING and row.files else []
+        needed += needs(row, at_hand, have, config, now, stale) + behind(lagging, now, stale) + (batch_words(config, row) or damaged(config, row))
+        found.append(VolumeStatus(row, state, at_hand, fullness(row, config.nodes), have, needed, places.get(row.number), lagging))
     return sorted(found, key=lambda line: (not line.needs, line.row.number))
 
 
