@@ -2,6 +2,7 @@
 # Faults put under the built programs: failing calls, kills, lost power, odd files, memory that runs out, many clients.
 #
 # usage: test/faults.sh [UDFBURN UDFBURND [MODULE..]]
+# APPLY_GROUPS of the environment is the path of the program that answers in groups; without one, what tries it is left out.
 # Its last line is 'faults: N passed, M failed, K skipped'. It takes Python 3.9 or later and gcc; what needs root or a feature of the
 # kernel that is not there says that it was left out, and why. With CI=true only what the machine truly lacks may be left out.
 set -eu
@@ -17,6 +18,10 @@ if [ $# -ge 2 ]; then
 else
     udfburn=$home/../crates/udfburn/out/udfburn
     udfburnd=$home/../crates/udfburnd/out/udfburnd
+fi
+if [ -n "${APPLY_GROUPS:-}" ]; then
+    APPLY_GROUPS=$(absolute "$APPLY_GROUPS")
+    export APPLY_GROUPS
 fi
 for tool in python3 gcc; do
     if ! command -v "$tool" > /dev/null; then

@@ -46,6 +46,8 @@ def main() -> int:
     # Another user reads some of what is made here.
     os.umask(0o022)
     os.environ["UDFBURN"], os.environ["UDFBURND"] = (os.path.abspath(word) for word in asked.words[:2])
+    if os.environ.get("APPLY_GROUPS"):
+        os.environ["APPLY_GROUPS"] = os.path.abspath(os.environ["APPLY_GROUPS"])
     here = Path(__file__).resolve().parent
     found = {path.stem for pattern in ("test_*.py", "load_*.py") for path in here.glob(pattern)}
     names = sorted(asked.words[2:] or found - {SUPPORT}, key=lambda name: (name not in LONG, name))

@@ -1,7 +1,7 @@
 """The programs and the shims.
 
 The programs are those that UDFBURN and UDFBURND name, else those that the repository builds. They are copied into a folder that
-every user may read, beside the shims, which gcc makes there.
+every user may read, beside the shims, which gcc makes there. The one that answers in groups comes along where APPLY_GROUPS names it.
 """
 from __future__ import annotations
 
@@ -12,7 +12,7 @@ import stat
 import subprocess
 import tempfile
 from pathlib import Path
-from typing import NamedTuple, Optional
+from typing import NamedTuple, Optional, Union
 
 from faults.machine import lacks, need_tools
 
@@ -28,6 +28,8 @@ class Built(NamedTuple):
     shim: str
     allocfail: str
     room: str
+    # Empty where there is none.
+    apply_groups: str
 
 
 def _rooms() -> Optional[str]:
@@ -54,16 +56,26 @@ def build() -> Built:
     room.chmod(0o755)
     maker = os.getpid()
     atexit.register(lambda: shutil.rmtree(room, ignore_errors=True) if os.getpid() == maker else None)
-    programs = []
     for name in ("udfburn", "udfburnd"):
-        default = REPOSITORY / "crates" / name / "out" / name
-        copy = room / name
-        shutil.copyfile(os.environ.get(name.upper()) or default, copy)
-        copy.chmod(0o755)
-        programs.append(str(copy))
+        lend(os.environ.get(name.upper()) or REPOSITORY / "crates" / name / "out" / name, room / name)
+    if os.environ.get("APPLY_GROUPS"):
+        lend(os.environ["APPLY_GROUPS"], room / "apply_groups")
     for name in ("shim", "allocfail"):
         compile_shim(HERE / (name + ".c"), room / (name + ".so"))
-    return Built(programs[0], programs[1], str(room / "shim.so"), str(room / "allocfail.so"), str(room))
+    return found_in(room)
+
+
+def lend(program: Union[str, Path], copy: Path) -> None:
+    """Copies a program to where every user may run it."""
+    shutil.copyfile(program, copy)
+    copy.chmod(0o755)
+
+
+def found_in(room: Path) -> Built:
+    """What is in such a folder."""
+    udfburn, udfburnd, shim, allocfail = (str(room / name) for name in ("udfburn", "udfburnd", "shim.so", "allocfail.so"))
+    groups = room / "apply_groups"
+    return Built(udfburn, udfburnd, shim, allocfail, str(room), str(groups) if groups.exists() else "")
 
 
 _built: Optional[Built] = None
@@ -74,11 +86,7 @@ def built() -> Built:
     global _built
     if _built is None:
         room = os.environ.get("FAULTS_BUILT")
-        if room:
-            udfburn, udfburnd, shim, allocfail = (os.path.join(room, name) for name in ("udfburn", "udfburnd", "shim.so", "allocfail.so"))
-            _built = Built(udfburn, udfburnd, shim, allocfail, room)
-        else:
-            _built = build()
+        _built = found_in(Path(room)) if room else build()
     return _built
 
 

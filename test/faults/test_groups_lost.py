@@ -1,0 +1,267 @@
+"""Groups that are cut: power lost at every call, and kills. What is left is a state of the run, and nothing that was answered is lost."""
+from __future__ import annotations
+
+import random
+import re
+import subprocess
+import tempfile
+import time
+from typing import Iterator, NamedTuple, Optional, Sequence
+
+from faults.case import differing
+from faults.groups import Grouped, Item, Told, filled, marks_of, need_groups, replayed, running, stream_of
+from faults.log import Record, read_log
+from faults.pages import Disk, Loss, losses, run_losses
+from faults.programs import built
+from faults.running import environment
+from protocol import BLOCK, Answer, Model, Request, answers_of, encode, paths_of, questions, split_answers
+
+# Whether a power loss between the two syncs of a group may leave a hole in the history: a mark that is missing before one that is there.
+# Then the state is that of the last mark, and `check` ends with 67 and cause 78. If this is False, the state must be the one before the
+# first mark that is missing, and `check` must find it sound.
+HOLES_MAY_BE = True
+
+SEED = 20261129
+KILLED = -9
+HOLE = re.compile(rb"udfburn: 67 Damaged block [0-9]+ cause 78\n")
+
+
+def setUpModule() -> None:  # noqa: N802
+    need_groups()
+
+
+def data_of(size: int) -> bytes:
+    return random.Random(size).randbytes(size)
+
+
+# Groups of three, five and two commits.
+THREE: list[Item] = [
+    *filled([
+        Request("create", 1, 1, "/a", b"first"),
+        Request("mkdir", 2, 1, "/d"),
+        Request("create", 1, 2, "/d/x", data_of(5000)),
+    ]),
+    *filled([
+        Request("rename", 2, 2, "/a", to="/d/y"),
+        Request("create", 1, 3, "/d/x", b"refused"),
+        Request("replace", 1, 4, "/d/x", b"third"),
+        Request("remove", 2, 3, "/d/y"),
+        Request("mkdir", 2, 4, "/e"),
+    ]),
+    *filled([
+        Request("create", 1, 5, "/long", data_of(20_000)),
+        Request("rename", 2, 5, "/d", to="/e/d"),
+    ]),
+]
+
+
+class Left(NamedTuple):
+    """An image that a power loss leaves, and the latest commit that was answered before."""
+
+    how: str
+    content: bytes
+    acknowledged: int
+
+
+class Cut(Grouped):
+    """What is left of a stream that was cut."""
+
+    def setUp(self) -> None:
+        super().setUp()
+        self.images = self.holes = 0
+
+    def run_of(self, items: Sequence[Item], rules: str = "", capacity: int = 1000) -> tuple[bytes, list[Record], list[Answer]]:
+        """Answers a stream: the image before, the calls behind the opening, and the answers."""
+        before = self.fresh(capacity=capacity).read_bytes()
+        ran = self.groups(stream_of(items), rules=rules, log=self.new_log())
+        self.assertEqual((ran.status, ran.errors), (0, b""))
+        answers = answers_of(ran.output)
+        self.assertEqual(replayed(items, answers)[1], [])
+        return before, list(running(read_log(self.log_path()))), answers
+
+    def prepared(self, items: Sequence[Item], final: bytes) -> None:
+        """What `looked_at` compares with: the marks, and what can be asked after each commit."""
+        self.items = items
+        self.requests = requests = [item for item in items if isinstance(item, Request)]
+        self.marks = [(at, final[at * BLOCK:(at + 1) * BLOCK]) for at in marks_of(final, 0)][1:]
+        clients = sorted({request.client for request in requests})
+        # A number far ahead is answered by the latest one.
+        self.ahead = [Request("mkdir", client, (1 << 64) - 1, "/") for client in clients]
+        self.paths = paths_of(requests)
+        self.asked = b"".join(map(encode, self.ahead)) + questions(self.paths)
+        self.assertEqual(len(self.marks), len(requests))
+
+    def state(self, commits: int) -> Model:
+        """The volume after the first commits of the stream."""
+        model = Model()
+        for request in self.requests[:commits]:
+            model.answer(request)
+        return model
+
+    def looks(self, commits: int, how: str) -> None:
+        """The image has this state of the run, by all that can be asked of it."""
+        state = self.state(commits)
+        ran = self.apply(self.asked)
+        self.assertEqual((ran.status, ran.errors), (0, b""), how)
+        wanted = [state.answer(request) for request in self.ahead] + state.told(self.paths)
+        self.assertEqual(differing(answers_of(ran.output), wanted), [], how)
+
+    def marks_in(self, content: bytes) -> list[bool]:
+        """Which of the marks are there."""
+        return [content[at * BLOCK:(at + 1) * BLOCK] == mark for at, mark in self.marks]
+
+    def state_in(self, content: bytes) -> tuple[int, bool]:
+        """The number of commits that an image must show, and whether its history has a hole."""
+        there = self.marks_in(content)
+        sound = (there + [False]).index(False)
+        last = len(there) - there[::-1].index(True) if any(there) else 0
+        return (last, sound < last) if HOLES_MAY_BE else (sound, False)
+
+    def checked(self, commits: int, has_hole: bool, how: str) -> None:
+        ran = self.udfburn("check", "d.img")
+        if has_hole:
+            self.assertEqual((ran.status, ran.output), (1, b""), how)
+            self.assertTrue(HOLE.fullmatch(ran.errors), "%s: %r" % (how, ran.errors))
+        else:
+            self.assertEqual((ran.status, ran.output, ran.errors), (0, b"sound %d\n" % commits, b""), how)
+
+    def looked_at(self, left: Left) -> None:
+        """The image is a state of the run that is not before what was answered, and the same stream brings it to the end."""
+        self.images += 1
+        self.path("d.img").write_bytes(left.content)
+        commits, has_hole = self.state_in(left.content)
+        self.holes += has_hole
+        self.assertTrue(all(self.marks_in(left.content)[:left.acknowledged]), left.how + ": an acknowledged commit is lost")
+        self.checked(commits, has_hole, left.how)
+        self.looks(commits, left.how)
+        self.again(commits, left.how)
+        self.checked(len(self.marks), has_hole, left.how)
+
+    def again(self, commits: int, how: str) -> None:
+        """The same stream on what is left: each commit that is there is answered as before, or as stale, and the others are done."""
+        ran = self.groups(stream_of(self.items))
+        self.assertEqual((ran.status, ran.errors), (0, b""), how)
+        model, wrong = replayed(self.items, answers_of(ran.output), self.state(commits))
+        self.assertEqual((model.commits, wrong), (len(self.marks), []), how)
+        self.looks(model.commits, how)
+
+
+class Power(Cut):
+    def lose(self, before: bytes, records: Sequence[Record], answers: Sequence[Answer], page: int, share: float,
+             on_failure: Optional[random.Random] = None) -> Iterator[Left]:
+        """What power losses leave, at each call; of those with no commit that was not answered only a share."""
+        chance, told, output = random.Random(SEED + page), Told.of(answers), 0
+        disk, seen = Disk(before, page, on_failure), set()
+        for index, record in enumerate(records):
+            disk.call(record)
+            output += len(record.data) if record.kind == "stdout" else 0
+            acknowledged = told.promised(output)
+            for loss in self.losses(disk, records[index + 1:], chance):
+                if (acknowledged, loss.content) in seen:
+                    continue
+                seen.add((acknowledged, loss.content))
+                if self.state_in(loss.content)[0] > acknowledged or chance.random() < share:
+                    yield Left("call %d (%s), pages of %d, %s" % (index, record.kind, page, loss.how), loss.content, acknowledged)
+
+    def losses(self, disk: Disk, following: Sequence[Record], chance: random.Random) -> Iterator[Loss]:
+        """The losses of the model, and every subset of the pages with marks before the sync of these."""
+        yield from losses(disk, chance, 1)
+        changing = next((record.kind for record in following if record.kind in ("pwrite", "fsync", "ftruncate")), "")
+        if changing == "fsync" and self.state_in(bytes(disk.cache))[0] > self.state_in(bytes(disk.disk))[0]:
+            yield from run_losses(disk, chance, 0)
+
+    def all_looked_at(self, found: Iterator[Left]) -> None:
+        for left in found:
+            with self.subTest(left.how):
+                self.looked_at(left)
+
+    def counted(self, least: int) -> None:
+        """Tells how many images there were, and that they were not few."""
+        print("groups: %d images, %d with a hole" % (self.images, self.holes))
+        self.assertGreater(self.images, least)
+
+    def test_each_call(self) -> None:
+        before, records, answers = self.run_of(THREE)
+        self.prepared(THREE, self.path("d.img").read_bytes())
+        for page in (4096, 2048):
+            self.all_looked_at(self.lose(before, records, answers, page, 0.15))
+        self.counted(100)
+        self.assertEqual(self.holes > 0, HOLES_MAY_BE)
+
+    def test_a_failed_sync(self) -> None:
+        """Each sync of a group fails, and its pages are lost or not. What is done one by one behind it is lost or kept as ever."""
+        before, _, _ = self.run_of(THREE)
+        final = self.path("d.img").read_bytes()
+        self.prepared(THREE, final)
+        for rule in ("fsync:4:E5", "fsync:5:A5"):
+            _, records, answers = self.run_of(THREE, rule)
+            self.assertTrue(self.path("d.img").read_bytes() == final)
+            self.assertTrue(any(record.kind == "fsync" and record.error for record in records))
+            self.all_looked_at(self.lose(before, records, answers, 4096, 0.0, random.Random(SEED)))
+        self.counted(20)
+
+    def test_a_loss_behind_a_loss(self) -> None:
+        """The stream goes on behind blocks of a group that was cut, and is cut again."""
+        before, records, answers = self.run_of(THREE)
+        self.prepared(THREE, self.path("d.img").read_bytes())
+        cut = [left.content for left in self.lose(before, records, answers, 4096, 1.0)
+               if self.state_in(left.content) == (left.acknowledged, False) and len(left.content) > len(before)]
+        for content in random.Random(SEED).sample(cut, 3):
+            self.path("d.img").write_bytes(content)
+            ran = self.groups(stream_of(THREE), log=self.new_log())
+            self.prepared(THREE, self.path("d.img").read_bytes())
+            records = list(running(read_log(self.log_path())))
+            self.all_looked_at(self.lose(content, records, answers_of(ran.output), 4096, 0.02))
+        self.counted(20)
+
+    def test_a_sync_that_lies_is_seen(self) -> None:
+        """Without the first sync of a group there are losses that no image of it may show."""
+        before, records, answers = self.run_of(THREE, "fsync:4:L")
+        self.prepared(THREE, self.path("d.img").read_bytes())
+        with self.assertRaises(AssertionError):
+            for left in self.lose(before, records, answers, 4096, 0.0):
+                self.looked_at(left)
+
+
+# Groups of up to 64 small files, in five pieces of the input.
+MANY: list[Item] = [Request("create", 1 + number % 2, 1 + number // 2, "/%d" % number, data_of(7 * number % 1300)) for number in range(400)]
+KILLS = 30
+
+
+class Kills(Cut):
+    def killed(self, rules: str, seconds: Optional[float]) -> tuple[int, list[Answer]]:
+        """Kills a run so many seconds behind its begin, if the rules do not: its status, and what it had answered whole."""
+        with tempfile.TemporaryFile(dir=built().room) as given:
+            given.write(stream_of(MANY))
+            given.seek(0)
+            process = subprocess.Popen([built().apply_groups, "d.img"], stdin=given, stdout=subprocess.PIPE, cwd=self.folder,
+                                       env=environment("d.img", None, rules))
+        if seconds is not None:
+            time.sleep(seconds)
+            process.kill()
+        output, _ = process.communicate()
+        return process.returncode, split_answers(output)[0]
+
+    def test_at_random(self) -> None:
+        """The files are there that were answered, in the order of the stream, and the same stream brings all of them."""
+        chance, killed, unanswered = random.Random(SEED), 0, 0
+        before, records, wanted = self.run_of(MANY, capacity=9000)
+        self.prepared(MANY, self.path("d.img").read_bytes())
+        writes = sum(record.kind == "pwrite" for record in records)
+        for number in range(KILLS):
+            # Mostly at a sync, mostly at a write, and within a write.
+            rules, seconds = (("fsync:*:D20", 0.4), ("pwrite:*:D1", 1.3), ("pwrite:%d:P1000K" % chance.randint(1, writes), 0.0))[number % 3]
+            self.path("d.img").write_bytes(before)
+            status, answers = self.killed(rules, chance.uniform(0.0, seconds) if seconds else None)
+            with self.subTest(number=number, rules=rules, answered=len(answers)):
+                self.assertIn(status, (0, KILLED))
+                self.assertEqual(differing(answers, wanted[:len(answers)]), [])
+                content = self.path("d.img").read_bytes()
+                commits, has_hole = self.state_in(content)
+                self.assertFalse(has_hole)
+                self.looked_at(Left("kill %d" % number, content, len(answers)))
+            killed += status == KILLED
+            unanswered += len(answers) < commits
+        print("groups: %d kills, %d of them with commits that were not answered" % (killed, unanswered))
+        self.assertGreater(killed, 20)
+        self.assertGreater(unanswered, 0)
