@@ -6,6 +6,7 @@ import re
 import subprocess
 import tempfile
 import time
+import unittest
 from typing import Iterator, NamedTuple, Optional, Sequence
 
 from faults.case import differing
@@ -146,6 +147,13 @@ class Cut(Grouped):
         self.looks(model.commits, how)
 
 
+class Everything(random.Random):
+    """A chance by which a failed sync wrote each page."""
+
+    def random(self) -> float:
+        return 0.0
+
+
 class Power(Cut):
     def lose(self, before: bytes, records: Sequence[Record], answers: Sequence[Answer], page: int, share: float,
              on_failure: Optional[random.Random] = None) -> Iterator[Left]:
@@ -199,6 +207,23 @@ class Power(Cut):
             self.assertTrue(any(record.kind == "fsync" and record.error for record in records))
             self.all_looked_at(self.lose(before, records, answers, 4096, 0.0, random.Random(SEED)))
         self.counted(20)
+
+    # It does not hold yet: the volume is damaged then. Take the line away once it holds.
+    @unittest.expectedFailure
+    def test_a_cut_behind_marks(self) -> None:
+        """The second sync of a group fails, though the disk has the marks, and the power goes while the group is taken back: the disk has the
+        page in which the file was cut, with zeros behind the cut, but not yet the new length. What the marks lead to is there, or no mark is."""
+        before, _, _ = self.run_of(THREE)
+        self.prepared(THREE, self.path("d.img").read_bytes())
+        _, records, answers = self.run_of(THREE, "fsync:5:A5")
+        told, disk, output = Told.of(answers), Disk(before, 4096, Everything()), 0
+        for index, record in enumerate(records):
+            disk.call(record)
+            output += len(record.data) if record.kind == "stdout" else 0
+            if disk.cut is not None:
+                content = disk.left(lambda pages: [True] * pages, len(disk.disk), is_cut=False)
+                self.looked_at(Left("call %d (%s)" % (index, record.kind), content, told.promised(output)))
+        self.counted(0)
 
     def test_a_loss_behind_a_loss(self) -> None:
         """The stream goes on behind blocks of a group that was cut, and is cut again."""
