@@ -18,8 +18,8 @@ from faults.running import environment
 from protocol import BLOCK, Answer, Model, Request, answers_of, encode, paths_of, questions, split_answers
 
 # Whether a power loss between the two syncs of a group may leave a hole in the history: a mark that is missing before one that is there.
-# Then the state is that of the last mark, and `check` ends with 67 and cause 78. If this is False, the state must be the one before the
-# first mark that is missing, and `check` must find it sound.
+# Then the state is that of the last mark, and `check` ends with 67 and cause 78. If this is False, any state is right that is not before
+# what was answered, and `check` must find it sound once a writer has opened the image.
 HOLES_MAY_BE = True
 
 SEED = 20261129
@@ -112,11 +112,10 @@ class Cut(Grouped):
         return [content[at * BLOCK:(at + 1) * BLOCK] == mark for at, mark in self.marks]
 
     def state_in(self, content: bytes) -> tuple[int, bool]:
-        """The number of commits that an image must show, and whether its history has a hole."""
+        """The last commit whose mark is there, and whether one before it is missing."""
         there = self.marks_in(content)
-        sound = (there + [False]).index(False)
         last = len(there) - there[::-1].index(True) if any(there) else 0
-        return (last, sound < last) if HOLES_MAY_BE else (sound, False)
+        return last, not all(there[:last])
 
     def checked(self, commits: int, has_hole: bool, how: str) -> None:
         ran = self.udfburn("check", "d.img")
@@ -131,8 +130,12 @@ class Cut(Grouped):
         self.images += 1
         self.path("d.img").write_bytes(left.content)
         commits, has_hole = self.state_in(left.content)
-        self.holes += has_hole
         self.assertTrue(all(self.marks_in(left.content)[:left.acknowledged]), left.how + ": an acknowledged commit is lost")
+        if not HOLES_MAY_BE:
+            self.apply(self.asked)
+            commits, has_hole = self.sound(), False
+            self.assertGreaterEqual(commits, left.acknowledged, left.how)
+        self.holes += has_hole
         self.checked(commits, has_hole, left.how)
         self.looks(commits, left.how)
         self.again(commits, left.how)
