@@ -6,6 +6,7 @@ import re
 import subprocess
 import tempfile
 import time
+import unittest
 from typing import Iterator, NamedTuple, Optional, Sequence
 
 from faults.case import differing
@@ -17,8 +18,8 @@ from faults.running import environment
 from protocol import BLOCK, Answer, Model, Request, answers_of, encode, paths_of, questions, split_answers
 
 # Whether a power loss between the two syncs of a group may leave a hole in the history: a mark that is missing before one that is there.
-# Then the state is that of the last mark, and `check` ends with 67 and cause 78. If this is False, the state must be the one before the
-# first mark that is missing, and `check` must find it sound.
+# Then the state is that of the last mark, and `check` ends with 67 and cause 78. If this is False, any state is right that is not before
+# what was answered, and `check` must find it sound once a writer has opened the image.
 HOLES_MAY_BE = True
 
 SEED = 20261129
@@ -111,11 +112,10 @@ class Cut(Grouped):
         return [content[at * BLOCK:(at + 1) * BLOCK] == mark for at, mark in self.marks]
 
     def state_in(self, content: bytes) -> tuple[int, bool]:
-        """The number of commits that an image must show, and whether its history has a hole."""
+        """The last commit whose mark is there, and whether one before it is missing."""
         there = self.marks_in(content)
-        sound = (there + [False]).index(False)
         last = len(there) - there[::-1].index(True) if any(there) else 0
-        return (last, sound < last) if HOLES_MAY_BE else (sound, False)
+        return last, not all(there[:last])
 
     def checked(self, commits: int, has_hole: bool, how: str) -> None:
         ran = self.udfburn("check", "d.img")
@@ -130,8 +130,12 @@ class Cut(Grouped):
         self.images += 1
         self.path("d.img").write_bytes(left.content)
         commits, has_hole = self.state_in(left.content)
-        self.holes += has_hole
         self.assertTrue(all(self.marks_in(left.content)[:left.acknowledged]), left.how + ": an acknowledged commit is lost")
+        if not HOLES_MAY_BE:
+            self.apply(self.asked)
+            commits, has_hole = self.sound(), False
+            self.assertGreaterEqual(commits, left.acknowledged, left.how)
+        self.holes += has_hole
         self.checked(commits, has_hole, left.how)
         self.looks(commits, left.how)
         self.again(commits, left.how)
@@ -144,6 +148,13 @@ class Cut(Grouped):
         model, wrong = replayed(self.items, answers_of(ran.output), self.state(commits))
         self.assertEqual((model.commits, wrong), (len(self.marks), []), how)
         self.looks(model.commits, how)
+
+
+class Everything(random.Random):
+    """A chance by which a failed sync wrote each page."""
+
+    def random(self) -> float:
+        return 0.0
 
 
 class Power(Cut):
@@ -199,6 +210,23 @@ class Power(Cut):
             self.assertTrue(any(record.kind == "fsync" and record.error for record in records))
             self.all_looked_at(self.lose(before, records, answers, 4096, 0.0, random.Random(SEED)))
         self.counted(20)
+
+    # It does not hold yet: the volume is damaged then. Take the line away once it holds.
+    @unittest.expectedFailure
+    def test_a_cut_behind_marks(self) -> None:
+        """The second sync of a group fails, though the disk has the marks, and the power goes while the group is taken back: the disk has the
+        page in which the file was cut, with zeros behind the cut, but not yet the new length. What the marks lead to is there, or no mark is."""
+        before, _, _ = self.run_of(THREE)
+        self.prepared(THREE, self.path("d.img").read_bytes())
+        _, records, answers = self.run_of(THREE, "fsync:5:A5")
+        told, disk, output = Told.of(answers), Disk(before, 4096, Everything()), 0
+        for index, record in enumerate(records):
+            disk.call(record)
+            output += len(record.data) if record.kind == "stdout" else 0
+            if disk.cut is not None:
+                content = disk.left(lambda pages: [True] * pages, len(disk.disk), is_cut=False)
+                self.looked_at(Left("call %d (%s)" % (index, record.kind), content, told.promised(output)))
+        self.counted(0)
 
     def test_a_loss_behind_a_loss(self) -> None:
         """The stream goes on behind blocks of a group that was cut, and is cut again."""
