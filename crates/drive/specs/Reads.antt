@@ -1,5 +1,6 @@
 -- What a call leaves of a drive: one that writes nothing, one that reads nothing, and one that may do both.
 use Rattle.std.specs.Prelude.{◌≡◌, ℕ, ◌+◌, ◌-◌, ◌^◌, ◌<◌, ◌≤◌, Bool, if◌then◌else◌, IsTrue}
+use Rattle.drive.specs.Gathering.{KeepsGathering}
 use Rattle.drive.specs.Journal.{counted}
 use Rattle.drive.specs.declared.Drive.{Ghosts}
 
@@ -20,6 +21,7 @@ pub record ReadsOnly {D : Type 0} (drive : Ghosts D) (failed : ℕ) (old new : D
   pub misreads : drive.misreads old ≤ drive.misreads new
   pub honest : IsTrue (drive.honest new) → IsTrue (drive.honest old)
   pub stays : drive.misreads new ≡ drive.misreads old → IsTrue (drive.honest old) → IsTrue (drive.honest new)
+  pub gathering : drive.gathering new ≡ drive.gathering old
 
 -- Whatever was written, a failure was counted where one was met, and nothing was read.
 pub record WritesOnly {D : Type 0} (drive : Ghosts D) (failed : Bool) (old new : D) : Type 0 where
@@ -27,6 +29,7 @@ pub record WritesOnly {D : Type 0} (drive : Ghosts D) (failed : Bool) (old new :
   pub failures : drive.failures new ≡ counted failed (drive.failures old)
   pub misreads : drive.misreads new ≡ drive.misreads old
   pub honest : drive.honest new ≡ drive.honest old
+  pub gathering : KeepsGathering (drive.gathering old) (drive.gathering new) (drive.writes old) (drive.writes new)
 
 -- Whatever was written and read, the rest is as of a call that writes nothing.
 pub record ReadsAndWrites {D : Type 0} (drive : Ghosts D) (failed : ℕ) (old new : D) : Type 0 where
@@ -35,3 +38,4 @@ pub record ReadsAndWrites {D : Type 0} (drive : Ghosts D) (failed : ℕ) (old ne
   pub misreads : drive.misreads old ≤ drive.misreads new
   pub honest : IsTrue (drive.honest new) → IsTrue (drive.honest old)
   pub stays : drive.misreads new ≡ drive.misreads old → IsTrue (drive.honest old) → IsTrue (drive.honest new)
+  pub gathering : KeepsGathering (drive.gathering old) (drive.gathering new) (drive.writes old) (drive.writes new)

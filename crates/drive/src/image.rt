@@ -62,6 +62,11 @@ impl Image {
         }
     }
 
+    /// Whether the file is open to be written.
+    pub fn is_open_to_write(&self) -> bool {
+        self.access == Access::Write
+    }
+
     /// How many whole blocks the file has. It is a fault if it is no regular file.
     pub(crate) fn count(&self) -> Result<u32, DriveFault> {
         let found = self.file.found()?;
@@ -97,7 +102,7 @@ impl Image {
 
     /// Reads the bytes after the last whole block to the beginning of `into`. Returns how many there are, at most
     /// 2,047.
-    pub(crate) fn part(&self, into: &mut Block) -> Result<usize, DriveFault>
+    pub fn part(&self, into: &mut Block) -> Result<usize, DriveFault>
         ensures { IfOk result (λ n. n < BLOCK_BYTES) }
     {
         let found = self.file.found()?;
@@ -158,6 +163,26 @@ impl Image {
             return Err(DriveFault);
         }
         self.file.write_all_at(block, offset(at))
+    }
+
+    /// Writes bytes after the `count` blocks that the file has or will have, and does not wait for the disk. They are
+    /// fewer than a block, so no count of blocks changes. The next block that is written overwrites them.
+    pub fn put_part(&mut self, count: u32, part: &[u8]) -> Result<(), DriveFault>
+        requires { length part.now < BLOCK_BYTES }
+    {
+        if self.access == Access::Read || self.is_torn {
+            return Err(DriveFault);
+        }
+        self.file.write_all_at(part, offset(count))
+    }
+
+    /// Cuts off the bytes after the `count` blocks of the file, and does not wait for the disk. It is a fault if the file
+    /// has another count of blocks, or no name.
+    pub fn drop_part(&mut self, count: u32) -> Result<(), DriveFault> {
+        if self.access == Access::Read || self.is_torn || !is_whole(&self.file, count) {
+            return Err(DriveFault);
+        }
+        self.file.set_len(offset(count))
     }
 
     /// Makes the file at least `count` blocks long, with zeros at the places that were left out, and waits until the

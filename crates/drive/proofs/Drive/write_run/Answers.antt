@@ -1,5 +1,6 @@
 use Rattle.std.proofs.Common.{◌++◌, ◌+◌, ◌≤◌, length, sym, ap, ◌∙◌, arith, append-nil, length-append, take_all, refl}
 use Rattle.drive.specs.Journal.{written}
+use Rattle.drive.proofs.Gathering.{keeps_none, keeps_then}
 use Rattle.drive.proofs.Packing.{packet_begins}
 use Rattle.drive.proofs.Running.{runs_none, runs_whole, runs_cut, runs_as, runs_front, packet_runs, packet_broken, packet_written}
 use Rattle.drive.proofs.Drive.write_run.Goals as goal
@@ -23,6 +24,7 @@ loop-done-preserved g c =
       failures = c.in-Ok.ensures.failures ∙ c.loop-done.invariant.failures;
       misreads = c.write.ensures.misreads ∙ c.loop-done.invariant.misreads;
       honest = c.write.ensures.honest ∙ c.loop-done.invariant.honest;
+      gathering = keeps_then c.loop-done.invariant.gathering c.write.ensures.gathering;
     }
 
 pub loop-done-init : goal.loop-done-init
@@ -34,6 +36,7 @@ loop-done-init g c = record {
   failures = refl;
   misreads = refl;
   honest = refl;
+  gathering = keeps_none (g.Self.Drive.gathering c.args.self.now) (g.Self.Drive.writes c.args.self.now);
 }
 
 pub returns-in-Err-clause-runs : goal.returns-in-Err-clause-runs
@@ -56,3 +59,6 @@ returns-clause-ok g c =
     let all = c.args.first.now ++ c.args.second.now in
     let J = g.Self.Drive.journal c.args.self.now in
     c.loop-done.invariant.journal ∙ ap (λ (bs : _). J ++ written c.args.at bs) (take_all c.loop-done.done all (omega (arith, c.loop-done-test.false, length-append c.args.first.now c.args.second.now)))
+
+pub returns-in-Err-clause-gathering : goal.returns-in-Err-clause-gathering
+returns-in-Err-clause-gathering g c = keeps_then c.loop-done.invariant.gathering c.write.ensures.gathering

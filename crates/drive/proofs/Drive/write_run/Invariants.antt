@@ -1,5 +1,6 @@
 use Rattle.std.proofs.Common.{◌≡◌, false, ◌+◌, ◌-◌, ◌≤◌, ◌++◌, length, take}
 use Rattle.drive.specs.Journal.{written}
+use Rattle.drive.specs.Gathering.{KeepsGathering}
 use Rattle.drive.specs.Writes.{SplitsRun}
 use Rattle.drive.proofs.Drive.write_run.Given as goal
 
@@ -13,6 +14,7 @@ invariant-loop-done g l = record {
   failures : g.Self.Drive.failures l.self ≡ g.Self.Drive.failures l.fn.self;
   misreads : g.Self.Drive.misreads l.self ≡ g.Self.Drive.misreads l.fn.self;
   honest : g.Self.Drive.honest l.self ≡ g.Self.Drive.honest l.fn.self;
+  gathering : KeepsGathering (g.Self.Drive.gathering l.fn.self) (g.Self.Drive.gathering l.self) (g.Self.Drive.writes l.fn.self) (g.Self.Drive.writes l.self);
 }
 
 abbrev pub decreases-loop-done : goal.decreases-loop-done

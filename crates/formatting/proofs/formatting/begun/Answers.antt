@@ -28,6 +28,7 @@ loop-n-preserved g c = record {
     misreads = c.read.ensures.misreads;
     honest = c.read.ensures.honest;
     stays = honest_stays g.D.Drive g.met.D.Drive.honest_is c.loop-n.drive c.read.new.self;
+    gathering = c.read.ensures.gathering;
   });
   failures = c.in-Ok-read.ensures.failures ∙ c.loop-n.invariant.failures;
 }

@@ -19,6 +19,7 @@ loop-left-init g c = record {
     misreads = omega (arith, c.next.ensures.misreads);
     honest = subst IsTrue c.next.ensures.honest;
     stays = λ same. subst IsTrue (sym c.next.ensures.honest);
+    gathering = c.next.ensures.gathering;
   };
 }
 

@@ -76,5 +76,6 @@ returns-clause-reads g c =
       misreads = omega (arith, c.next.ensures.misreads);
       honest = subst IsTrue c.next.ensures.honest;
       stays = λ same. subst IsTrue (sym c.next.ensures.honest);
+      gathering = c.next.ensures.gathering;
     } in
     subst (λ (n : ℕ). ReadsOnly g.D.Drive n c.args.drive.now c.next.new.self) (sym c.place.ensures.apart.device) reads

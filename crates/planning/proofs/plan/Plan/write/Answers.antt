@@ -6,6 +6,7 @@ use Rattle.planning.specs.declared.layout.PlacedDirectory.{PlacedDirectory}
 use Rattle.planning.specs.Plan.{file_list, directories_list, table_data, node_list, plan_blocks}
 use Rattle.drive.proofs.Packing.{stops_longer}
 use Rattle.planning.proofs.Plans.{plan_ends}
+use Rattle.drive.proofs.Reading.{writes_then}
 use Rattle.drive.proofs.Turns.{turn_whole, turn_cut}
 use Rattle.planning.proofs.Puttings.{takes_both, stops_first, stops_second, takes_written, stops_front, takes_fronted, alone_before, alone_after}
 use Rattle.planning.proofs.plan.Plan.write.Goals as goal
@@ -269,3 +270,17 @@ returns-clause-alone g c =
     let all = takes_both J J2 J3 w w2 w3 (node_list p) (t ++ e ∷ []) ((node_list p ++ t) ++ e ∷ []) (sym (append_assoc (node_list p) t (e ∷ []))) both c.in_ok-write_table.ensures.ok in
     alone_after J J3 c.finish_alone.new.drive (next_of (g.D.Drive.journal J)) w w3 (node_list p ++ t) e (c.hold.ensures ∙ c.requires.plan.begins) all c.in_ok-write_table.ensures.waits
     (turn_whole w3.blocks c.in_ok-finish_alone.ensures.ok) c.finish_alone.ensures.sent
+
+pub returns-in_err-write_directories-clause-writes : goal.returns-in_err-write_directories-clause-writes
+returns-in_err-write_directories-clause-writes g c =
+    let failed = err_from_is_err_and c.from_residual-in_err-write_directories.result c.from_residual-in_err-write_directories.ensures.1 in
+    rw failed.1 (writes_then c.in_ok-write_file.ensures.writes c.in_err-write_directories.ensures.writes)
+
+pub returns-in_err-finish_alone-clause-writes : goal.returns-in_err-finish_alone-clause-writes
+returns-in_err-finish_alone-clause-writes g c =
+    let failed = err_from_is_err_and c.from_residual-in_err-finish_alone.result c.from_residual-in_err-finish_alone.ensures.1 in
+    rw failed.1 (writes_then (writes_then (writes_then c.in_ok-write_file.ensures.writes c.in_ok-write_directories.ensures.writes) c.in_ok-write_table.ensures.writes) c.in_err-finish_alone.ensures.writes)
+
+pub returns-clause-writes : goal.returns-clause-writes
+returns-clause-writes g c =
+    writes_then (writes_then (writes_then c.in_ok-write_file.ensures.writes c.in_ok-write_directories.ensures.writes) c.in_ok-write_table.ensures.writes) c.in_ok-finish_alone.ensures.writes
