@@ -22,7 +22,7 @@ static int32_t has_format(const struct udfburn_port *port, const char *label, ui
     void *core = NULL;
     int32_t status = udfburn_core_new(&core);
     if (status != UDFBURN_OK) return status;
-    status = udfburn_core_open_fd(core, port->number);
+    status = udfburn_core_open_drive(core, port->number);
     if (status == UDFBURN_OK) status = udfburn_core_status(core, &found);
     udfburn_core_end(core);
     free(core);

@@ -191,6 +191,9 @@ struct udfburn_port {
 int32_t udfburn_make_port(const struct udfburn_drive *drive, struct udfburn_port **made);
 void udfburn_release_port(void *port);
 
+/* Opens the volume on a drive, which is written in order, or on a file, which is written in groups, in a core: as the core says. */
+int32_t udfburn_open_core(void *core, int32_t number);
+
 /* Reads blocks of a file or a drive by its number. Not 0 if it fails. */
 int32_t udfburn_read_exact(int32_t number, uint32_t address, uint32_t count, void *blocks);
 
@@ -224,6 +227,7 @@ struct udfburn_core_commit {
 int32_t udfburn_core_format_fd(int32_t fd, const uint8_t *label, size_t label_length, uint64_t moment, uint32_t capacity);
 int32_t udfburn_core_new(void **out);
 int32_t udfburn_core_open_fd(void *handle, int32_t fd);
+int32_t udfburn_core_open_drive(void *handle, int32_t number);
 int32_t udfburn_core_open_memory(void *handle, const uint8_t *label, size_t label_length, uint64_t moment, uint32_t capacity);
 int32_t udfburn_core_answer(void *handle, const uint8_t *bytes, size_t count);
 size_t udfburn_core_answered(void *handle);

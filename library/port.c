@@ -88,7 +88,11 @@ int32_t udfburn_make_port(const struct udfburn_drive *drive, struct udfburn_port
     return UDFBURN_OK;
 }
 
-/* The same, as the drive gives it. */
+int32_t udfburn_open_core(void *core, int32_t number) {
+    return port_of(number) ? udfburn_core_open_drive(core, number) : udfburn_core_open_fd(core, number);
+}
+
+/* The address after the last block, as the drive gives it. */
 static int ask_next(const struct udfburn_port *port, uint32_t *address) {
     int32_t number = port->drive.next(port->drive.context, address);
     if (number != 0) return failed("drive.next", number);

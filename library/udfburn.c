@@ -84,7 +84,7 @@ static int32_t give(udfburn *handle, int32_t status, udfburn **out) {
 
 int32_t udfburn_open_number(udfburn *handle, int32_t number, udfburn **out) {
     handle->number = number;
-    return give(handle, udfburn_core_open_fd(handle->core, number), out);
+    return give(handle, udfburn_open_core(handle->core, number), out);
 }
 
 static int32_t open_fd(int32_t fd, udfburn **out) {
@@ -223,7 +223,7 @@ static int32_t open_again(const udfburn *handle, uint32_t commits, void **core) 
     struct udfburn_core_status found;
     int32_t status = udfburn_core_new(core);
     if (status != UDFBURN_OK) *core = NULL;
-    if (status == UDFBURN_OK) status = udfburn_core_open_fd(*core, handle->number);
+    if (status == UDFBURN_OK) status = udfburn_core_open_drive(*core, handle->number);
     if (status == UDFBURN_OK) status = udfburn_core_status(*core, &found);
     return status == UDFBURN_OK && found.commits != commits ? UDFBURN_VOLUME : status;
 }

@@ -174,7 +174,8 @@ int32_t udfburn_format_fd(int32_t fd, const char *label, uint64_t moment, uint32
 
 /* Open the volume in the file at `path`, and set `*out`. The file is locked (flock) until udfburn_close(): a second open
  * of it returns UDFBURN_BUSY, in this process or in another. The file is synced before anything is read, and its name
- * too. If it loses its last name while it is open, calls on the handle return UDFBURN_DEVICE.
+ * too. Blocks of messages that came together and were cut off before any was answered are cut off the file. If it loses its
+ * last name while it is open, calls on the handle return UDFBURN_DEVICE.
  *   The path's last part may not be a symbolic link, and its folder must be readable. The file must be writable.
  * UDFBURN_NO_IMAGE: its folder is there, and no file of this name in it. A folder that is missing is UDFBURN_DEVICE, as where a
  * disk is not mounted: so keep the file in a folder of the disk, and format after UDFBURN_NO_IMAGE alone. UDFBURN_VOLUME: the
@@ -398,6 +399,8 @@ int32_t udfburn_log(udfburn *handle, struct udfburn_commit *commit);
 
 /* Take `count` bytes of the stream of messages, cut anywhere, and answer every message that is complete. Each answer is
  * made after its commit is on the medium. The answers wait in the handle until udfburn_take().
+ *   On a file messages that one call brings are written together: two syncs for up to 64 commits or 64 KiB of answers. Each is
+ * a commit all the same. If a call of the system fails, they are written one by one.
  *   UDFBURN_MEMORY and UDFBURN_TOO_LONG end the stream: the answers that wait may be taken, some message may have been
  * run without an answer, and every later call returns the same status, except udfburn_status() and udfburn_log(). Close
  * the handle and open the volume again, and repeat each request that has no answer, with its number.

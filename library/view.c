@@ -6,6 +6,7 @@
 
 #include <errno.h>
 #include <stdlib.h>
+#include <string.h>
 #include <sys/stat.h>
 #include <unistd.h>
 
@@ -98,14 +99,69 @@ static int32_t end_of(udfburn *handle, uint32_t commit, uint32_t *address) {
     return UDFBURN_OK;
 }
 
+/* ---- A group that is not settled ----
+ *
+ * While the core settles a group the file ends with its head: 280 bytes after the last whole block, which say where the group's marks are.
+ * Where one of these is missing nothing of the group was answered. crates/settling/src/head.rt has the numbers. */
+
+enum { MARKS_AT = 20, MOST_MARKS = 64, SUM_AT = MARKS_AT + 4 * MOST_MARKS, HEAD_BYTES = SUM_AT + 4 };
+
+static uint32_t number_at(const uint8_t *head, size_t at) {
+    return head[at] | (uint32_t)head[at + 1] << 8 | (uint32_t)head[at + 2] << 16 | (uint32_t)head[at + 3] << 24;
+}
+
+/* Whether these bytes are the head of a group in a file of so many blocks. Its marks are in order, and the last one is its last block. */
+static int is_head(const uint8_t *head, uint32_t count) {
+    uint32_t sum = 0x811C9DC5, from = number_at(head, 8), used = number_at(head, 16);
+    for (size_t i = 0; i < SUM_AT; i++) sum = (sum ^ head[i]) * 0x01000193;
+    int is_one = !memcmp(head, "UDFGROUP", 8) && number_at(head, SUM_AT) == sum && number_at(head, 12) == count && from > 0 && from <= count;
+    if (!is_one || used > MOST_MARKS) return 0;
+    for (uint32_t i = 0; i < used; i++) {
+        uint32_t mark = number_at(head, MARKS_AT + 4 * (size_t)i);
+        if (mark < from || mark >= count) return 0;
+        from = mark + 1;
+    }
+    return from == count;
+}
+
+/* Leaves a group out of the blocks that count, where a mark of it is missing. Not 0 if a mark cannot be read. */
+static int leave_out(int fd, const uint8_t *head, uint32_t *count) {
+    static const uint8_t missing[UDFBURN_BLOCK];
+    uint8_t block[UDFBURN_BLOCK];
+    for (uint32_t i = 0; i < number_at(head, 16); i++) {
+        if (udfburn_read_exact(fd, number_at(head, MARKS_AT + 4 * (size_t)i), 1, block)) return -1;
+        if (!memcmp(block, missing, sizeof block)) {
+            *count = number_at(head, 8);
+            return 0;
+        }
+    }
+    return 0;
+}
+
+/* How many blocks of a file of this size count. Not 0 if it cannot be read, or is not so long any more. */
+static int count_blocks(int fd, off_t size, uint32_t *count) {
+    uint8_t head[HEAD_BYTES];
+    ssize_t done;
+    *count = (uint32_t)(size / UDFBURN_BLOCK);
+    if (size % UDFBURN_BLOCK != HEAD_BYTES) return 0;
+    while ((done = pread(fd, head, sizeof head, size - HEAD_BYTES)) < 0 && errno == EINTR) {}
+    if (done != HEAD_BYTES) {
+        udfburn_note("pread", done < 0 ? errno : ENODATA);
+        return -1;
+    }
+    return is_head(head, *count) ? leave_out(fd, head, count) : 0;
+}
+
+/* ---- What a file has ---- */
+
 /* Opens what the file has now. The writer may cut a commit off meanwhile that failed. So the view ends with a commit in the end, and what
  * comes after it is not looked at any more. */
 static int32_t open_once(int fd, uint32_t commit, udfburn **out) {
     struct stat found;
-    uint32_t end;
+    uint32_t end, next;
     if (fstat(fd, &found)) return UDFBURN_DEVICE;
     if (found.st_size / UDFBURN_BLOCK > UDFBURN_GREATEST_CAPACITY) return UDFBURN_VOLUME;
-    uint32_t next = (uint32_t)(found.st_size / UDFBURN_BLOCK);
+    if (count_blocks(fd, found.st_size, &next)) return UDFBURN_DEVICE;
     int32_t status = open_view(fd, 0, next, out);
     if (status != UDFBURN_OK) return status;
     status = end_of(*out, commit, &end);

@@ -47,6 +47,7 @@ fn main(rt: HostRuntime) -> ExitCode {
     let mut commit = embedding::CommitStatus { moment: 0, number: 0, address: 0, files: 0, directories: 0 };
     unsafe {
         let _ = exports::udfburn_core_open_fd(out, -1);
+        let _ = exports::udfburn_core_open_drive(out, -1);
         let _ = exports::udfburn_core_open_memory(out, b"MEM", 0, 3000);
         let _ = exports::udfburn_core_answer(out, &[0u8; 4]);
         let _ = exports::udfburn_core_answered(out);

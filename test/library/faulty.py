@@ -36,7 +36,7 @@ def begin(is_shifted: bool) -> None:
     subprocess.run(["gcc", "-std=c99", "-O1", *WARNINGS, "-I", str(library), str(HERE / "program.c"), str(library / "libudfburn.a"), "-o",
                     str(program)], check=True)
     os.environ["LIBRARY_UDFBURN"] = real
-    os.environ["UDFBURN"] = os.environ["UDFBURND"] = str(program)
+    os.environ["UDFBURN"] = os.environ["UDFBURND"] = os.environ["APPLY_GROUPS"] = str(program)
     if is_shifted:
         running.environment = _environment
         # Its own name for the same function.

@@ -1,6 +1,7 @@
 /* A program on the library that does what `udfburn apply`, `udfburn format` and `udfburnd` do, so that their tests try the library.
- * Every other command is that of the program that LIBRARY_UDFBURN names.
- * usage: program apply IMAGE | format IMAGE LABEL MOMENT CAPACITY | IMAGE SOCKET */
+ * With an image alone it is `apply`, as the test program `apply_groups` is. Every other command is that of the program that
+ * LIBRARY_UDFBURN names.
+ * usage: program apply IMAGE | format IMAGE LABEL MOMENT CAPACITY | IMAGE SOCKET | IMAGE */
 #ifndef _GNU_SOURCE
 #define _GNU_SOURCE
 #endif
@@ -43,34 +44,45 @@ static int put_all(const struct stream *stream, const uint8_t *bytes, size_t cou
     return 0;
 }
 
-/* Answers one frame: 0 where its answer went out and the stream goes on. */
-static int answer(udfburn *handle, const struct stream *stream, const uint8_t *frame, size_t length) {
+/* Answers so many frames by one call: 0 where their answers went out and the stream goes on. */
+static int answer(udfburn *handle, const struct stream *stream, const uint8_t *frames, size_t length, size_t count) {
     static const uint8_t fault[] = {2, 0, 0, 0, 36, 0};
     static uint8_t bytes[PIECE];
-    size_t count;
-    int32_t status = udfburn_answer(handle, frame, length);
+    size_t taken;
+    int32_t status = udfburn_answer(handle, frames, length);
     /* What a lost file is to the protocol: answer 36. */
-    if (status == UDFBURN_DEVICE) return put_all(stream, fault, sizeof fault);
-    while ((count = udfburn_take(handle, bytes, sizeof bytes)) > 0)
-        if (put_all(stream, bytes, count)) return -1;
+    for (; status == UDFBURN_DEVICE && count > 0; count--)
+        if (put_all(stream, fault, sizeof fault)) return -1;
+    if (status == UDFBURN_DEVICE) return 0;
+    while ((taken = udfburn_take(handle, bytes, sizeof bytes)) > 0)
+        if (put_all(stream, bytes, taken)) return -1;
     return status == UDFBURN_OK ? 0 : -1;
 }
 
-/* Takes the frames out of a stream, and answers each by itself: one that is not whole ends with its stream. */
+/* How many bytes the frames have that are whole, and how many they are. One that is too long is its first four bytes. */
+static size_t whole_frames(const uint8_t *held, size_t held_count, size_t *frames) {
+    size_t whole = 0;
+    for (*frames = 0; held_count - whole >= 4; ++*frames) {
+        const uint8_t *frame = held + whole;
+        size_t length = 4 + (frame[0] | frame[1] << 8 | frame[2] << 16 | (size_t)frame[3] << 24);
+        if (length > PAYLOAD + 4) length = 4;
+        if (held_count - whole < length) break;
+        whole += length;
+    }
+    return whole;
+}
+
+/* Takes the frames out of a stream, and answers those together that come together: one that is not whole ends with its stream. */
 static void serve(udfburn *handle, const struct stream *stream) {
     static uint8_t held[PAYLOAD + 4 + PIECE];
-    size_t count = 0;
+    size_t count = 0, frames;
     ssize_t more;
     while ((more = stream->get(stream->in, held + count, PIECE)) > 0) {
         count += (size_t)more;
-        while (count >= 4) {
-            size_t length = 4 + (held[0] | held[1] << 8 | held[2] << 16 | (size_t)held[3] << 24);
-            if (length > PAYLOAD + 4) length = 4;
-            if (count < length) break;
-            if (answer(handle, stream, held, length)) return;
-            count -= length;
-            memmove(held, held + length, count);
-        }
+        size_t whole = whole_frames(held, count, &frames);
+        if (frames > 0 && answer(handle, stream, held, whole, frames)) return;
+        count -= whole;
+        memmove(held, held + whole, count);
     }
 }
 
@@ -112,6 +124,7 @@ static int daemon_on(const char *image, const char *path) {
 int main(int argc, char **argv) {
     const char *name = strrchr(argv[0], '/');
     if (name && !strcmp(name, "/udfburnd") && argc == 3) return daemon_on(argv[1], argv[2]);
+    if (argc == 2) return apply(argv[1]);
     if (argc == 3 && !strcmp(argv[1], "apply")) return apply(argv[2]);
     if (argc == 6 && !strcmp(argv[1], "format")) return format(argv + 2);
     const char *other = getenv("LIBRARY_UDFBURN");

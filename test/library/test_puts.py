@@ -160,18 +160,24 @@ class Faults(Running):
         self.assertTrue(disk.is_clean())
 
     def test_each_call_fails_once(self) -> None:
-        """The same call again does it, on the same handle: each request once."""
+        """What comes together is done one by one then. If that fails too, the same call again does it, on the same handle: each request
+        once."""
+        cases = failures = 0
         for kind, actions in (("pwrite", ("E5", "P3000E5", "A5", "E28")), ("fsync", ("E5", "A5"))):
             # A volume that cannot be opened is another failure: nothing was sent.
             for number in range(2 if kind == "fsync" else 1, self.calls(self.new, kind) + 1):
                 for action in actions:
-                    rules = "%s:%d:%s" % (kind, number, action)
-                    self.begin(self.new)
-                    done = self.stored(rules, tries=2)
                     failed = "UDFBURN_NO_SPACE" if action == "E28" else "UDFBURN_DEVICE"
-                    self.assertRegex(done.stdout, r"^%s\nUDFBURN_OK\n\d+ \d+( there)?\n$" % failed, rules)
-                    self.assertEqual((done.returncode, done.stderr), (0, ""), rules)
-                    self.is_stored(1 + 4, rules)
+                    for last, told in ((number, ""), (number + 1, "(%s\n)?" % failed)):
+                        rules = "%s:%d-%d:%s" % (kind, number, last, action)
+                        self.begin(self.new)
+                        done = self.stored(rules, tries=2)
+                        self.assertRegex(done.stdout, r"^%sUDFBURN_OK\n\d+ \d+( there)?\n$" % told, rules)
+                        self.assertEqual((done.returncode, done.stderr), (0, ""), rules)
+                        self.is_stored(1 + 4, rules)
+                    cases, failures = cases + 1, failures + done.stdout.startswith(failed)
+        # But where the second call only makes the place of a mark zeros again.
+        self.assertGreater(2 * failures, cases)
 
     def test_a_disk_that_fails_for_good(self) -> None:
         for number in range(2, self.calls(self.new, "fsync") + 1):

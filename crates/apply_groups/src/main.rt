@@ -17,7 +17,9 @@ fn apply(rt: &HostRuntime, path: &str) -> io::Result<bool> {
     let Ok(file) = FileDrive::open(rt, path, GREATEST_CAPACITY) else {
         return Ok(false);
     };
-    let mut drive = GatheringFileDrive::over(rt.alloc(), file);
+    let Ok(mut drive) = GatheringFileDrive::over(rt.alloc(), file) else {
+        return Ok(false);
+    };
     let mut engine = Engine::new();
     let mut input = CountedReader::new(rt.stdin());
     let mut output = BufWriter::new(rt.alloc(), rt.stdout())?;

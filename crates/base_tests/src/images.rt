@@ -1,8 +1,9 @@
 //! Media in memory and over files: images by their paths, which are taken out and put back.
 
 use crate::steps::{block, holds};
-use drive::{Block, Drive, DriveFault, Fault};
+use drive::{Block, Drive, DriveFault};
 use media::{FileMedia, Media, MemMedia};
+use settling::Settles;
 use std::fs;
 use std::test::Fail;
 
@@ -11,8 +12,8 @@ use std::test::Fail;
 enum Step {
     /// How many blocks an image has that is opened with this capacity, or `None` if it is refused.
     Count(&'static str, u32, Option<u32>),
-    /// Adds a block that begins with this byte. A missing image is made. With `false` it must be refused.
-    Add(&'static str, u8, bool),
+    /// Adds a block that begins with this byte. A missing image is made.
+    Add(&'static str, u8),
     /// The block at an address begins with this byte. The image is taken out to be written.
     Byte(&'static str, u32, u8),
 }
@@ -20,9 +21,9 @@ enum Step {
 /// Two blocks in one image and one in another. At first there is no image.
 const TWO_IMAGES: [Step; 11] = [
     Step::Count("media_one.img", 10, None),
-    Step::Add("media_one.img", 7, true),
-    Step::Add("media_other.img", 9, true),
-    Step::Add("media_one.img", 8, true),
+    Step::Add("media_one.img", 7),
+    Step::Add("media_other.img", 9),
+    Step::Add("media_one.img", 8),
     Step::Count("media_one.img", 2, Some(2)),
     Step::Count("media_other.img", 450_000, Some(1)),
     Step::Byte("media_one.img", 0, 7),
@@ -38,7 +39,7 @@ fn failing<M: Media>(media: &mut M, steps: &[Step]) -> Option<usize> {
     for (i, step) in steps.iter().enumerate() {
         let goes = match *step {
             Step::Count(path, capacity, told) => count(media, path, capacity).ok() == told,
-            Step::Add(path, byte, told) => add(media, path, byte).is_ok() == told,
+            Step::Add(path, byte) => add(media, path, byte).is_ok(),
             Step::Byte(path, at, byte) => first_byte(media, path, at) == Ok(byte),
         };
         if !goes {
@@ -107,33 +108,30 @@ fn an_image_in_memory_is_out_once(rt: HostRuntime) -> Result<(), Fail> {
     Ok(())
 }
 
-const ONE_FAULT: [Step; 4] = [
-    Step::Add("a", 8, false),
-    Step::Count("a", 10, Some(0)),
-    Step::Add("a", 9, true),
-    Step::Byte("a", 0, 9),
-];
-
-/// A fault stays set when the image is put back.
+/// A drive that was put back in a group does not gather when it is taken out again.
 #[test]
-fn an_image_in_memory_keeps_its_fault(rt: HostRuntime) -> Result<(), Fail> {
+fn an_image_in_memory_gathers_no_more(rt: HostRuntime) -> Result<(), Fail> {
     let mut media = MemMedia::new(rt.alloc());
     let mut drive = media.create("a", 10)?;
-    drive.arm(Fault::AfterBlocks(0));
+    drive.gather();
+    drive.write(0, &[block(7)])?;
     media.put_back("a", drive);
-    assert_eq!(rt; failing(&mut media, &ONE_FAULT), None);
+    let drive = media.open("a", 10)?;
+    assert!(rt; !drive.gathers());
+    assert_eq!(rt; drive.blocks().len(), 1);
     Ok(())
 }
 
-/// An image with an address that was written twice is refused, since no image file can have one.
+/// No address of an image in memory is written twice, as none of an image file is.
 #[test]
 fn an_image_in_memory_is_in_order(rt: HostRuntime) -> Result<(), Fail> {
     let mut media = MemMedia::new(rt.alloc());
     let mut drive = media.create("a", 10)?;
     drive.write(0, &[block(7)])?;
-    drive.write(0, &[block(8)])?;
+    assert!(rt; drive.write(0, &[block(8)]).is_err());
     media.put_back("a", drive);
-    assert!(rt; media.open("a", 10).is_err());
+    let drive = media.open("a", 10)?;
+    assert_eq!(rt; drive.blocks().len(), 1);
     Ok(())
 }
 

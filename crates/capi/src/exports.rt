@@ -3,7 +3,7 @@
 
 ghost use types.Logic.{sem};
 ghost use base.Fml.{fex};
-ghost use Rattle.std.specs.Prelude.{◌≡◌, ⊤, Option, Result};
+ghost use Rattle.std.specs.Prelude.{◌≡◌, ⊤, true, false, Option, Result};
 ghost use Rattle.std.specs.Ptr.{points_to};
 ghost use Rattle.embedding.specs.declared.fault.Fault.{Fault};
 ghost use Rattle.embedding.specs.declared.session.Session.{Session};
@@ -53,9 +53,20 @@ pub extern "C" fn udfburn_core_new(alloc: Global, out: &mut *mut u8) -> i32
 pub unsafe extern "C" fn udfburn_core_open_fd(handle: *mut u8, fd: i32) -> i32
     ghost held: { Session }
     requires* { sem 𝓛 (points_to the_row handle held) }
-    ensures* { sem 𝓛 (fex ((s : Session) × OpensVolume result held s) (λ s. points_to the_row handle s.0)) }
+    ensures* { sem 𝓛 (fex ((s : Session) × OpensVolume false result held s) (λ s. points_to the_row handle s.0)) }
 {
     calls::open_fd(unsafe { &mut *handle.cast::<Session>() }, fd)
+}
+
+/// Opens the volume on a drive that is written in order alone. C serves what is asked under its number. If this is
+/// refused, the number is closed, and the session stays as it was.
+#[unsafe(no_mangle)]
+pub unsafe extern "C" fn udfburn_core_open_drive(handle: *mut u8, number: i32) -> i32
+    ghost held: { Session }
+    requires* { sem 𝓛 (points_to the_row handle held) }
+    ensures* { sem 𝓛 (fex ((s : Session) × OpensVolume true result held s) (λ s. points_to the_row handle s.0)) }
+{
+    calls::open_drive(unsafe { &mut *handle.cast::<Session>() }, number)
 }
 
 /// Opens a new volume in memory, whose blocks the caller takes. If this is refused, the session stays as it was.

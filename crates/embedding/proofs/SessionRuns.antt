@@ -1,33 +1,28 @@
 -- Sessions of the library are runs, each on what the one before it left.
-use Rattle.std.proofs.Common.{◌≡◌, ◌⊎◌, inl, inr, ℕ, List, [], ◌∷◌, ◌++◌, Option, Some, None, Result, Ok, Err, IsTrue, refl, sym, ap, ◌∙◌, subst, append-nil, append_assoc}
-use Rattle.std.specs.Prelude.{⊤}
+use Rattle.std.proofs.Common.{◌≡◌, ◌⊎◌, inl, inr, ℕ, List, [], ◌∷◌, ◌++◌, Option, Some, None, Result, Ok, Err, IsTrue, refl, sym, ap, ◌∙◌, subst}
+use Rattle.std.specs.Prelude.{⊤, map}
 use Rattle.limits.specs.declared.TheConstants.{GREATEST_CAPACITY}
-use Rattle.drive.specs.FileDrive.{journal_of}
 use Rattle.drive.specs.Journal.{Event, Once, held}
 use Rattle.model.specs.Session.{State, Request, after}
 use Rattle.model.proofs.Runs.{after-append}
-use Rattle.durability.specs.Commit.{need}
-use Rattle.durability.specs.Journal.{HoldsOnJournal}
 use Rattle.durability.specs.Volume.{RecoversTo}
-use Rattle.udf.specs.Udf.{udf, spelled_length}
-use Rattle.engine.specs.Lives.{IsLifeUntil, life_of}
-use Rattle.engine.specs.Losses.{AreCut, Life, IsRunCutShort, Survives}
-use Rattle.engine.specs.Said.{model_answers}
-use Rattle.engine.specs.Served.{brought}
+use Rattle.udf.specs.Udf.{udf}
+use Rattle.engine.specs.Losses.{AreCut, Life, Survives}
 use Rattle.engine.specs.Situation.{Situation}
 use Rattle.engine.specs.Steps.{HoldsState}
-use Rattle.engine.proofs.Lives.{answered_room, cuts_join, run_ended, run_lost, state_after}
+use Rattle.engine.proofs.Lives.{cuts_join}
 use Rattle.engine.proofs.Losses.{losses_reach}
 use Rattle.engine.proofs.Running.{runs_begin}
-use Rattle.engine.proofs.Served.{answered_honest}
+use Rattle.grouping.specs.Losses.{life_in}
+use Rattle.grouping.proofs.Withstanding.{groups_honest}
 use Rattle.embedding.specs.declared.fault.Fault.{Fault}
 use Rattle.embedding.specs.declared.fault.Fault.TheVariants as faults
-use Rattle.embedding.specs.declared.medium.Medium.TheVariants.{Image}
 use Rattle.embedding.specs.declared.session.Session.{Session}
-use Rattle.embedding.specs.Media.{failures_on, honest_on, writes_on}
+use Rattle.embedding.specs.Media.{capacity_on, failures_on, honest_on, journal_on, writes_on}
 use Rattle.embedding.specs.SessionRuns.{AllCalled, AllLives, AllSessions, Call, InRun, IsCalled, IsRunUntil, IsSession, LivesOf, LivesUntil, LosesCalls, LosesRun, SessionsAreRuns, lives_in, lives_of_run, run_of, run_of_heard, run_of_open, run_of_stop}
 use Rattle.embedding.specs.SessionRuns.Call.{Bring, Ask, Take}
-use Rattle.embedding.specs.Sessions.{AnswersStream, HearsBy, StopsBy, seen}
+use Rattle.embedding.specs.Sessions.{AnswersStream, HearsBy, StopsBy, gathering_in, seen}
+use Rattle.embedding.proofs.Replying.{groups_room}
 
 -- ---- one call
 
@@ -57,7 +52,7 @@ module _ (bytes : List ℕ) (old new : Session) (P : Option (InRun bytes old new
 -- a medium that is honest after a call was so before
 call_honest : (call : Call) (old new : Session) → IsCalled call old new → IsTrue (seen new).honest → IsTrue (seen old).honest
 call_honest (Bring bytes) old new (outcome, h) honest =
-    brings bytes old new (λ run. IsTrue (seen old).honest) (λ same. subst (λ (s : Situation). IsTrue s.honest) same honest) (λ run. answered_honest run.messages (seen old) run.answers (seen new) run.answered honest) outcome h
+    brings bytes old new (λ run. IsTrue (seen old).honest) (λ same. subst (λ (s : Situation). IsTrue s.honest) same honest) (λ run. groups_honest run.groups (seen old) (gathering_in old) (seen new) (gathering_in new) run.are honest) outcome h
 call_honest Ask old new h honest = h.honest honest
 call_honest Take old new h honest = subst (λ (s : Situation). IsTrue s.honest) h.seen_is honest
 
@@ -80,19 +75,10 @@ module _ (volume : ℕ) where
   goes_same S old new same at =
       goes_nowhere S old new (ap (λ (s : Situation). s.journal) same) (ap (λ (s : Situation). s.capacity) same) (subst (λ (s : Situation). HoldsState volume S s) (sym same) at)
 
-  goes_run : (S : State) (bytes : List ℕ) (old new : Session) (run : InRun bytes old new) → IsTrue (seen new).honest → HoldsState volume S (seen old) → GoesOn volume S old new (life_of run.messages run.answers ∷ [])
-  unfolding run_ended
+  goes_run : (S : State) (bytes : List ℕ) (old new : Session) (run : InRun bytes old new) → IsTrue (seen new).honest → HoldsState volume S (seen old) → GoesOn volume S old new (map life_in run.groups)
   goes_run S bytes old new run honest at =
-      let held : HoldsOnJournal udf (need spelled_length) (seen old).capacity volume S (seen old).journal (seen new).journal (brought run.messages) (model_answers run.answers) = run.holds volume S honest at in
-      let cut : IsRunCutShort (seen old).capacity volume S (seen old).journal (life_of run.messages run.answers) (seen new).journal = run_ended (seen old).capacity volume S (seen old).journal (seen new).journal run.messages run.answers held in
-      let committed : List Request = held.holds.committed in
-      let all : (committed ++ []) ++ [] ≡ committed = append-nil (committed ++ []) ∙ append-nil committed in
-      record {
-        done = (committed ++ []) ++ [];
-        cuts = ((seen new).journal, cut, [], refl, (refl, refl));
-        at = subst (λ (D : List Request). HoldsState volume (after S D) (seen new)) (sym all) (state_after volume S (seen old) run.messages run.answers (seen new) run.answered honest at held);
-        room = answered_room run.messages (seen old) run.answers (seen new) run.answered;
-      }
+      let (done, cuts, there) = (run.lives volume S honest at).0 in
+      record { done = done; cuts = cuts; at = there; room = groups_room run.groups (seen old) (gathering_in old) (seen new) (gathering_in new) run.are }
 
   goes_bring : (S : State) (bytes : List ℕ) (old new : Session) (outcome : Result ⊤ Fault) (h : AnswersStream outcome bytes old new) → IsTrue (seen new).honest → HoldsState volume S (seen old)
       → GoesOn volume S old new (lives_of_run bytes old new (run_of outcome bytes old new h))
@@ -123,16 +109,17 @@ module _ (volume : ℕ) where
 
   -- ---- calls that a power loss cut off
 
-  lost_run : (S : State) (bytes : List ℕ) (old new : Session) (run : Option (InRun bytes old new)) → IsTrue (seen new).honest → HoldsState volume S (seen old) → (lost : List Event) → LosesRun bytes old new run lost
-      → (life : Life) × IsRunUntil bytes old new run life × IsRunCutShort (seen old).capacity volume S (seen old).journal life lost
-  lost_run S bytes old new None honest at lost loses = absurd loses
-  lost_run S bytes old new (Some run) honest at lost loses = run_lost volume S (seen old) run.messages run.answers (seen new) run.answered honest at run.withstands lost loses
-
   record Lost (S : State) (old : Session) (lost : List Event) (Are : List Life → Type 0) : Type 0 where
     pub lives : List Life
     pub done : List Request
     pub are : Are lives
     pub cuts : AreCut (seen old).capacity volume S (seen old).journal lives done lost
+
+  lost_run : (S : State) (bytes : List ℕ) (old new : Session) (run : Option (InRun bytes old new)) → IsTrue (seen new).honest → HoldsState volume S (seen old) → (lost : List Event) (loses : LosesRun bytes old new run lost)
+      → Lost S old lost (IsRunUntil bytes old new run lost loses)
+  lost_run S bytes old new None honest at lost loses = absurd loses
+  lost_run S bytes old new (Some run) honest at lost loses =
+      let (lives, until, done, cuts) = (run.lives volume S honest at).1 lost loses in record { lives = lives; done = done; are = until; cuts = cuts }
 
   -- after calls that were answered
   lost_then : (S : State) (old between : Session) (first : List Life) (one : GoesOn volume S old between first) (lost : List Event) (Are More : List Life → Type 0) → ((later : List Life) → More later → Are (first ++ later)) → Lost (after S one.done) between lost More → Lost S old lost Are
@@ -149,7 +136,7 @@ module _ (volume : ℕ) where
   lost_calls [] S old new called honest at lost loses = absurd loses
   lost_calls (Bring bytes ∷ calls) S old new (between, (outcome, h), rest) honest at lost (inl here) =
       let c = lost_run S bytes old between (run_of outcome bytes old between h) (all_honest calls between new rest honest) at lost here in
-      record { lives = c.0 ∷ []; done = (c.2.run.holds.committed ++ c.0.under) ++ []; are = (c.0, refl, c.1); cuts = (lost, c.2, [], refl, (refl, refl)) }
+      record { lives = c.lives; done = c.done; are = c.are; cuts = c.cuts }
   lost_calls (Bring bytes ∷ calls) S old new (between, (outcome, h), rest) honest at lost (inr there) =
       let one = goes_bring S bytes old between outcome h (all_honest calls between new rest honest) at in
       lost_then S old between (lives_of_run bytes old between (run_of outcome bytes old between h)) one lost (LivesUntil (Bring bytes ∷ calls) old new (between, (outcome, h), rest) lost (inr there)) (LivesUntil calls between new rest lost there)
@@ -184,11 +171,11 @@ module _ (volume : ℕ) where
   one_session : (calls : List Call) (S : State) (before afterwards : List Event) (s : IsSession calls before afterwards) → Once before → RecoversTo udf GREATEST_CAPACITY volume (held before) S
       → Left S before afterwards (LivesOf calls s.first s.last s.called afterwards s.ends)
   one_session calls S before afterwards s once stands =
-      let medium = Image s.drive in
+      let medium = s.medium in
       let honest : IsTrue (seen s.first).honest = all_honest calls s.first s.last s.called s.honest in
-      let here : Once (journal_of s.drive) = subst (λ (J : List Event). Once J) (sym s.finds) once in
-      let stood : RecoversTo udf GREATEST_CAPACITY volume (held (journal_of s.drive)) S = subst (λ (J : List Event). RecoversTo udf GREATEST_CAPACITY volume (held J) S) (sym s.finds) stands in
-      let begins = (runs_begin volume S (journal_of s.drive) (failures_on medium) _ (honest_on medium) (writes_on medium) here (subst (λ (c : ℕ). RecoversTo udf c volume (held (journal_of s.drive)) S) (sym s.room) stood)).0 in
+      let here : Once (journal_on medium) = subst (λ (J : List Event). Once J) (sym s.finds) once in
+      let stood : RecoversTo udf GREATEST_CAPACITY volume (held (journal_on medium)) S = subst (λ (J : List Event). RecoversTo udf GREATEST_CAPACITY volume (held J) S) (sym s.finds) stands in
+      let begins = (runs_begin volume S (journal_on medium) (failures_on medium) (capacity_on medium) (honest_on medium) (writes_on medium) here (subst (λ (c : ℕ). RecoversTo udf c volume (held (journal_on medium)) S) (sym s.room) stood)).0 in
       let left = ended calls S s.first s.last s.called s.honest (s.opens.holds volume S honest begins) afterwards s.ends in
       let sized = subst (λ (c : ℕ). AreCut c volume S (seen s.first).journal left.lives left.done afterwards) (s.opens.capacity ∙ s.room) left.cuts in
       record {

@@ -8,9 +8,10 @@ use Rattle.embedding.specs.Numbers.{status, number_of}
 use Rattle.embedding.specs.Opens.{OpensFile, OpensMemory}
 use Rattle.embedding.specs.Sessions.{waiting, blocks, AnswersStream, Shows, GivesOneBlock}
 
--- the volume on a file, or a new one in memory, was opened in the session, and the number says what became of it
-abbrev pub OpensVolume : ℤ → Session → Session → Type 0
-OpensVolume number old new = (outcome : Result ⊤ Fault) × (number ≡ status outcome) × OpensFile outcome old new
+-- The volume on a file or on a drive that is written in order, or a new one in memory, was opened in the session, and the number says
+-- what became of it.
+abbrev pub OpensVolume : Bool → ℤ → Session → Session → Type 0
+OpensVolume in_order number old new = (outcome : Result ⊤ Fault) × (number ≡ status outcome) × OpensFile in_order outcome old new
 
 abbrev pub OpensNewVolume : List ℕ → ℕ → ℕ → ℤ → Session → Session → Type 0
 OpensNewVolume label moment capacity number old new = (outcome : Result ⊤ Fault) × (number ≡ status outcome) × OpensMemory label moment capacity outcome old new

@@ -1,20 +1,23 @@
 -- A session that was opened.
-use Rattle.std.specs.Prelude.{◌≡◌, ◌⊎◌, ℕ, List, [], Some, None, IsTrue, Result, Ok, Err}
+use Rattle.std.specs.Prelude.{◌≡◌, ◌⊎◌, ℕ, Bool, true, false, List, [], Some, None, IsTrue, Result, Ok, Err}
 use Rattle.limits.specs.declared.TheConstants.{GREATEST_CAPACITY}
-use Rattle.drive.specs.FileDrive.{capacity_of, BeginsWith}
-use Rattle.drive.specs.MemDrive as memory
+use Rattle.drive.specs.FileDrive.{capacity_of, journal_of, BeginsWith}
+use Rattle.drive.specs.Gathering.{waits_never}
 use Rattle.drive.specs.declared.file.FileDrive.{FileDrive}
 use Rattle.drive.specs.declared.memory.MemDrive.{MemDrive}
 use Rattle.model.specs.Session.{State}
 use Rattle.recover.specs.Faults.{IsShortage}
 use Rattle.recover.specs.declared.fault.StoreFault.{StoreFault}
+use Rattle.settling.specs.declared.file.GatheringFileDrive.{GatheringFileDrive}
+use Rattle.settling.specs.GatheringFile as image
+use Rattle.settling.specs.Head.{Counts}
 use Rattle.store.specs.declared.store.Store.{Store}
 use Rattle.engine.specs.Situation.{Situation, HoldsNothing, IsOpen, situation}
 use Rattle.engine.specs.Steps.{HoldsState}
 use Rattle.embedding.specs.declared.fault.Fault.{Fault}
 use Rattle.embedding.specs.declared.fault.Fault.TheVariants.{Device}
 use Rattle.embedding.specs.declared.medium.Medium.{Medium}
-use Rattle.embedding.specs.declared.medium.Medium.TheVariants.{Image, Memory}
+use Rattle.embedding.specs.declared.medium.Medium.TheVariants.{Image, InOrder, Memory}
 use Rattle.embedding.specs.declared.session.Session.{Session}
 use Rattle.embedding.specs.Formats.{IsMadeInMemory, IsNotMade}
 use Rattle.embedding.specs.Media.{journal_on, failures_on, capacity_on, honest_on, writes_on, in_memory}
@@ -63,12 +66,29 @@ abbrev pub TurnsTo : {T : Type 0} → Medium → Result T Fault → Session → 
 TurnsTo medium (Ok x) old new = Opened medium new
 TurnsTo medium (Err fault) old new = RefusesToOpen medium fault × (new ≡ old)
 
--- The file could not be had, or the volume on it was looked for. What the file has no clause can know: it is whatever blocks the
--- drive's reads agree with.
-abbrev pub OpensFile : {T : Type 0} → Result T Fault → Session → Session → Type 0
-OpensFile outcome old new =
+-- A file that is written in groups counts the blocks of a drive over it, or those before a group that was never settled. Nothing was done on it.
+pub record IsGathered (file : FileDrive) (drive : GatheringFileDrive) : Type 0 where
+  pub counts : Counts (image.found_of drive) (journal_of file) (image.journal_of drive)
+  pub size : image.capacity_of drive ≡ capacity_of file
+  pub writes : image.writes_of drive ≡ []
+  pub failures : image.failures_of drive ≡ 0
+  pub misreads : image.misreads_of drive ≡ 0
+  pub gathering : image.gathering_of drive ≡ waits_never
+
+-- it is the drive itself, which is written in order, or the drive as a file that is written in groups
+abbrev pub IsOn : Bool → FileDrive → Medium → Type 0
+IsOn true file medium = medium ≡ InOrder file
+IsOn false file medium = (drive : GatheringFileDrive) × IsGathered file drive × (medium ≡ Image drive)
+
+-- What the file or drive under a number has no clause can know: it is whatever blocks the drive's reads agree with.
+abbrev pub LiesUnder : Bool → Medium → Type 0
+LiesUnder in_order medium = (blocks : List (List ℕ)) × (file : FileDrive) × BeginsWith blocks file × (capacity_of file ≡ GREATEST_CAPACITY) × IsOn in_order file medium
+
+-- the file could not be had, or the volume on it was looked for
+abbrev pub OpensFile : {T : Type 0} → Bool → Result T Fault → Session → Session → Type 0
+OpensFile in_order outcome old new =
     ((outcome ≡ Err Device) × (new ≡ old))
-    ⊎ ((image : List (List ℕ)) × (drive : FileDrive) × BeginsWith image drive × (capacity_of drive ≡ GREATEST_CAPACITY) × TurnsTo (Image drive) outcome old new)
+    ⊎ ((medium : Medium) × LiesUnder in_order medium × TurnsTo medium outcome old new)
 
 -- No such volume can be made, or it was made in memory and looked for.
 abbrev pub OpensMemory : {T : Type 0} → List ℕ → ℕ → ℕ → Result T Fault → Session → Session → Type 0

@@ -1,24 +1,24 @@
 -- Sessions of the library on one image, one after another, each known by the contracts of its calls alone: those that ended, and those that a power loss cut off.
-use Rattle.std.specs.Prelude.{◌≡◌, ◌⊎◌, ⊤, ℕ, List, [], ◌∷◌, ◌++◌, Option, Some, None, Result, Ok, Err, IsTrue}
+use Rattle.std.specs.Prelude.{◌≡◌, ◌⊎◌, ⊤, ℕ, List, [], ◌∷◌, ◌++◌, map, Option, Some, None, Result, Ok, Err, IsTrue}
 use Rattle.std.proofs.Common.{inl, inr, refl}
 use Rattle.limits.specs.declared.TheConstants.{GREATEST_CAPACITY}
-use Rattle.drive.specs.FileDrive.{journal_of, capacity_of}
 use Rattle.drive.specs.Journal.{Event, Once, held}
-use Rattle.drive.specs.declared.file.FileDrive.{FileDrive}
 use Rattle.request.specs.Frames.{fed}
 use Rattle.model.specs.Session.{State, Request}
 use Rattle.durability.specs.Volume.{RecoversTo}
 use Rattle.udf.specs.Udf.{udf}
-use Rattle.engine.specs.Lives.{IsLifeUntil, life_of}
-use Rattle.engine.specs.Losses.{AreCut, Life, LosesStream, Survives}
+use Rattle.engine.specs.Losses.{AreCut, Life, Survives}
+use Rattle.grouping.specs.Losses.{LosesGroups, life_in}
+use Rattle.grouping.specs.Losses.{LivesUntil as GroupsUntil}
 use Rattle.embedding.specs.declared.fault.Fault.{Fault}
 use Rattle.embedding.specs.declared.fault.Fault.TheVariants as faults
-use Rattle.embedding.specs.declared.medium.Medium.TheVariants.{Image}
+use Rattle.embedding.specs.declared.medium.Medium.{Medium}
 use Rattle.embedding.specs.declared.session.Session.{Session}
+use Rattle.embedding.specs.Media.{capacity_on, in_groups, journal_on}
 use Rattle.embedding.specs.Opens.{Opened}
 use Rattle.embedding.specs.Questions.{Asked}
 use Rattle.embedding.specs.Replies.{AnswersInRun}
-use Rattle.embedding.specs.Sessions.{AnswersStream, HearsBy, SameSession, StopsBy, seen}
+use Rattle.embedding.specs.Sessions.{AnswersStream, HearsBy, SameSession, StopsBy, gathering_in, seen}
 
 -- a call of an open session: it brings bytes of messages, asks what the volume tells beside them, or takes bytes of answers
 pub data Call : Type 0 where
@@ -40,7 +40,7 @@ AllCalled (call ∷ calls) old new = (between : Session) × IsCalled call old be
 -- ---- the messages of a call, and their answers, as its contract has them
 
 abbrev pub InRun : List ℕ → Session → Session → Type 0
-InRun bytes old new = AnswersInRun (fed old.frames bytes) new.frames (seen old) (seen new)
+InRun bytes old new = AnswersInRun (in_groups old.medium) (fed old.frames bytes) new.frames (seen old) (gathering_in old) (seen new) (gathering_in new)
 
 -- none were answered where memory was short for the bytes
 abbrev pub run_of_stop : (fault : Fault) (bytes : List ℕ) (old new : Session) → StopsBy fault bytes old new → Option (InRun bytes old new)
@@ -66,7 +66,7 @@ run_of outcome bytes old new h = run_of_open old.ended (λ free. run_of_heard ou
 
 abbrev pub lives_of_run : (bytes : List ℕ) (old new : Session) → Option (InRun bytes old new) → List Life
 lives_of_run bytes old new None = []
-lives_of_run bytes old new (Some run) = life_of run.messages run.answers ∷ []
+lives_of_run bytes old new (Some run) = map life_in run.groups
 
 -- those of all calls, in order
 abbrev pub lives_in : (calls : List Call) (old new : Session) → AllCalled calls old new → List Life
@@ -77,10 +77,10 @@ lives_in (Take ∷ calls) old new (between, one, rest) = lives_in calls between 
 
 -- ---- where a power loss cut a call off
 
--- It was lost while one of the call's messages was under way, and this is what the disk kept.
+-- It was lost while one of the call's groups was under way, and this is what is found.
 abbrev pub LosesRun : (bytes : List ℕ) (old new : Session) → Option (InRun bytes old new) → List Event → Type 0
 LosesRun bytes old new None lost = ⊥
-LosesRun bytes old new (Some run) lost = LosesStream run.messages (seen old) run.answers (seen new) run.answered lost
+LosesRun bytes old new (Some run) lost = LosesGroups run.groups (seen old) (gathering_in old) (seen new) (gathering_in new) run.are lost
 
 -- so it was lost in one of these calls
 abbrev pub LosesCalls : (calls : List Call) (old new : Session) → AllCalled calls old new → List Event → Type 0
@@ -89,14 +89,14 @@ LosesCalls (Bring bytes ∷ calls) old new (between, (outcome, one), rest) lost 
 LosesCalls (Ask ∷ calls) old new (between, one, rest) lost = LosesCalls calls between new rest lost
 LosesCalls (Take ∷ calls) old new (between, one, rest) lost = LosesCalls calls between new rest lost
 
-abbrev pub IsRunUntil : (bytes : List ℕ) (old new : Session) → Option (InRun bytes old new) → Life → Type 0
-IsRunUntil bytes old new None life = ⊥
-IsRunUntil bytes old new (Some run) life = IsLifeUntil run.messages run.answers life
+abbrev pub IsRunUntil : (bytes : List ℕ) (old new : Session) (run : Option (InRun bytes old new)) (lost : List Event) → LosesRun bytes old new run lost → List Life → Type 0
+IsRunUntil bytes old new None lost loses lives = ⊥
+IsRunUntil bytes old new (Some run) lost loses lives = GroupsUntil run.groups (seen old) (gathering_in old) (seen new) (gathering_in new) run.are lost loses lives
 
 -- the lives up to there
 abbrev pub LivesUntil : (calls : List Call) (old new : Session) (called : AllCalled calls old new) (lost : List Event) → LosesCalls calls old new called lost → List Life → Type 0
 LivesUntil [] old new called lost loses lives = ⊥
-LivesUntil (Bring bytes ∷ calls) old new (between, (outcome, one), rest) lost (inl here) lives = (life : Life) × (lives ≡ life ∷ []) × IsRunUntil bytes old between (run_of outcome bytes old between one) life
+LivesUntil (Bring bytes ∷ calls) old new (between, (outcome, one), rest) lost (inl here) lives = IsRunUntil bytes old between (run_of outcome bytes old between one) lost here lives
 LivesUntil (Bring bytes ∷ calls) old new (between, (outcome, one), rest) lost (inr there) lives =
     (later : List Life) × (lives ≡ lives_of_run bytes old between (run_of outcome bytes old between one) ++ later) × LivesUntil calls between new rest lost there later
 LivesUntil (Ask ∷ calls) old new (between, one, rest) lost loses lives = LivesUntil calls between new rest lost loses lives
@@ -104,15 +104,16 @@ LivesUntil (Take ∷ calls) old new (between, one, rest) lost loses lives = Live
 
 -- ---- sessions
 
--- A session was opened on the file of an image and called. Then it ended, or its process did; or a power loss cut one of its calls
--- off. What the file has no clause can know: this one had what was left there, and each read gave what was written.
+-- A session was opened on the file of an image, or on a drive that is written in order, and called. Then it ended, or its process did;
+-- or a power loss cut one of its calls off. What the medium has no clause can know: this one had what was left there, and each read gave
+-- what was written. Of a group that was never settled opening finds nothing.
 pub record IsSession (calls : List Call) (before afterwards : List Event) : Type 0 where
-  pub drive : FileDrive
-  pub room : capacity_of drive ≡ GREATEST_CAPACITY
-  pub finds : journal_of drive ≡ before
+  pub medium : Medium
+  pub room : capacity_on medium ≡ GREATEST_CAPACITY
+  pub finds : journal_on medium ≡ before
   pub first : Session
   pub last : Session
-  pub opens : Opened (Image drive) first
+  pub opens : Opened medium first
   pub called : AllCalled calls first last
   pub honest : IsTrue (seen last).honest
   pub ends : (afterwards ≡ (seen last).journal) ⊎ LosesCalls calls first last called afterwards

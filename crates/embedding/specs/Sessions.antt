@@ -1,17 +1,22 @@
 -- What a session is to its caller, and what each call does to it.
 use Rattle.std.specs.Prelude.{◌≡◌, ◌⊎◌, ℕ, ◌+◌, ◌<◌, ◌≤◌, ◌++◌, min, Bool, true, false, List, length, take, drop, slice_get, Option, Some, None, Result, Ok, Err}
+use Rattle.drive.specs.Gathering.{Gathering}
 use Rattle.drive.specs.Journal.{Event}
 use Rattle.request.specs.Frames.{fed}
 use Rattle.engine.specs.Situation.{Situation}
 use Rattle.embedding.specs.declared.fault.Fault.{Fault}
 use Rattle.embedding.specs.declared.fault.Fault.TheVariants as faults
 use Rattle.embedding.specs.declared.session.Session.{Session}
-use Rattle.embedding.specs.Media.{seen_by, blocks_of, in_memory}
+use Rattle.embedding.specs.Media.{seen_by, blocks_of, gathering_on, in_groups, in_memory}
 use Rattle.embedding.specs.Replies.{Replies, RepliesButLast}
 
 -- its engine, beside what its volume lies on
 abbrev pub seen : Session → Situation
 seen s = seen_by s.engine s.medium
+
+-- how the writes of its medium wait for the disk
+abbrev pub gathering_in : Session → Gathering
+gathering_in s = gathering_on s.medium
 
 -- the bytes of answers that were not taken yet
 abbrev pub waiting : Session → List ℕ
@@ -31,18 +36,19 @@ pub record SameSession (old new : Session) : Type 0 where
 
 -- all messages of the bytes that came were answered, and their answers wait after those that waited
 abbrev pub AnswersMessages : List ℕ → Session → Session → Type 0
-AnswersMessages bytes old new = Replies (fed old.frames bytes) new.frames (seen old) (seen new) (waiting old) (waiting new)
+AnswersMessages bytes old new = Replies (in_groups old.medium) (fed old.frames bytes) new.frames (seen old) (gathering_in old) (seen new) (gathering_in new) (waiting old) (waiting new)
 
 -- nothing was taken of them
 pub record TakesNothing (old new : Session) : Type 0 where
   pub seen_is : seen new ≡ seen old
+  pub gathering : gathering_in new ≡ gathering_in old
   pub frames : new.frames ≡ old.frames
   pub waits : waiting new ≡ waiting old
 
 -- Why the stream of messages is at its end. Memory is short for the bytes, or for an answer; or a frame was longer than a frame
 -- may be, which has its answer too.
 abbrev pub StopsBy : Fault → List ℕ → Session → Session → Type 0
-StopsBy faults.Memory bytes old new = TakesNothing old new ⊎ RepliesButLast (fed old.frames bytes) new.frames (seen old) (seen new) (waiting old) (waiting new)
+StopsBy faults.Memory bytes old new = TakesNothing old new ⊎ RepliesButLast (in_groups old.medium) (fed old.frames bytes) new.frames (seen old) (gathering_in old) (seen new) (gathering_in new) (waiting old) (waiting new)
 StopsBy faults.Device bytes old new = ⊥
 StopsBy faults.TooLong bytes old new = AnswersMessages bytes old new × (new.frames ≡ None)
 StopsBy faults.Text bytes old new = ⊥

@@ -1,6 +1,6 @@
 //! The calls of C, on the session of a handle. Each returns its outcome as a number.
 
-ghost use Rattle.std.specs.Prelude.{◌≡◌};
+ghost use Rattle.std.specs.Prelude.{◌≡◌, true, false};
 ghost use Rattle.embedding.specs.Calls.{OpensVolume, OpensNewVolume, AnswersBytes, Counts, ShowsBlock, GivesBlock, Ended, presence_number};
 ghost use Rattle.embedding.specs.Handing.{HandsOut};
 ghost use Rattle.embedding.specs.Commits.{AsksCommit};
@@ -28,9 +28,16 @@ pub fn hand_out(alloc: Global, before: *mut u8) -> Handed
 
 /// Opens the volume on the file of a descriptor, in place of what the session held.
 pub fn open_fd(session: &mut Session, fd: i32) -> i32
-    ensures { OpensVolume result session.old session.new }
+    ensures { OpensVolume false result session.old session.new }
 {
-    status_of(session.open_file(fd))
+    status_of(session.open_file(fd, false))
+}
+
+/// Opens the volume on a drive that is written in order alone, in place of what the session held.
+pub fn open_drive(session: &mut Session, number: i32) -> i32
+    ensures { OpensVolume true result session.old session.new }
+{
+    status_of(session.open_file(number, true))
 }
 
 /// Opens a new volume in memory, in place of what the session held.

@@ -4,26 +4,27 @@ ghost use Rattle.std.specs.Prelude.{◌≡◌, ℕ, Some, IsTrue, IfErr, IfOk, O
 ghost use Rattle.model.specs.Session.{State};
 ghost use Rattle.recover.specs.Faults.{IsShortage};
 ghost use Rattle.request.specs.Frames.{IsIdle};
-ghost use Rattle.engine.specs.declared.serving.ServeFault.TheVariants as stops;
 ghost use Rattle.store.specs.declared.store.Store.{Store};
 ghost use Rattle.engine.specs.Situation.{HoldsNothing, IsReady, IsOpen};
 ghost use Rattle.engine.specs.Steps.{HoldsState};
-ghost use Rattle.engine.specs.Served.{Answering, AnswersSome};
 ghost use Rattle.embedding.specs.Commits.{IsLogged, IsUnlogged};
 ghost use Rattle.embedding.specs.StatusCalls.{IsStatusUnknown};
 ghost use Rattle.embedding.specs.Statuses.{TellsStatus};
-ghost use Rattle.embedding.specs.Media.{seen_by, in_memory, journal_on, writes_on, capacity_on, honest_on};
+ghost use Rattle.embedding.specs.Media.{seen_by, gathering_on, in_groups, in_memory, journal_on, writes_on, capacity_on, honest_on};
+ghost use Rattle.embedding.specs.Replies.{AnsweredBy, AnsweredSomeBy};
 
 use crate::commits::opened_commit;
 use crate::medium::Medium;
 use crate::questions::opened_status;
 use crate::told::{CommitStatus, Status};
 use engine::{Engine, answer_held};
+use grouping::answer_groups_held;
 use request::Frames;
 use std::alloc::{AllocError, Global};
 use store::StoreFault;
 
-/// Answers the messages that are complete, and appends each answer's frame.
+/// Answers the messages that are complete, and appends each answer's frame. Those on an image file are answered in
+/// groups, and others one by one.
 pub(crate) fn answer_on(
     alloc: Global,
     medium: &mut Medium,
@@ -32,14 +33,18 @@ pub(crate) fn answer_on(
     engine: &mut Engine,
 ) -> Result<(), AllocError>
     requires { IsReady (seen_by engine.old medium.old) }
-    ensures ok { OnOk result (Answering frames.old frames.new (seen_by engine.old medium.old) (seen_by engine.new medium.new) (Some answers.old.items) (Some answers.new.items)) }
+    ensures ok { OnOk result (AnsweredBy (in_groups medium.old) frames.old frames.new (seen_by engine.old medium.old) (gathering_on medium.old) (seen_by engine.new medium.new) (gathering_on medium.new)
+        (Some answers.old.items) (Some answers.new.items)) }
     ensures idle { OnOk result (IsIdle frames.new) }
-    ensures err { OnErr result (AnswersSome stops.Memory frames.old frames.new (seen_by engine.old medium.old) (seen_by engine.new medium.new) (Some answers.old.items) (Some answers.new.items)) }
+    ensures err { OnErr result (AnsweredSomeBy (in_groups medium.old) frames.old frames.new (seen_by engine.old medium.old) (gathering_on medium.old) (seen_by engine.new medium.new) (gathering_on medium.new)
+        (Some answers.old.items) (Some answers.new.items)) }
     ensures ready { IsReady (seen_by engine.new medium.new) }
     ensures kind { in_memory medium.new ≡ in_memory medium.old }
+    ensures groups { in_groups medium.new ≡ in_groups medium.old }
 {
     match medium {
-        Medium::Image(drive) => answer_held(alloc, frames, answers, engine, drive),
+        Medium::Image(drive) => answer_groups_held(alloc, frames, answers, engine, drive),
+        Medium::InOrder(drive) => answer_held(alloc, frames, answers, engine, drive),
         Medium::Memory(drive) => answer_held(alloc, frames, answers, engine, drive),
     }
 }
@@ -65,6 +70,7 @@ pub(crate) fn open_on(
 {
     match medium {
         Medium::Image(drive) => engine.open(alloc, drive),
+        Medium::InOrder(drive) => engine.open(alloc, drive),
         Medium::Memory(drive) => engine.open(alloc, drive),
     }
 }
@@ -88,6 +94,7 @@ pub(crate) fn status_by(
 {
     match medium {
         Medium::Image(drive) => opened_status(alloc, engine, drive),
+        Medium::InOrder(drive) => opened_status(alloc, engine, drive),
         Medium::Memory(drive) => opened_status(alloc, engine, drive),
     }
 }
@@ -112,6 +119,7 @@ pub(crate) fn commit_by(
 {
     match medium {
         Medium::Image(drive) => opened_commit(alloc, engine, drive, after),
+        Medium::InOrder(drive) => opened_commit(alloc, engine, drive, after),
         Medium::Memory(drive) => opened_commit(alloc, engine, drive, after),
     }
 }

@@ -7,10 +7,10 @@ ghost use Rattle.embedding.specs.Ready.{ready_prop};
 
 use crate::fault::{Fault, fault_of};
 use crate::lending::{answer_on, commit_by, open_on, status_by};
-use crate::medium::Medium;
+use crate::medium::{Medium, medium_under};
 use crate::questions::last_of;
 use crate::told::{CommitStatus, Status};
-use crate::volumes::{drive_of, format_memory};
+use crate::volumes::format_memory;
 use drive::MemDrive;
 use engine::Engine;
 use limits::Block;
@@ -59,13 +59,13 @@ impl Session {
         }
     }
 
-    /// Opens the volume on the file of a descriptor, in place of what the session held. If this is refused, the file is
-    /// closed, and the session stays as it was.
-    pub fn open_file(&mut self, fd: i32) -> Result<(), Fault>
-        ensures { OpensFile result self.old self.new }
+    /// Opens the volume on the file of a descriptor, or on a drive that is written in order alone, in place of what the
+    /// session held. If this is refused, the descriptor is closed, and the session stays as it was.
+    pub fn open_file(&mut self, fd: i32, is_in_order: bool) -> Result<(), Fault>
+        ensures { OpensFile is_in_order result self.old self.new }
     {
-        match drive_of(fd, limits::GREATEST_CAPACITY) {
-            Ok(drive) => self.turn_to(Medium::Image(drive)),
+        match medium_under(self.alloc, fd, is_in_order) {
+            Ok(medium) => self.turn_to(medium),
             Err(fault) => Err(fault),
         }
     }

@@ -14,7 +14,7 @@ use Rattle.engine.specs.Served.{AllAnswered, frames_of}
 use Rattle.engine.specs.Streams.{PutsPrefix}
 use Rattle.engine.proofs.Messages.{appends_more, front_more, kept_none, no_front, nothing_more, taken_more}
 use Rattle.group_losses.specs.Gathered.{NoneFailed}
-use Rattle.grouping.specs.Groups.{grows, mark_of, marks_of, Gathered, Gathering, GatheringSome, NoneAsksToGrow}
+use Rattle.grouping.specs.Groups.{grows, mark_of, marks_of, Gathered, CarriedOut, CarriedOutSome, NoneAsksToGrow}
 use Rattle.grouping.specs.Steps.{Going, some_of}
 
 -- one message more was answered
@@ -79,14 +79,14 @@ going_none reader s o marks none = record {
 }
 
 module _ (reader between after : Option (List ℕ)) (s t u : Situation) (o v w : Option (List ℕ)) (marks more : List ℕ) (m : Message) (a : Answer) (begun : Bool) (g : Going reader between s t o v marks begun) where
-  abbrev h : Gathering reader between s t o v marks
+  abbrev h : CarriedOut reader between s t o v marks
   h = g.gathering
 
   unfoldable marks_now : (answered : IsAnswered m t a u) → more ≡ marks ++ mark_of t u → more ≡ marks_of (h.told.messages ++ m ∷ []) s (h.told.answers ++ a ∷ []) u (answered_one h.told.messages h.told.answers s t u m a h.told.answered answered)
   marks_now answered is = is ∙ ap (λ (l : List ℕ). l ++ mark_of t u) h.marks_are ∙ sym (marks_one h.told.messages h.told.answers s t u m a h.told.answered answered)
 
   -- one message more was answered, and its answer's frame was written
-  gathering_more : TakesMessage between m after → IsAnswered m t a u → faults a ≡ 0 → Appends v w (answer_frame a) → more ≡ marks ++ mark_of t u → Gathering reader after s u o w more
+  gathering_more : TakesMessage between m after → IsAnswered m t a u → faults a ≡ 0 → Appends v w (answer_frame a) → more ≡ marks ++ mark_of t u → CarriedOut reader after s u o w more
   gathering_more takes answered none told is = record {
     told = record {
       messages = h.told.messages ++ m ∷ [];
@@ -113,7 +113,7 @@ module _ (reader between after : Option (List ℕ)) (s t u : Situation) (o v w :
   }
 
   -- the same where there was no memory for the frame
-  pub gathering_some : TakesMessage between m after → IsAnswered m t a u → faults a ≡ 0 → Keeps v w → more ≡ marks ++ mark_of t u → (alone : Bool) → alone ≡ grows m → (alone ≡ true → begun ≡ false) → GatheringSome reader after s u o w more
+  pub gathering_some : TakesMessage between m after → IsAnswered m t a u → faults a ≡ 0 → Keeps v w → more ≡ marks ++ mark_of t u → (alone : Bool) → alone ≡ grows m → (alone ≡ true → begun ≡ false) → CarriedOutSome reader after s u o w more
   gathering_some takes answered none kept is alone a-is first = record {
     told = record {
       messages = h.told.messages ++ m ∷ [];

@@ -5,7 +5,7 @@ use Rattle.std.proofs.lemmas.List.{length-take}
 use Rattle.std.proofs.Math.Seq.{take-append-add}
 use Rattle.drive.specs.Journal.{Event, Once, event_blocks, held, written}
 use Rattle.drive.specs.Writes.{IsTorn, unwritten}
-use Rattle.drive.specs.declared.Drive.{Ghosts}
+use Rattle.drive.specs.Gathering.{Gathering}
 use Rattle.drive.proofs.Fronts.{held_write}
 use Rattle.drive.proofs.Once.{blocks_of-written}
 use Rattle.model.specs.Session.{State, Request, after}
@@ -131,103 +131,102 @@ first_phase_is volume g all commits is = ap (λ (phases : List (List Event)). ev
     first_of [] = []
     first_of (J ∷ phases) = J
 
-module _ {D : Type 0} (drive : Ghosts D) (phases : D → List (List Event)) (gathers : D → Bool) where
-  abbrev Is : Situation → Group → Type 0
-  Is before g = IsSettledGroup drive phases gathers before g ⊎ IsLoneGroup drive gathers before g
+abbrev Is : Situation → Gathering → Group → Type 0
+Is before begun g = IsSettledGroup before begun g ⊎ IsLoneGroup before begun g
 
-  -- where a group starts, the medium is as it was before it
-  start_journal : (before start : Situation) → StartsAt before start → start.journal ≡ before.journal
-  start_journal before start (inl same) = ap (λ (s : Situation). s.journal) same
-  start_journal before start (inr back) = back.journal
+-- where a group starts, the medium is as it was before it
+start_journal : (before start : Situation) → StartsAt before start → start.journal ≡ before.journal
+start_journal before start (inl same) = ap (λ (s : Situation). s.journal) same
+start_journal before start (inr back) = back.journal
 
-  start_capacity : (before start : Situation) → StartsAt before start → start.capacity ≡ before.capacity
-  start_capacity before start (inl same) = ap (λ (s : Situation). s.capacity) same
-  start_capacity before start (inr back) = back.capacity
+start_capacity : (before start : Situation) → StartsAt before start → start.capacity ≡ before.capacity
+start_capacity before start (inl same) = ap (λ (s : Situation). s.capacity) same
+start_capacity before start (inr back) = back.capacity
 
-  starts : (before : Situation) (g : Group) → Is before g → StartsAt before g.start
-  starts before g (inl settled) = inl settled.starts
-  starts before g (inr lone) = lone.starts
+starts : (before : Situation) (begun : Gathering) (g : Group) → Is before begun g → StartsAt before g.start
+starts before begun g (inl settled) = inl settled.starts
+starts before begun g (inr lone) = lone.starts
 
-  answered : (before : Situation) (g : Group) → Is before g → AllAnswered g.messages g.start g.answers g.afterwards
-  answered before g (inl settled) = settled.answered
-  answered before g (inr lone) = lone.answered
+answered : (before : Situation) (begun : Gathering) (g : Group) → Is before begun g → AllAnswered g.messages g.start g.answers g.afterwards
+answered before begun g (inl settled) = settled.answered
+answered before begun g (inr lone) = lone.answered
 
-  from_start : (before : Situation) (g : Group) → Is before g → (volume : ℕ) (S : State) → HoldsState volume S before → HoldsState volume S g.start
-  from_start before g is volume S at = (taking_back before g.start (starts before g is)).1 volume S at
+from_start : (before : Situation) (begun : Gathering) (g : Group) → Is before begun g → (volume : ℕ) (S : State) → HoldsState volume S before → HoldsState volume S g.start
+from_start before begun g is volume S at = (taking_back before g.start (starts before begun g is)).1 volume S at
 
-  same_cut : (before : Situation) (g : Group) → Is before g → (volume : ℕ) (S : State) (life : Life) (found : List Event) → IsRunCutShort g.start.capacity volume S g.start.journal life found → IsRunCutShort before.capacity volume S before.journal life found
-  same_cut before g is volume S life found cut =
-      subst (λ (J : List Event). IsRunCutShort before.capacity volume S J life found) (start_journal before g.start (starts before g is))
-      (subst (λ (n : ℕ). IsRunCutShort n volume S g.start.journal life found) (start_capacity before g.start (starts before g is)) cut)
+same_cut : (before : Situation) (begun : Gathering) (g : Group) → Is before begun g → (volume : ℕ) (S : State) (life : Life) (found : List Event) → IsRunCutShort g.start.capacity volume S g.start.journal life found → IsRunCutShort before.capacity volume S before.journal life found
+same_cut before begun g is volume S life found cut =
+    subst (λ (J : List Event). IsRunCutShort before.capacity volume S J life found) (start_journal before g.start (starts before begun g is))
+    (subst (λ (n : ℕ). IsRunCutShort n volume S g.start.journal life found) (start_capacity before g.start (starts before begun g is)) cut)
 
-  same_ended : (before : Situation) (g : Group) → Is before g → (volume : ℕ) (S : State) (life : Life) (afterwards : Situation) → Ended g.start.capacity volume S g.start.journal life afterwards → Ended before.capacity volume S before.journal life afterwards
-  same_ended before g is volume S life afterwards e =
-      subst (λ (J : List Event). Ended before.capacity volume S J life afterwards) (start_journal before g.start (starts before g is))
-      (subst (λ (n : ℕ). Ended n volume S g.start.journal life afterwards) (start_capacity before g.start (starts before g is)) e)
+same_ended : (before : Situation) (begun : Gathering) (g : Group) → Is before begun g → (volume : ℕ) (S : State) (life : Life) (afterwards : Situation) → Ended g.start.capacity volume S g.start.journal life afterwards → Ended before.capacity volume S before.journal life afterwards
+same_ended before begun g is volume S life afterwards e =
+    subst (λ (J : List Event). Ended before.capacity volume S J life afterwards) (start_journal before g.start (starts before begun g is))
+    (subst (λ (n : ℕ). Ended n volume S g.start.journal life afterwards) (start_capacity before g.start (starts before begun g is)) e)
 
-  group_ended : (volume : ℕ) (S : State) (before : Situation) (g : Group) → Is before g → IsTrue g.afterwards.honest → HoldsState volume S before → Ended before.capacity volume S before.journal (life_in g) g.afterwards
-  group_ended volume S before g is honest at =
-      same_ended before g is volume S (life_in g) g.afterwards (ended volume S g.start g.messages g.answers g.afterwards (answered before g is) honest (from_start before g is volume S at))
+group_ended : (volume : ℕ) (S : State) (before : Situation) (begun : Gathering) (g : Group) → Is before begun g → IsTrue g.afterwards.honest → HoldsState volume S before → Ended before.capacity volume S before.journal (life_in g) g.afterwards
+group_ended volume S before begun g is honest at =
+    same_ended before begun g is volume S (life_in g) g.afterwards (ended volume S g.start g.messages g.answers g.afterwards (answered before begun g is) honest (from_start before begun g is volume S at))
 
-  group_capacity : (before : Situation) (g : Group) → Is before g → g.afterwards.capacity ≡ before.capacity
-  group_capacity before g is = answered_room g.messages g.start g.answers g.afterwards (answered before g is) ∙ start_capacity before g.start (starts before g is)
+group_capacity : (before : Situation) (begun : Gathering) (g : Group) → Is before begun g → g.afterwards.capacity ≡ before.capacity
+group_capacity before begun g is = answered_room g.messages g.start g.answers g.afterwards (answered before begun g is) ∙ start_capacity before g.start (starts before begun g is)
 
-  -- ---- the one in which the power was lost
+-- ---- the one in which the power was lost
 
-  LastCut : ℕ → State → (before : Situation) (g : Group) (is : Is before g) (found : List Event) → LosesGroup drive phases gathers before g is found → Type 0
-  LastCut volume S before g is found loses = (life : Life) × IsLastLife drive phases gathers before g is found loses life × IsRunCutShort before.capacity volume S before.journal life found
+LastCut : ℕ → State → (before : Situation) (begun : Gathering) (g : Group) (is : Is before begun g) (found : List Event) → LosesGroup before begun g is found → Type 0
+LastCut volume S before begun g is found loses = (life : Life) × IsLastLife before begun g is found loses life × IsRunCutShort before.capacity volume S before.journal life found
 
-  last_cut : (volume : ℕ) (S : State) (before : Situation) (g : Group) (is : Is before g) (found : List Event) → IsTrue g.afterwards.honest → HoldsState volume S before
-      → (loses : LosesGroup drive phases gathers before g is found) → LastCut volume S before g is found loses
-  unfolding LastCut
-  last_cut volume S before g (inl settled) found honest at (inl (left, torn, is)) =
-      let from : HoldsState volume S g.start = from_start before g (inl settled) volume S at in
-      let (requests, commits, are, ends, endures) = group_survives volume g.messages S g.start g.answers g.afterwards from honest settled.answered settled.none_failed in
-      let same = first_phase_is volume g settled.answered commits (phases_are_of_commits g.messages S g.start g.answers g.afterwards settled.answered requests commits are) in
-      let blanks : IsTorn (with_marks none_there commits) left = subst (λ (bs : List Block). IsTorn bs left) same torn in
-      (no_life, refl, same_cut before g (inl settled) volume S no_life found (none_cut volume S g.start found from (torn_advances g.start.capacity volume S g.start.journal from.once requests commits g.afterwards.journal endures left found blanks is)))
-  last_cut volume S before g (inl settled) found honest at (inr whole) =
-      (life_in g, refl, subst (λ (J : List Event). IsRunCutShort before.capacity volume S before.journal (life_in g) J) (sym whole) (group_ended volume S before g (inl settled) honest at).cut)
-  last_cut volume S before g (inr lone) found honest at (inl cut) =
-      let from : HoldsState volume S g.start = from_start before g (inr lone) volume S at in
-      let (life, is, short) = run_lost volume S g.start g.messages g.answers g.afterwards lone.answered honest from (served_withstand g.messages g.start g.answers g.afterwards lone.answered) found cut in
-      (life, is, same_cut before g (inr lone) volume S life found short)
-  last_cut volume S before g (inr lone) found honest at (inr whole) =
-      (life_in g, refl, subst (λ (J : List Event). IsRunCutShort before.capacity volume S before.journal (life_in g) J) (sym whole) (group_ended volume S before g (inr lone) honest at).cut)
+last_cut : (volume : ℕ) (S : State) (before : Situation) (begun : Gathering) (g : Group) (is : Is before begun g) (found : List Event) → IsTrue g.afterwards.honest → HoldsState volume S before
+    → (loses : LosesGroup before begun g is found) → LastCut volume S before begun g is found loses
+unfolding LastCut
+last_cut volume S before begun g (inl settled) found honest at (inl (left, torn, is)) =
+    let from : HoldsState volume S g.start = from_start before begun g (inl settled) volume S at in
+    let (requests, commits, are, ends, endures) = group_survives volume g.messages S g.start g.answers g.afterwards from honest settled.answered settled.none_failed in
+    let same = first_phase_is volume g settled.answered commits (phases_are_of_commits g.messages S g.start g.answers g.afterwards settled.answered requests commits are) in
+    let blanks : IsTorn (with_marks none_there commits) left = subst (λ (bs : List Block). IsTorn bs left) same torn in
+    (no_life, refl, same_cut before begun g (inl settled) volume S no_life found (none_cut volume S g.start found from (torn_advances g.start.capacity volume S g.start.journal from.once requests commits g.afterwards.journal endures left found blanks is)))
+last_cut volume S before begun g (inl settled) found honest at (inr whole) =
+    (life_in g, refl, subst (λ (J : List Event). IsRunCutShort before.capacity volume S before.journal (life_in g) J) (sym whole) (group_ended volume S before begun g (inl settled) honest at).cut)
+last_cut volume S before begun g (inr lone) found honest at (inl cut) =
+    let from : HoldsState volume S g.start = from_start before begun g (inr lone) volume S at in
+    let (life, is, short) = run_lost volume S g.start g.messages g.answers g.afterwards lone.answered honest from (served_withstand g.messages g.start g.answers g.afterwards lone.answered) found cut in
+    (life, is, same_cut before begun g (inr lone) volume S life found short)
+last_cut volume S before begun g (inr lone) found honest at (inr whole) =
+    (life_in g, refl, subst (λ (J : List Event). IsRunCutShort before.capacity volume S before.journal (life_in g) J) (sym whole) (group_ended volume S before begun g (inr lone) honest at).cut)
 
-  -- ---- all of them
+-- ---- all of them
 
-  all_ended : (volume : ℕ) (S : State) (groups : List Group) (before afterwards : Situation) (all : AreGroups drive phases gathers groups before afterwards) → IsTrue afterwards.honest → HoldsState volume S before
-      → (done : List Request) × AreCut before.capacity volume S before.journal (map life_in groups) done afterwards.journal × HoldsState volume (after S done) afterwards
-  all_ended volume S [] before afterwards all honest at = ([], (refl, ap (λ (s : Situation). s.journal) all), subst (λ (s : Situation). HoldsState volume S s) (sym all) at)
-  all_ended volume S (g ∷ groups) before afterwards all honest at =
-      let e = group_ended volume S before g all.0 (groups_honest drive phases gathers groups g.afterwards afterwards all.1 honest) at in
-      let here : List Request = e.cut.run.holds.committed ++ [] in
-      let (done, cuts, there) = all_ended volume (after S here) groups g.afterwards afterwards all.1 honest e.at in
-      let sized = subst (λ (n : ℕ). AreCut n volume (after S here) g.afterwards.journal (map life_in groups) done afterwards.journal) (group_capacity before g all.0) cuts in (
-        here ++ done,
-        cut_more before.capacity volume S before.journal (life_in g) g.afterwards.journal e.cut (map life_in groups) done afterwards.journal sized,
-        subst (λ (T : State). HoldsState volume T afterwards) (sym (after-append here done S)) there,
-      )
+all_ended : (volume : ℕ) (S : State) (groups : List Group) (before : Situation) (begun : Gathering) (afterwards : Situation) (ended : Gathering) (all : AreGroups groups before begun afterwards ended) → IsTrue afterwards.honest → HoldsState volume S before
+    → (done : List Request) × AreCut before.capacity volume S before.journal (map life_in groups) done afterwards.journal × HoldsState volume (after S done) afterwards
+all_ended volume S [] before begun afterwards ended all honest at = ([], (refl, ap (λ (s : Situation). s.journal) all.0), subst (λ (s : Situation). HoldsState volume S s) (sym all.0) at)
+all_ended volume S (g ∷ groups) before begun afterwards ended all honest at =
+    let e = group_ended volume S before begun g all.0 (groups_honest groups g.afterwards g.gathering afterwards ended all.1 honest) at in
+    let here : List Request = e.cut.run.holds.committed ++ [] in
+    let (done, cuts, there) = all_ended volume (after S here) groups g.afterwards g.gathering afterwards ended all.1 honest e.at in
+    let sized = subst (λ (n : ℕ). AreCut n volume (after S here) g.afterwards.journal (map life_in groups) done afterwards.journal) (group_capacity before begun g all.0) cuts in (
+      here ++ done,
+      cut_more before.capacity volume S before.journal (life_in g) g.afterwards.journal e.cut (map life_in groups) done afterwards.journal sized,
+      subst (λ (T : State). HoldsState volume T afterwards) (sym (after-append here done S)) there,
+    )
 
-  all_until : (volume : ℕ) (S : State) (groups : List Group) (before afterwards : Situation) (all : AreGroups drive phases gathers groups before afterwards) → IsTrue afterwards.honest → HoldsState volume S before
-      → (found : List Event) (loses : LosesGroups drive phases gathers groups before afterwards all found)
-      → (lives : List Life) × LivesUntil drive phases gathers groups before afterwards all found loses lives × (done : List Request) × AreCut before.capacity volume S before.journal lives done found
-  unfolding LastCut
-  all_until volume S [] before afterwards all honest at found loses = absurd loses
-  all_until volume S (g ∷ groups) before afterwards all honest at found (inl here) =
-      let last : LastCut volume S before g all.0 found here = last_cut volume S before g all.0 found (groups_honest drive phases gathers groups g.afterwards afterwards all.1 honest) at here in
-      until_here last
-    where
-      until_here : LastCut volume S before g all.0 found here → (lives : List Life) × LivesUntil drive phases gathers (g ∷ groups) before afterwards all found (inl here) lives × (done : List Request) × AreCut before.capacity volume S before.journal lives done found
-      until_here (life, is, cut) = let (done, cuts) = cut_one before.capacity volume S before.journal life found cut in (life ∷ [], (life, is, refl), done, cuts)
-  all_until volume S (g ∷ groups) before afterwards all honest at found (inr later) =
-      let e = group_ended volume S before g all.0 (groups_honest drive phases gathers groups g.afterwards afterwards all.1 honest) at in
-      let here : List Request = e.cut.run.holds.committed ++ [] in
-      let (lives, until, done, cuts) = all_until volume (after S here) groups g.afterwards afterwards all.1 honest e.at found later in
-      let sized = subst (λ (n : ℕ). AreCut n volume (after S here) g.afterwards.journal lives done found) (group_capacity before g all.0) cuts in
-      (life_in g ∷ lives, (lives, until, refl), here ++ done, cut_more before.capacity volume S before.journal (life_in g) g.afterwards.journal e.cut lives done found sized)
+all_until : (volume : ℕ) (S : State) (groups : List Group) (before : Situation) (begun : Gathering) (afterwards : Situation) (ended : Gathering) (all : AreGroups groups before begun afterwards ended) → IsTrue afterwards.honest → HoldsState volume S before
+    → (found : List Event) (loses : LosesGroups groups before begun afterwards ended all found)
+    → (lives : List Life) × LivesUntil groups before begun afterwards ended all found loses lives × (done : List Request) × AreCut before.capacity volume S before.journal lives done found
+unfolding LastCut
+all_until volume S [] before begun afterwards ended all honest at found loses = absurd loses
+all_until volume S (g ∷ groups) before begun afterwards ended all honest at found (inl here) =
+    let last : LastCut volume S before begun g all.0 found here = last_cut volume S before begun g all.0 found (groups_honest groups g.afterwards g.gathering afterwards ended all.1 honest) at here in
+    until_here last
+  where
+    until_here : LastCut volume S before begun g all.0 found here → (lives : List Life) × LivesUntil (g ∷ groups) before begun afterwards ended all found (inl here) lives × (done : List Request) × AreCut before.capacity volume S before.journal lives done found
+    until_here (life, is, cut) = let (done, cuts) = cut_one before.capacity volume S before.journal life found cut in (life ∷ [], (life, is, refl), done, cuts)
+all_until volume S (g ∷ groups) before begun afterwards ended all honest at found (inr later) =
+    let e = group_ended volume S before begun g all.0 (groups_honest groups g.afterwards g.gathering afterwards ended all.1 honest) at in
+    let here : List Request = e.cut.run.holds.committed ++ [] in
+    let (lives, until, done, cuts) = all_until volume (after S here) groups g.afterwards g.gathering afterwards ended all.1 honest e.at found later in
+    let sized = subst (λ (n : ℕ). AreCut n volume (after S here) g.afterwards.journal lives done found) (group_capacity before begun g all.0) cuts in
+    (life_in g ∷ lives, (lives, until, refl), here ++ done, cut_more before.capacity volume S before.journal (life_in g) g.afterwards.journal e.cut lives done found sized)
 
-  pub groups_are_lives : (groups : List Group) (before afterwards : Situation) (all : AreGroups drive phases gathers groups before afterwards) → GroupsAreLives drive phases gathers groups before afterwards all
-  groups_are_lives groups before afterwards all volume S honest at =
-      (all_ended volume S groups before afterwards all honest at, λ found loses. all_until volume S groups before afterwards all honest at found loses)
+pub groups_are_lives : (groups : List Group) (before : Situation) (begun : Gathering) (afterwards : Situation) (ended : Gathering) (all : AreGroups groups before begun afterwards ended) → GroupsAreLives groups before begun afterwards ended all
+groups_are_lives groups before begun afterwards ended all volume S honest at =
+    (all_ended volume S groups before begun afterwards ended all honest at, λ found loses. all_until volume S groups before begun afterwards ended all honest at found loses)

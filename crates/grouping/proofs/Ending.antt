@@ -2,7 +2,8 @@
 use Rattle.std.proofs.Common.{◌≡◌, inl, inr, ℕ, Bool, true, false, List, ◌++◌, length, take, Option, Some, None, Result, Ok, Err, ap, subst, ◌∙◌, arith}
 use Rattle.std.specs.Prelude.{OnOk, OnErr}
 use Rattle.std.proofs.Math.Seq.{take-append_seam}
-use Rattle.drive.specs.Journal.{Event, counted}
+use Rattle.drive.specs.Gathering.{Gathering}
+use Rattle.drive.specs.Journal.{counted}
 use Rattle.drive.specs.Reads.{CountsFailures}
 use Rattle.drive.specs.declared.Drive.{Ghosts}
 use Rattle.store.specs.declared.store.Store.{Store}
@@ -10,31 +11,31 @@ use Rattle.engine.specs.declared.serving.ServeFault.TheVariants.{Memory}
 use Rattle.engine.specs.Situation.{Situation, situation_on}
 use Rattle.engine.specs.Served.{Answering, AnswersSome}
 use Rattle.request.specs.Frames.{IsIdle}
-use Rattle.grouping.specs.Groups.{GroupTold, GroupUntold, IsSettled, StartsAt}
+use Rattle.grouping.specs.Groups.{GroupTold, GroupUntold, IsAlone, IsSettled, StartsAt}
 use Rattle.grouping.specs.Steps.{Gathers}
 use Rattle.grouping.proofs.Settled.{gathered_same, gathering_some_same}
 
-module _ {D E : Type 0} (drive : Ghosts D) (phases : D → List (List Event)) (gathers : D → Bool) (reader after : Option (List ℕ)) (before : Situation) (d : D) (u : Situation) (output written : Option (List ℕ)) where
-  -- they were answered one by one until none was complete, on a drive that does not gather
-  pub alone_told : (r : Result (Unit {0}) E) (start : Situation) (store : Option Store) (shown : D) → StartsAt before start → start ≡ situation_on drive store shown → gathers shown ≡ false
-      → OnOk r (Answering reader after start u output written) → OnOk r (IsIdle after) → OnOk r (GroupTold drive phases gathers reader after before d u output written)
-  alone_told (Ok v) start store shown starts shows alone told idle = inr (start, starts, record { store = store; shown = shown; shows = shows; alone = alone }, told, idle)
-  alone_told (Err e) start store shown starts shows alone told idle = tt
+module _ {E : Type 0} (reader after : Option (List ℕ)) (before : Situation) (begun : Gathering) (u : Situation) (ended : Gathering) (output written : Option (List ℕ)) where
+  -- they were answered one by one until none was complete
+  pub alone_told : (r : Result (Unit {0}) E) (start : Situation) → StartsAt before start → IsAlone before start begun ended
+      → OnOk r (Answering reader after start u output written) → OnOk r (IsIdle after) → OnOk r (GroupTold reader after before begun u ended output written)
+  alone_told (Ok v) start starts alone told idle = inr (start, starts, alone, told, idle)
+  alone_told (Err e) start starts alone told idle = tt
 
   -- the same up to an answer for whose frame there was no memory
-  pub alone_untold : (r : Result (Unit {0}) E) (start : Situation) (store : Option Store) (shown : D) → StartsAt before start → start ≡ situation_on drive store shown → gathers shown ≡ false
-      → OnErr r (AnswersSome Memory reader after start u output written) → OnErr r (GroupUntold drive phases gathers reader after before d u output written)
-  alone_untold (Ok v) start store shown starts shows alone told = tt
-  alone_untold (Err e) start store shown starts shows alone told = inr (start, starts, record { store = store; shown = shown; shows = shows; alone = alone }, told)
+  pub alone_untold : (r : Result (Unit {0}) E) (start : Situation) → StartsAt before start → IsAlone before start begun ended
+      → OnErr r (AnswersSome Memory reader after start u output written) → OnErr r (GroupUntold reader after before begun u ended output written)
+  alone_untold (Ok v) start starts alone told = tt
+  alone_untold (Err e) start starts alone told = inr (start, starts, alone, told)
 
   -- the disk has the group
-  pub settled_told : (r : Result (Unit {0}) E) (s t : Situation) (marks : List ℕ) → s ≡ before → t ≡ u → IsSettled marks before u (phases d) (gathers d)
-      → Gathers (Some r) reader after s t output written marks → OnOk r (GroupTold drive phases gathers reader after before d u output written)
+  pub settled_told : (r : Result (Unit {0}) E) (s t : Situation) (marks : List ℕ) → s ≡ before → t ≡ u → IsSettled marks before u begun ended
+      → Gathers (Some r) reader after s t output written marks → OnOk r (GroupTold reader after before begun u ended output written)
   settled_told (Ok v) s t marks same shows settled h = inl (marks, gathered_same reader after s before t u output written marks same shows h, settled)
   settled_told (Err e) s t marks same shows settled h = tt
 
-  pub settled_untold : (r : Result (Unit {0}) E) (s t : Situation) (marks : List ℕ) → s ≡ before → t ≡ u → IsSettled marks before u (phases d) (gathers d)
-      → Gathers (Some r) reader after s t output written marks → OnErr r (GroupUntold drive phases gathers reader after before d u output written)
+  pub settled_untold : (r : Result (Unit {0}) E) (s t : Situation) (marks : List ℕ) → s ≡ before → t ≡ u → IsSettled marks before u begun ended
+      → Gathers (Some r) reader after s t output written marks → OnErr r (GroupUntold reader after before begun u ended output written)
   settled_untold (Ok v) s t marks same shows settled h = tt
   settled_untold (Err e) s t marks same shows settled h = inl (marks, gathering_some_same reader after s before t u output written marks same shows h, settled)
 

@@ -14,7 +14,7 @@ use Rattle.request.specs.declared.message.Message.{Message}
 use Rattle.request.specs.Answers.{answer_frame}
 use Rattle.request.specs.Frames.{TakesMessage}
 use Rattle.std.specs.Io.KnownBytes.{Appends, Keeps}
-use Rattle.grouping.specs.Groups.{grows, Gathered, GatheringSome, mark_between, mark_of}
+use Rattle.grouping.specs.Groups.{grows, Gathered, CarriedOutSome, mark_between, mark_of}
 use Rattle.grouping.specs.Steps.{Going}
 use Rattle.grouping.proofs.Answers.{gathered_more, gathering_some, going_more}
 use Rattle.grouping.proofs.Settled.{gathered_same, gathering_some_same, going_same, same_shown}
@@ -94,7 +94,7 @@ module _ {D : Type 0} (drive : Ghosts D) (reader between after : Option (List �
       (gathered_more reader between after s t (situation_on drive store d) o v w marks more m a begun h one.takes one.answered one.none told (marked_there one) alone is first)
 
   -- or ends where there was no memory for the answer's frame
-  pub goes_some : OneMore → Keeps v w → (alone : Bool) → alone ≡ grows m → (alone ≡ true → begun ≡ false) → GatheringSome reader after s (situation_on drive store e) o w more
+  pub goes_some : OneMore → Keeps v w → (alone : Bool) → alone ≡ grows m → (alone ≡ true → begun ≡ false) → CarriedOutSome reader after s (situation_on drive store e) o w more
   goes_some one kept alone is first =
       gathering_some_same reader after s s (situation_on drive store d) (situation_on drive store e) o w more refl (untouched_shows drive store d e one.untouched)
       (gathering_some reader between after s t (situation_on drive store d) o v w marks more m a begun h one.takes one.answered one.none kept (marked_there one) alone is first)

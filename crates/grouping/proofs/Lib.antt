@@ -6,6 +6,7 @@ pub mod Ending
 pub mod Phases
 pub mod Withstanding
 pub mod Streams
+pub mod Holding
 pub mod Piecewise
 pub mod Running
 pub mod Cutting

@@ -3,7 +3,7 @@ use Rattle.std.proofs.Common.{◌≡◌, ◌⊎◌, inl, inr, ℕ, List, [], ◌
 use Rattle.std.specs.Option.{option_to_list}
 use Rattle.std.proofs.lemmas.List.{map-append}
 use Rattle.drive.specs.Journal.{Event}
-use Rattle.drive.specs.declared.Drive.{Ghosts}
+use Rattle.drive.specs.Gathering.{Gathering}
 use Rattle.model.specs.Session.{State}
 use Rattle.durability.specs.Journal.{Advances}
 use Rattle.durability.specs.Runs.{Answer, Delivery}
@@ -57,31 +57,30 @@ start_steps volume S before start (inr back) at = (None, S, start, [], back_step
 answers_joined : (answers : List told.Answer) (groups : List Group) → model_answers answers ++ model_answers (answers_of groups) ≡ model_answers (answers ++ answers_of groups)
 answers_joined answers groups = sym (map-append model_answer answers (answers_of groups))
 
-module _ {D : Type 0} (drive : Ghosts D) (phases : D → List (List Event)) (gathers : D → Bool) where
-  group_steps : (volume : ℕ) (S : State) (before : Situation) (g : Group) (is : IsSettledGroup drive phases gathers before g ⊎ IsLoneGroup drive gathers before g) → IsTrue g.afterwards.honest → HoldsState volume S before
-      → (T : State) × AllSteps volume (restart_before drive phases gathers before g is ++ brought g.messages) S before (model_answers g.answers) T g.afterwards
-  group_steps volume S before g (inl settled) honest at =
-      let (T, steps) = answered_steps volume g.messages S g.start g.answers g.afterwards settled.answered honest (subst (λ (s : Situation). HoldsState volume S s) (sym settled.starts) at) in
-      (T, subst (λ (s : Situation). AllSteps volume (brought g.messages) S s (model_answers g.answers) T g.afterwards) settled.starts steps)
-  group_steps volume S before g (inr lone) honest at =
-      let from : HoldsState volume S g.start = (taking_back before g.start lone.starts).1 volume S at in
-      let (T, steps) = answered_steps volume g.messages S g.start g.answers g.afterwards lone.answered honest from in
-      (T, steps_join volume (restart_of before g.start lone.starts) (brought g.messages) S before [] (model_answers g.answers) S g.start T g.afterwards (start_steps volume S before g.start lone.starts at) steps)
+group_steps : (volume : ℕ) (S : State) (before : Situation) (begun : Gathering) (g : Group) (is : IsSettledGroup before begun g ⊎ IsLoneGroup before begun g) → IsTrue g.afterwards.honest → HoldsState volume S before
+    → (T : State) × AllSteps volume (restart_before before begun g is ++ brought g.messages) S before (model_answers g.answers) T g.afterwards
+group_steps volume S before begun g (inl settled) honest at =
+    let (T, steps) = answered_steps volume g.messages S g.start g.answers g.afterwards settled.answered honest (subst (λ (s : Situation). HoldsState volume S s) (sym settled.starts) at) in
+    (T, subst (λ (s : Situation). AllSteps volume (brought g.messages) S s (model_answers g.answers) T g.afterwards) settled.starts steps)
+group_steps volume S before begun g (inr lone) honest at =
+    let from : HoldsState volume S g.start = (taking_back before g.start lone.starts).1 volume S at in
+    let (T, steps) = answered_steps volume g.messages S g.start g.answers g.afterwards lone.answered honest from in
+    (T, steps_join volume (restart_of before g.start lone.starts) (brought g.messages) S before [] (model_answers g.answers) S g.start T g.afterwards (start_steps volume S before g.start lone.starts at) steps)
 
-  groups_steps : (volume : ℕ) (S : State) (groups : List Group) (before afterwards : Situation) (all : AreGroups drive phases gathers groups before afterwards) → IsTrue afterwards.honest → HoldsState volume S before
-      → (T : State) × AllSteps volume (said_in drive phases gathers groups before afterwards all) S before (model_answers (answers_of groups)) T afterwards
-  groups_steps volume S [] before afterwards all honest at = (S, (refl, refl, all))
-  groups_steps volume S (g ∷ groups) before afterwards all honest at =
-      let first = restart_before drive phases gathers before g all.0 ++ brought g.messages in
-      let (T, steps) = group_steps volume S before g all.0 (groups_honest drive phases gathers groups g.afterwards afterwards all.1 honest) at in
-      let (U, rest) = groups_steps volume T groups g.afterwards afterwards all.1 honest (steps_at volume first S before (model_answers g.answers) T g.afterwards at steps) in
-      let later = said_in drive phases gathers groups g.afterwards afterwards all.1 in (
-        U,
-        subst (λ (a : List Answer). AllSteps volume (first ++ later) S before a U afterwards) (answers_joined g.answers groups)
-            (steps_join volume first later S before (model_answers g.answers) (model_answers (answers_of groups)) T g.afterwards U afterwards steps rest),
-      )
+groups_steps : (volume : ℕ) (S : State) (groups : List Group) (before : Situation) (begun : Gathering) (afterwards : Situation) (ended : Gathering) (all : AreGroups groups before begun afterwards ended) → IsTrue afterwards.honest → HoldsState volume S before
+    → (T : State) × AllSteps volume (said_in groups before begun afterwards ended all) S before (model_answers (answers_of groups)) T afterwards
+groups_steps volume S [] before begun afterwards ended all honest at = (S, (refl, refl, all.0))
+groups_steps volume S (g ∷ groups) before begun afterwards ended all honest at =
+    let first = restart_before before begun g all.0 ++ brought g.messages in
+    let (T, steps) = group_steps volume S before begun g all.0 (groups_honest groups g.afterwards g.gathering afterwards ended all.1 honest) at in
+    let (U, rest) = groups_steps volume T groups g.afterwards g.gathering afterwards ended all.1 honest (steps_at volume first S before (model_answers g.answers) T g.afterwards at steps) in
+    let later = said_in groups g.afterwards g.gathering afterwards ended all.1 in (
+      U,
+      subst (λ (a : List Answer). AllSteps volume (first ++ later) S before a U afterwards) (answers_joined g.answers groups)
+          (steps_join volume first later S before (model_answers g.answers) (model_answers (answers_of groups)) T g.afterwards U afterwards steps rest),
+    )
 
-  pub groups_run : (groups : List Group) (before afterwards : Situation) (all : AreGroups drive phases gathers groups before afterwards) → GroupsRun drive phases gathers groups before afterwards all
-  groups_run groups before afterwards all volume S honest at =
-      let (T, steps) = groups_steps volume S groups before afterwards all honest at in
-      steps_hold volume (said_in drive phases gathers groups before afterwards all) S before (model_answers (answers_of groups)) T afterwards at steps
+pub groups_run : (groups : List Group) (before : Situation) (begun : Gathering) (afterwards : Situation) (ended : Gathering) (all : AreGroups groups before begun afterwards ended) → GroupsRun groups before begun afterwards ended all
+groups_run groups before begun afterwards ended all volume S honest at =
+    let (T, steps) = groups_steps volume S groups before begun afterwards ended all honest at in
+    steps_hold volume (said_in groups before begun afterwards ended all) S before (model_answers (answers_of groups)) T afterwards at steps

@@ -1,5 +1,6 @@
 -- What becomes of messages that are answered as a group.
-use Rattle.std.specs.Prelude.{◌≡◌, ◌⊎◌, ℕ, ◌-◌, nat_lt, Bool, false, if◌then◌else◌, IsTrue, List, [], ◌∷◌, ◌++◌, length, Option, None}
+use Rattle.std.specs.Prelude.{◌≡◌, ◌⊎◌, ℕ, ◌+◌, ◌-◌, ◌≤◌, nat_lt, Bool, false, if◌then◌else◌, IsTrue, List, [], ◌∷◌, ◌++◌, length, Option, None}
+use Rattle.drive.specs.Gathering.{Gathering}
 use Rattle.drive.specs.Journal.{Event}
 use Rattle.drive.specs.Reads.{CountsFailures}
 use Rattle.drive.specs.declared.Drive.{Ghosts}
@@ -10,13 +11,22 @@ use Rattle.request.specs.declared.message.Op.{Op}
 use Rattle.request.specs.declared.message.Op.TheVariants as op
 use Rattle.request.specs.Frames.{IsIdle}
 use Rattle.model.specs.Session.{State}
+use Rattle.settling.specs.Calls.{GivesFront}
 use Rattle.settling.specs.Phases.{two_phases}
 use Rattle.store.specs.declared.store.Store.{Store}
 use Rattle.engine.specs.declared.serving.ServeFault.TheVariants.{Memory}
-use Rattle.engine.specs.Situation.{Situation, HoldsNothing, IsReady, situation_on}
+use Rattle.engine.specs.Situation.{Situation, HoldsNothing, IsReady}
 use Rattle.engine.specs.Steps.{HoldsState}
 use Rattle.engine.specs.Served.{AllAnswered, Answering, AnswersSome}
 use Rattle.group_losses.specs.Gathered.{NoneFailed}
+
+-- Whatever was written, read and settled, the rest is as of a call that writes nothing.
+pub record MaySettle {D : Type 0} (drive : Ghosts D) (failed : ℕ) (old new : D) : Type 0 where
+  pub capacity : drive.capacity new ≡ drive.capacity old
+  pub failures : CountsFailures failed (drive.failures old) (drive.failures new)
+  pub misreads : drive.misreads old ≤ drive.misreads new
+  pub honest : IsTrue (drive.honest new) → IsTrue (drive.honest old)
+  pub stays : drive.misreads new ≡ drive.misreads old → IsTrue (drive.honest old) → IsTrue (drive.honest new)
 
 -- the address of the last block that came between two lengths of a journal, if any came
 abbrev pub mark_between : ℕ → ℕ → List ℕ
@@ -33,11 +43,11 @@ marks_of [] before (a ∷ answers) afterwards all = []
 marks_of (m ∷ messages) before [] afterwards all = []
 marks_of (m ∷ messages) before (a ∷ answers) afterwards all = mark_of before all.0 ++ marks_of messages all.0 answers afterwards all.2
 
--- The disk has the blocks of a group: it was given all but the marks, and then the marks, and each of both was synced. The drive gathers no more.
-pub record IsSettled (marks : List ℕ) (before afterwards : Situation) (phases : List (List Event)) (gathers : Bool) : Type 0 where
-  pub earlier : List (List Event)
-  pub given : phases ≡ earlier ++ two_phases (length before.journal) marks afterwards.journal
-  pub ended : gathers ≡ false
+-- The disk has the blocks of a group: it was given all but the marks, and then the marks, and each of both was synced. Each write of it waited, and the drive gathers no more.
+pub record IsSettled (marks : List ℕ) (before afterwards : Situation) (begun ended : Gathering) : Type 0 where
+  pub given : ended.phases ≡ begun.phases ++ two_phases (length before.journal) marks afterwards.journal
+  pub waited : ended.waited + length before.writes ≡ begun.waited + length afterwards.writes
+  pub gathers : ended.gathers ≡ false
 
 -- A group was taken back: the store is forgotten, as by a restart, and the medium is as it was before the group.
 pub record IsTakenBack (before start : Situation) : Type 0 where
@@ -57,12 +67,14 @@ TakingBackHolds =
     (before start : Situation) → StartsAt before start
     → (IsReady before → IsReady start) × ((volume : ℕ) (S : State) → HoldsState volume S before → HoldsState volume S start) × (HoldsNothing before → HoldsNothing start)
 
--- a drive that does not gather shows this
-pub record IsAlone {D : Type 0} (drive : Ghosts D) (gathers : D → Bool) (s : Situation) : Type 0 where
-  pub store : Option Store
-  pub shown : D
-  pub shows : s ≡ situation_on drive store shown
-  pub alone : gathers shown ≡ false
+-- No write that was made from this start on waited: only those waited that were made before it, and were taken back. Of these the
+-- disk may have been given all but the marks, or all. The drive gathers no more.
+pub record IsAlone (before start : Situation) (begun ended : Gathering) : Type 0 where
+  pub waited : ended.waited + length before.writes ≡ begun.waited + length start.writes
+  pub tried : List Event
+  pub marks : List ℕ
+  pub given : GivesFront (two_phases (length before.journal) marks (before.journal ++ tried)) begun.phases ended.phases
+  pub gathers : ended.gathers ≡ false
 
 -- the message asks for bytes to be added to a file that has some
 abbrev pub grows_by : Op → Bool
@@ -85,32 +97,32 @@ NoneAsksToGrow [] = Unit {0}
 NoneAsksToGrow (m ∷ messages) = (grows m ≡ false) × NoneAsksToGrow messages
 
 -- Messages were answered as a group, each answer's frame was written, no answer tells of a failing drive, and these are the marks.
-pub record Gathering (reader after : Option (List ℕ)) (before afterwards : Situation) (output written : Option (List ℕ)) (marks : List ℕ) : Type 0 where
+pub record CarriedOut (reader after : Option (List ℕ)) (before afterwards : Situation) (output written : Option (List ℕ)) (marks : List ℕ) : Type 0 where
   pub told : Answering reader after before afterwards output written
   pub none_failed : NoneFailed told.answers
   pub marks_are : marks ≡ marks_of told.messages before told.answers afterwards told.answered
 
 -- The group ends there: it has a message, or none was complete. A message that asks for a file to grow is a group alone.
 pub record Gathered (reader after : Option (List ℕ)) (before afterwards : Situation) (output written : Option (List ℕ)) (marks : List ℕ) : Type 0 where
-  pub gathering : Gathering reader after before afterwards output written marks
+  pub gathering : CarriedOut reader after before afterwards output written marks
   pub some : gathering.told.messages ≡ [] → IsIdle after
   pub alone : NoneAsksToGrow gathering.told.messages ⊎ (length gathering.told.messages ≡ 1)
 
 -- The same, but there was no memory for the last answer's frame.
-pub record GatheringSome (reader after : Option (List ℕ)) (before afterwards : Situation) (output written : Option (List ℕ)) (marks : List ℕ) : Type 0 where
+pub record CarriedOutSome (reader after : Option (List ℕ)) (before afterwards : Situation) (output written : Option (List ℕ)) (marks : List ℕ) : Type 0 where
   pub told : AnswersSome Memory reader after before afterwards output written
   pub none_failed : NoneFailed told.answers
   pub marks_are : marks ≡ marks_of told.messages before told.answers afterwards told.answered
   pub alone : NoneAsksToGrow told.messages ⊎ (length told.messages ≡ 1)
 
--- The messages of a group have their answers. Either the disk has the group, or they were answered one by one, on a drive that does not gather, until none was complete.
-abbrev pub GroupTold : {D : Type 0} → Ghosts D → (D → List (List Event)) → (D → Bool) → Option (List ℕ) → Option (List ℕ) → Situation → D → Situation → Option (List ℕ) → Option (List ℕ) → Type 0
-GroupTold drive phases gathers reader after before d afterwards output written =
-    ((marks : List ℕ) × Gathered reader after before afterwards output written marks × IsSettled marks before afterwards (phases d) (gathers d))
-    ⊎ ((start : Situation) × StartsAt before start × IsAlone drive gathers start × Answering reader after start afterwards output written × IsIdle after)
+-- The messages of a group have their answers. Either the disk has the group, or they were answered one by one, each write synced before it returned, until none was complete.
+abbrev pub GroupTold : Option (List ℕ) → Option (List ℕ) → Situation → Gathering → Situation → Gathering → Option (List ℕ) → Option (List ℕ) → Type 0
+GroupTold reader after before begun afterwards ended output written =
+    ((marks : List ℕ) × Gathered reader after before afterwards output written marks × IsSettled marks before afterwards begun ended)
+    ⊎ ((start : Situation) × StartsAt before start × IsAlone before start begun ended × Answering reader after start afterwards output written × IsIdle after)
 
 -- The same up to an answer for whose frame there was no memory.
-abbrev pub GroupUntold : {D : Type 0} → Ghosts D → (D → List (List Event)) → (D → Bool) → Option (List ℕ) → Option (List ℕ) → Situation → D → Situation → Option (List ℕ) → Option (List ℕ) → Type 0
-GroupUntold drive phases gathers reader after before d afterwards output written =
-    ((marks : List ℕ) × GatheringSome reader after before afterwards output written marks × IsSettled marks before afterwards (phases d) (gathers d))
-    ⊎ ((start : Situation) × StartsAt before start × IsAlone drive gathers start × AnswersSome Memory reader after start afterwards output written)
+abbrev pub GroupUntold : Option (List ℕ) → Option (List ℕ) → Situation → Gathering → Situation → Gathering → Option (List ℕ) → Option (List ℕ) → Type 0
+GroupUntold reader after before begun afterwards ended output written =
+    ((marks : List ℕ) × CarriedOutSome reader after before afterwards output written marks × IsSettled marks before afterwards begun ended)
+    ⊎ ((start : Situation) × StartsAt before start × IsAlone before start begun ended × AnswersSome Memory reader after start afterwards output written)

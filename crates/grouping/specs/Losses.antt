@@ -1,9 +1,9 @@
 -- Streams that are answered in groups, and what is found of them after a power loss.
 use Rattle.std.proofs.Common.{inl, inr}
 use Rattle.std.specs.Prelude.{◌≡◌, ◌⊎◌, ℕ, List, [], ◌∷◌, ◌++◌, length, drop, map, Bool, IsTrue}
+use Rattle.drive.specs.Gathering.{Gathering}
 use Rattle.drive.specs.Journal.{Event, event_blocks, written}
 use Rattle.drive.specs.Writes.{IsTorn}
-use Rattle.drive.specs.declared.Drive.{Ghosts}
 use Rattle.model.specs.Session.{State, Request, after}
 use Rattle.durability.specs.Formats.{Block}
 use Rattle.settling.specs.Phases.{blanked}
@@ -29,44 +29,44 @@ first_blocks marks before afterwards = event_blocks (blanked marks (drop (length
 -- The power was lost while the group was answered or settled, or after it. Of a settled group a torn image of its first blocks is
 -- found, or the whole group: one of which a mark is missing is taken for one that did not come. Where messages were answered on a
 -- drive that does not gather, what is left of the writes of one of them is found.
-abbrev pub LosesGroup : {D : Type 0} → (drive : Ghosts D) → (phases : D → List (List Event)) → (gathers : D → Bool) → (before : Situation) → (g : Group)
-    → IsSettledGroup drive phases gathers before g ⊎ IsLoneGroup drive gathers before g → List Event → Type 0
-LosesGroup drive phases gathers before g (inl settled) found =
+abbrev pub LosesGroup : (before : Situation) → (begun : Gathering) → (g : Group)
+    → IsSettledGroup before begun g ⊎ IsLoneGroup before begun g → List Event → Type 0
+LosesGroup before begun g (inl settled) found =
     ((left : List Block) × IsTorn (first_blocks (marks_of g.messages g.start g.answers g.afterwards settled.answered) g.start g.afterwards) left
     × (found ≡ g.start.journal ++ written (length g.start.journal) left))
     ⊎ (found ≡ g.afterwards.journal)
-LosesGroup drive phases gathers before g (inr lone) found = LosesStream g.messages g.start g.answers g.afterwards lone.answered found ⊎ (found ≡ g.afterwards.journal)
+LosesGroup before begun g (inr lone) found = LosesStream g.messages g.start g.answers g.afterwards lone.answered found ⊎ (found ≡ g.afterwards.journal)
 
 -- in one of these groups
-abbrev pub LosesGroups : {D : Type 0} → (drive : Ghosts D) → (phases : D → List (List Event)) → (gathers : D → Bool) → (groups : List Group) → (before afterwards : Situation)
-    → AreGroups drive phases gathers groups before afterwards → List Event → Type 0
-LosesGroups drive phases gathers [] before afterwards all found = ⊥
-LosesGroups drive phases gathers (g ∷ groups) before afterwards all found =
-    LosesGroup drive phases gathers before g all.0 found ⊎ LosesGroups drive phases gathers groups g.afterwards afterwards all.1 found
+abbrev pub LosesGroups : (groups : List Group) → (before : Situation) → (begun : Gathering) → (afterwards : Situation) → (ended : Gathering)
+    → AreGroups groups before begun afterwards ended → List Event → Type 0
+LosesGroups [] before begun afterwards ended all found = ⊥
+LosesGroups (g ∷ groups) before begun afterwards ended all found =
+    LosesGroup before begun g all.0 found ⊎ LosesGroups groups g.afterwards g.gathering afterwards ended all.1 found
 
 -- the run of that group, up to the power loss
-abbrev pub IsLastLife : {D : Type 0} → (drive : Ghosts D) → (phases : D → List (List Event)) → (gathers : D → Bool) → (before : Situation) → (g : Group)
-    → (is : IsSettledGroup drive phases gathers before g ⊎ IsLoneGroup drive gathers before g) → (found : List Event) → LosesGroup drive phases gathers before g is found → Life → Type 0
-IsLastLife drive phases gathers before g (inl settled) found (inl torn) life = life ≡ no_life
-IsLastLife drive phases gathers before g (inl settled) found (inr whole) life = life ≡ life_in g
-IsLastLife drive phases gathers before g (inr lone) found (inl cut) life = IsLifeUntil g.messages g.answers life
-IsLastLife drive phases gathers before g (inr lone) found (inr whole) life = life ≡ life_in g
+abbrev pub IsLastLife : (before : Situation) → (begun : Gathering) → (g : Group)
+    → (is : IsSettledGroup before begun g ⊎ IsLoneGroup before begun g) → (found : List Event) → LosesGroup before begun g is found → Life → Type 0
+IsLastLife before begun g (inl settled) found (inl torn) life = life ≡ no_life
+IsLastLife before begun g (inl settled) found (inr whole) life = life ≡ life_in g
+IsLastLife before begun g (inr lone) found (inl cut) life = IsLifeUntil g.messages g.answers life
+IsLastLife before begun g (inr lone) found (inr whole) life = life ≡ life_in g
 
 -- the runs of the groups before it, and this one
-abbrev pub LivesUntil : {D : Type 0} → (drive : Ghosts D) → (phases : D → List (List Event)) → (gathers : D → Bool) → (groups : List Group) → (before afterwards : Situation)
-    → (all : AreGroups drive phases gathers groups before afterwards) → (found : List Event) → LosesGroups drive phases gathers groups before afterwards all found → List Life → Type 0
-LivesUntil drive phases gathers [] before afterwards all found loses lives = ⊥
-LivesUntil drive phases gathers (g ∷ groups) before afterwards all found (inl here) lives = (life : Life) × IsLastLife drive phases gathers before g all.0 found here life × (lives ≡ life ∷ [])
-LivesUntil drive phases gathers (g ∷ groups) before afterwards all found (inr later) lives =
-    (rest : List Life) × LivesUntil drive phases gathers groups g.afterwards afterwards all.1 found later rest × (lives ≡ life_in g ∷ rest)
+abbrev pub LivesUntil : (groups : List Group) → (before : Situation) → (begun : Gathering) → (afterwards : Situation) → (ended : Gathering)
+    → (all : AreGroups groups before begun afterwards ended) → (found : List Event) → LosesGroups groups before begun afterwards ended all found → List Life → Type 0
+LivesUntil [] before begun afterwards ended all found loses lives = ⊥
+LivesUntil (g ∷ groups) before begun afterwards ended all found (inl here) lives = (life : Life) × IsLastLife before begun g all.0 found here life × (lives ≡ life ∷ [])
+LivesUntil (g ∷ groups) before begun afterwards ended all found (inr later) lives =
+    (rest : List Life) × LivesUntil groups g.afterwards g.gathering afterwards ended all.1 found later rest × (lives ≡ life_in g ∷ rest)
 
 -- Groups of a stream are runs one after another, each on what the one before it left, and so are those before a power loss. By the
 -- laws of runs that are cut off, the state after all that these committed stands, whatever comes next.
-abbrev pub GroupsAreLives : {D : Type 0} → (drive : Ghosts D) → (phases : D → List (List Event)) → (gathers : D → Bool) → (groups : List Group) → (before afterwards : Situation)
-    → AreGroups drive phases gathers groups before afterwards → Type 0
-GroupsAreLives drive phases gathers groups before afterwards all =
+abbrev pub GroupsAreLives : (groups : List Group) → (before : Situation) → (begun : Gathering) → (afterwards : Situation) → (ended : Gathering)
+    → AreGroups groups before begun afterwards ended → Type 0
+GroupsAreLives groups before begun afterwards ended all =
     (volume : ℕ) (S : State) → IsTrue afterwards.honest → HoldsState volume S before
     → ((done : List Request) × AreCut before.capacity volume S before.journal (map life_in groups) done afterwards.journal × HoldsState volume (after S done) afterwards)
-    × ((found : List Event) (loses : LosesGroups drive phases gathers groups before afterwards all found)
-    → (lives : List Life) × LivesUntil drive phases gathers groups before afterwards all found loses lives
+    × ((found : List Event) (loses : LosesGroups groups before begun afterwards ended all found)
+    → (lives : List Life) × LivesUntil groups before begun afterwards ended all found loses lives
     × (done : List Request) × AreCut before.capacity volume S before.journal lives done found)

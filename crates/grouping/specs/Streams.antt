@@ -1,8 +1,7 @@
 -- What became of the messages of a stream that were answered in groups.
 use Rattle.std.specs.Prelude.{◌≡◌, ◌⊎◌, ℕ, List, [], ◌∷◌, ◌++◌, take, Bool, Option}
 use Rattle.std.specs.Io.KnownBytes.{Appends, Consumes, IsAtEnd}
-use Rattle.drive.specs.Journal.{Event, written}
-use Rattle.drive.specs.declared.Drive.{Ghosts}
+use Rattle.drive.specs.Gathering.{Gathering}
 use Rattle.model.specs.Session.{after}
 use Rattle.request.specs.Frames.{IsIdle, MessagesAre}
 use Rattle.engine.specs.declared.serving.ServeFault.{ServeFault}
@@ -14,10 +13,10 @@ use Rattle.grouping.specs.Losses.{GroupsAreLives}
 use Rattle.grouping.specs.Served.{AreGroups, Group, GroupsRun, GroupsWithstand, answers_of, messages_of}
 
 -- Messages that a reader of frames held were answered in groups, and each answer's frame was written.
-pub record Grouping {D : Type 0} (drive : Ghosts D) (phases : D → List (List Event)) (gathers : D → Bool) (reader after : Option (List ℕ)) (before afterwards : Situation) (output written : Option (List ℕ)) : Type 0 where
+pub record Grouping (reader after : Option (List ℕ)) (before : Situation) (begun : Gathering) (afterwards : Situation) (ended : Gathering) (output written : Option (List ℕ)) : Type 0 where
   pub groups : List Group
   pub taken : AllTaken reader (messages_of groups) after
-  pub are : AreGroups drive phases gathers groups before afterwards
+  pub are : AreGroups groups before begun afterwards ended
   pub told : Appends output written (frames_of (answers_of groups))
 
 -- the frames of the last group's answers were not written whole: those of each other group were, and so many bytes of these
@@ -33,29 +32,29 @@ LeftIn faults.Write groups reader output written = AllTold (answers_of groups) r
 LeftIn faults.Memory groups reader output written = LastUntold (answers_of groups) 0 output written
 
 -- The same, but it ended with a fault, and of the answers' frames a prefix was written.
-pub record GroupingSome {D : Type 0} (drive : Ghosts D) (phases : D → List (List Event)) (gathers : D → Bool) (fault : ServeFault) (reader after : Option (List ℕ)) (before afterwards : Situation) (output written : Option (List ℕ)) : Type 0 where
+pub record GroupingSome (fault : ServeFault) (reader after : Option (List ℕ)) (before : Situation) (begun : Gathering) (afterwards : Situation) (ended : Gathering) (output written : Option (List ℕ)) : Type 0 where
   pub groups : List Group
   pub taken : AllTaken reader (messages_of groups) after
-  pub are : AreGroups drive phases gathers groups before afterwards
+  pub are : AreGroups groups before begun afterwards ended
   pub front : PutsPrefix output written (frames_of (answers_of groups))
   pub left : LeftIn fault groups after output written
 
 -- Bytes were read. Their messages were answered in groups, and each answer's frame was written.
-pub record ServingGroups {D : Type 0} (drive : Ghosts D) (phases : D → List (List Event)) (gathers : D → Bool) (reader : Option (List ℕ)) (before afterwards : Situation) (input left output written : Option (List ℕ)) : Type 0 where
+pub record ServingGroups (reader : Option (List ℕ)) (before : Situation) (begun : Gathering) (afterwards : Situation) (ended : Gathering) (input left output written : Option (List ℕ)) : Type 0 where
   pub bytes : List ℕ
   pub groups : List Group
   pub consumed : Consumes input left bytes
   pub messages_are : MessagesAre bytes (messages_of groups) reader
-  pub are : AreGroups drive phases gathers groups before afterwards
+  pub are : AreGroups groups before begun afterwards ended
   pub told : Appends output written (frames_of (answers_of groups))
 
 -- All messages of the bytes that were read were answered in groups, and each answer's frame was written. The stream is at its end, or a frame was too long.
-pub record ServesGroups {D : Type 0} (drive : Ghosts D) (phases : D → List (List Event)) (gathers : D → Bool) (before afterwards : Situation) (input left output written : Option (List ℕ)) : Type 0 where
+pub record ServesGroups (before : Situation) (begun : Gathering) (afterwards : Situation) (ended : Gathering) (input left output written : Option (List ℕ)) : Type 0 where
   pub reader : Option (List ℕ)
-  pub serving : ServingGroups drive phases gathers reader before afterwards input left output written
-  pub run : GroupsRun drive phases gathers serving.groups before afterwards serving.are
-  pub withstand : GroupsWithstand drive phases gathers serving.groups before afterwards serving.are
-  pub lives : GroupsAreLives drive phases gathers serving.groups before afterwards serving.are
+  pub serving : ServingGroups reader before begun afterwards ended input left output written
+  pub run : GroupsRun serving.groups before begun afterwards ended serving.are
+  pub withstand : GroupsWithstand serving.groups before begun afterwards ended serving.are
+  pub lives : GroupsAreLives serving.groups before begun afterwards ended serving.are
   pub idle : IsIdle reader
   pub ends : IsAtEnd left ⊎ IsCutOff serving.bytes reader
 
@@ -67,15 +66,15 @@ LeftByIn faults.Memory bytes groups reader output written =
     LeftIn faults.Memory groups reader output written ⊎ (Unlooked (answers_of groups) reader output written ⊎ AllTold (answers_of groups) reader output written)
 
 -- The first messages of the bytes that were read were answered in groups, and of the answers' frames a prefix was written, up to where this fault came.
-pub record ServesGroupsUntil {D : Type 0} (fault : ServeFault) (drive : Ghosts D) (phases : D → List (List Event)) (gathers : D → Bool) (before afterwards : Situation) (input left output written : Option (List ℕ)) : Type 0 where
+pub record ServesGroupsUntil (fault : ServeFault) (before : Situation) (begun : Gathering) (afterwards : Situation) (ended : Gathering) (input left output written : Option (List ℕ)) : Type 0 where
   pub bytes : List ℕ
   pub groups : List Group
   pub reader : Option (List ℕ)
   pub consumed : Consumes input left bytes
   pub messages_are : MessagesAre bytes (messages_of groups) reader
-  pub are : AreGroups drive phases gathers groups before afterwards
-  pub run : GroupsRun drive phases gathers groups before afterwards are
-  pub withstand : GroupsWithstand drive phases gathers groups before afterwards are
-  pub lives : GroupsAreLives drive phases gathers groups before afterwards are
+  pub are : AreGroups groups before begun afterwards ended
+  pub run : GroupsRun groups before begun afterwards ended are
+  pub withstand : GroupsWithstand groups before begun afterwards ended are
+  pub lives : GroupsAreLives groups before begun afterwards ended are
   pub front : PutsPrefix output written (frames_of (answers_of groups))
   pub left_by : LeftByIn fault bytes groups reader output written

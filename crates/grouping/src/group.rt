@@ -10,7 +10,7 @@ ghost use Rattle.engine.specs.declared.serving.ServeFault.TheVariants.{Memory};
 ghost use Rattle.engine.specs.Situation.{AddsBlocks, IsReady, seen_on, situation_on};
 ghost use Rattle.engine.specs.Answered.{faults};
 ghost use Rattle.engine.specs.Served.{Answering, AnswersSome};
-ghost use Rattle.grouping.specs.Groups.{GroupTold, GroupUntold, grows, mark_between};
+ghost use Rattle.grouping.specs.Groups.{GroupTold, GroupUntold, MaySettle, grows, mark_between};
 ghost use Rattle.grouping.specs.Steps.{Gathers};
 
 use drive::Drive;
@@ -37,12 +37,12 @@ pub fn answer_group<D: Settles>(
     drive: &mut D,
 ) -> Result<(), AllocError>
     requires { IsReady (seen_on D.Drive engine.old drive.old) }
-    ensures ok { OnOk result (GroupTold D.Drive D.phases D.gathers frames.old frames.new (seen_on D.Drive engine.old drive.old) drive.new (seen_on D.Drive engine.new drive.new)
+    ensures ok { OnOk result (GroupTold frames.old frames.new (seen_on D.Drive engine.old drive.old) (D.gathering drive.old) (seen_on D.Drive engine.new drive.new) (D.gathering drive.new)
         (Some answers.old.items) (Some answers.new.items)) }
-    ensures err { OnErr result (GroupUntold D.Drive D.phases D.gathers frames.old frames.new (seen_on D.Drive engine.old drive.old) drive.new (seen_on D.Drive engine.new drive.new)
+    ensures err { OnErr result (GroupUntold frames.old frames.new (seen_on D.Drive engine.old drive.old) (D.gathering drive.old) (seen_on D.Drive engine.new drive.new) (D.gathering drive.new)
         (Some answers.old.items) (Some answers.new.items)) }
     ensures ready { IsReady (seen_on D.Drive engine.new drive.new) }
-    ensures lent { ReadsAndWrites D.Drive 0 drive.old drive.new }
+    ensures lent { MaySettle D.Drive 0 drive.old drive.new }
 {
     let from = drive.count();
     let Ok(copy) = frames.copy() else {
@@ -151,6 +151,7 @@ fn end_commit<D: Settles>(
 ) -> Result<(), AllocError>
     ensures ok { OnOk result (marks.new.items ≡ marks.old.items ++ mark_between before (next_of (D.journal drive.old))) }
     ensures untouched { IsUntouched D.Drive drive.old drive.new }
+    ensures gathering { D.gathering drive.new ≡ D.gathering drive.old }
 {
     let after = drive.count();
     if after <= before {

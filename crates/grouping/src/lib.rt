@@ -6,9 +6,11 @@
 #![tactic(auto)]
 
 mod group;
+mod held;
 mod laws;
 mod serving;
 
 pub use group::answer_group;
+pub use held::answer_groups_held;
 pub use laws::{phases_are_of_commits, taking_back_holds};
 pub use serving::serve_groups;

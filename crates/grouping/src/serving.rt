@@ -2,11 +2,11 @@
 
 ghost use Rattle.std.specs.Prelude.{◌≡◌, true, false, OnOk, IfErr};
 ghost use Rattle.drive.specs.Journal.{counted};
-ghost use Rattle.drive.specs.Reads.{ReadsAndWrites};
 ghost use Rattle.request.specs.declared.message.Message.{Message};
 ghost use Rattle.request.specs.Frames.{IsFirstMessage, IsIdle};
 ghost use Rattle.engine.specs.Streams.{is_read_fault};
 ghost use Rattle.engine.specs.Situation.{IsReady, seen_on};
+ghost use Rattle.grouping.specs.Groups.{MaySettle};
 ghost use Rattle.grouping.specs.Streams.{Grouping, GroupingSome, ServesGroups, ServesGroupsUntil};
 
 use crate::group::answer_group;
@@ -27,15 +27,15 @@ pub fn serve_groups<R: Read, W: Write, D: Settles>(
     drive: &mut D,
 ) -> Result<(), ServeFault>
     requires { IsReady (seen_on D.Drive engine.old drive.old) }
-    ensures ok { OnOk result (ServesGroups D.Drive D.phases D.gathers (seen_on D.Drive engine.old drive.old) (seen_on D.Drive engine.new drive.new)
+    ensures ok { OnOk result (ServesGroups (seen_on D.Drive engine.old drive.old) (D.gathering drive.old) (seen_on D.Drive engine.new drive.new) (D.gathering drive.new)
         (R.remaining reader.old.stream) (R.remaining reader.new.stream) (W.contents writer.old) (W.contents writer.new)) }
     // Otherwise the first of them were answered, and the fault shows how far that went.
-    ensures left { IfErr result (λ fault. ServesGroupsUntil fault D.Drive D.phases D.gathers (seen_on D.Drive engine.old drive.old) (seen_on D.Drive engine.new drive.new)
+    ensures left { IfErr result (λ fault. ServesGroupsUntil fault (seen_on D.Drive engine.old drive.old) (D.gathering drive.old) (seen_on D.Drive engine.new drive.new) (D.gathering drive.new)
         (R.remaining reader.old.stream) (R.remaining reader.new.stream) (W.contents writer.old) (W.contents writer.new)) }
     // A read failed exactly if the fault is `Read`, and nothing was read after it.
     ensures failures { reader.new.failures ≡ counted (is_read_fault result) reader.old.failures }
     ensures ready { IsReady (seen_on D.Drive engine.new drive.new) }
-    ensures lent { ReadsAndWrites D.Drive 0 drive.old drive.new }
+    ensures lent { MaySettle D.Drive 0 drive.old drive.new }
 {
     let mut frames = Frames::new(alloc);
     let mut answers = Vec::new(alloc);
@@ -62,13 +62,13 @@ fn answer_groups<W: Write, D: Settles>(
     drive: &mut D,
 ) -> Result<(), ServeFault>
     requires { IsReady (seen_on D.Drive engine.old drive.old) }
-    ensures ok { OnOk result (Grouping D.Drive D.phases D.gathers frames.old frames.new (seen_on D.Drive engine.old drive.old) (seen_on D.Drive engine.new drive.new)
+    ensures ok { OnOk result (Grouping frames.old frames.new (seen_on D.Drive engine.old drive.old) (D.gathering drive.old) (seen_on D.Drive engine.new drive.new) (D.gathering drive.new)
         (W.contents writer.old) (W.contents writer.new)) }
     ensures idle { OnOk result (IsIdle frames.new) }
-    ensures err { IfErr result (λ fault. GroupingSome D.Drive D.phases D.gathers fault frames.old frames.new (seen_on D.Drive engine.old drive.old) (seen_on D.Drive engine.new drive.new)
+    ensures err { IfErr result (λ fault. GroupingSome fault frames.old frames.new (seen_on D.Drive engine.old drive.old) (D.gathering drive.old) (seen_on D.Drive engine.new drive.new) (D.gathering drive.new)
         (W.contents writer.old) (W.contents writer.new)) }
     ensures ready { IsReady (seen_on D.Drive engine.new drive.new) }
-    ensures lent { ReadsAndWrites D.Drive 0 drive.old drive.new }
+    ensures lent { MaySettle D.Drive 0 drive.old drive.new }
 {
     while has_message(frames) {
         answers.clear();
@@ -85,7 +85,7 @@ fn answer_groups<W: Write, D: Settles>(
 }
 
 /// Whether a message is complete.
-fn has_message(frames: &Frames) -> bool
+pub(crate) fn has_message(frames: &Frames) -> bool
     ensures some { result ≡ true → (message : Message) × IsFirstMessage frames.now message }
     ensures none { result ≡ false → IsIdle frames.now }
 {

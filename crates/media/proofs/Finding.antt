@@ -8,9 +8,10 @@ use Rattle.std.proofs.Math.Seq.{take-append_seam}
 use Rattle.std.specs.Cmp.{second_so}
 use Rattle.drive.specs.Journal.{AreWhole, Event, Once, OnceFrom, event_blocks, next_of, written}
 use Rattle.drive.specs.Note.{fitted}
-use Rattle.drive.specs.FileDrive.{BeginsWith, capacity_of}
-use Rattle.drive.specs.declared.file.FileDrive.{FileDrive}
-use Rattle.drive.specs.contracts.file.FileDriveDrive.TheImpl as file
+use Rattle.drive.specs.Gathering.{waits_never}
+use Rattle.settling.specs.declared.file.GatheringFileDrive.{GatheringFileDrive}
+use Rattle.settling.specs.GatheringFile as left
+use Rattle.settling.specs.contracts.file.GatheringFileDriveDrive.TheImpl as gathering
 use Rattle.drive.proofs.Journals.{next-fitted}
 use Rattle.drive.proofs.Once.{length-blocks_of, next_once, once-written}
 use Rattle.media.specs.Held.{FoundAsHeld, IsFresh}
@@ -62,18 +63,18 @@ pub none_before : (m n r : ℕ) → r ≡ m + n → IsTrue (r == 0) → IsTrue (
 none_before m n r e h = let none : m ≡ 0 = omega (arith, e, is_zero r h) in eq-eqb m 0 none
 
 -- a drive over a file that was just opened is fresh
-pub fresh_file : (capacity : ℕ) (d : FileDrive) → (image : List (List ℕ)) × BeginsWith image d → capacity_of d ≡ capacity → IsFresh file.ghosts capacity d
-fresh_file capacity d (image, begins) size =
-    let (count, fits, journal) = begins.journal in
-    record {
-      size = size;
-      fits = subst (λ (n : ℕ). n ≤ capacity) (sym (ap (λ (J : List Event). next_of J) journal ∙ next-fitted count image)) (subst (λ (n : ℕ). count ≤ n) size fits);
-      once = subst (λ (J : List Event). Once J) (sym journal) (once-written 0 (fitted count image));
-      writes = begins.writes;
-      failures = begins.failures;
-      misreads = begins.misreads;
-      honest = ap (λ (n : ℕ). n == 0) begins.misreads;
-    }
+pub fresh_held : (capacity n : ℕ) (blocks : List (List ℕ)) (d : GatheringFileDrive) → left.journal_of d ≡ written 0 (fitted n blocks) → left.capacity_of d ≡ capacity → n ≤ capacity
+    → left.writes_of d ≡ [] → left.failures_of d ≡ 0 → left.misreads_of d ≡ 0 → left.gathering_of d ≡ waits_never → IsFresh gathering.ghosts capacity d
+fresh_held capacity n blocks d journal size fits writes failures misreads never = record {
+  size = size;
+  fits = subst (λ (m : ℕ). m ≤ capacity) (sym (ap (λ (J : List Event). next_of J) journal ∙ next-fitted n blocks)) fits;
+  once = subst (λ (J : List Event). Once J) (sym journal) (once-written 0 (fitted n blocks));
+  writes = writes;
+  failures = failures;
+  misreads = misreads;
+  honest = ap (λ (m : ℕ). m == 0) misreads;
+  gathering = never;
+}
 
 whole_block : (b zeros : List ℕ) → length b ≡ 2048 → take 2048 (b ++ zeros) ≡ b
 whole_block b zeros whole = ap (λ n. take n (b ++ zeros)) (sym whole) ∙ take-append_seam b zeros

@@ -1,5 +1,6 @@
 -- What images hold, by their paths, and what a drive shows that was just taken out of a medium.
 use Rattle.std.specs.Prelude.{◌≡◌, ◌⊎◌, ℕ, ◌≤◌, true, false, List, [], Option, Some, None, bytes_eq}
+use Rattle.drive.specs.Gathering.{waits_never}
 use Rattle.drive.specs.Journal.{AreWhole, Event, Once, next_of}
 use Rattle.drive.specs.declared.Drive.{Ghosts}
 
@@ -37,3 +38,4 @@ pub record IsFresh {D : Type 0} (drive : Ghosts D) (capacity : ℕ) (d : D) : Ty
   pub failures : drive.failures d ≡ 0
   pub misreads : drive.misreads d ≡ 0
   pub honest : drive.honest d ≡ true
+  pub gathering : drive.gathering d ≡ waits_never

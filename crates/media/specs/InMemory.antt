@@ -2,7 +2,7 @@
 use Rattle.std.specs.Prelude.{◌≡◌, ℕ, ◌<◌, ◌≤◌, Bool, true, false, if◌then◌else◌, List, [], ◌∷◌, length, slice_index_or, Option, None, Some, ⊤, bytes_eq, is_none}
 use Rattle.std.specs.Option.{option_map}
 use Rattle.drive.specs.Journal.{Event, Once, next_of}
-use Rattle.drive.specs.MemDrive.{journal_of}
+use Rattle.settling.specs.Gathered.{journal_of}
 use Rattle.media.specs.declared.memory.Slot.{Slot}
 use Rattle.media.specs.declared.memory.MemMedia.{MemMedia}
 

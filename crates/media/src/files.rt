@@ -1,23 +1,25 @@
 //! Images that are files. No clause can know what a file holds, so clauses speak of a record instead.
-ghost use Rattle.std.specs.Prelude.{◌≡◌, ◌==◌, ◌<◌, List, ℕ, true, Some, IsTrue};
-ghost use Rattle.drive.specs.FileDrive.{BeginsWith, capacity_of, journal_of};
-ghost use Rattle.drive.specs.Journal.{Event, counted};
-ghost use Rattle.media.specs.Held.{FoundAsHeld};
+ghost use Rattle.std.specs.Prelude.{◌≡◌, ◌==◌, ◌≤◌, List, [], ℕ, true, Some, IsTrue};
+ghost use Rattle.drive.specs.Gathering.{waits_never};
+ghost use Rattle.drive.specs.Journal.{Event, counted, next_of};
+ghost use Rattle.media.specs.Held.{FoundAsHeld, IsFresh};
+ghost use Rattle.settling.specs.GatheringFile.{capacity_of, failures_of, gathering_of, journal_of, misreads_of, writes_of};
 ghost use Rattle.media.specs.Seen.{FileRecord, lookup};
 
 use crate::Media;
 use crate::seen::Seen;
-use drive::{Block, DriveFault, FileDrive, Look, create_image, sync_folder};
+use drive::{Block, Drive, DriveFault, FileDrive, Look, create_image, sync_folder};
+use settling::GatheringFileDrive;
 use std::fs::{File, Files};
 
 /// Image files, by their paths.
 #[derive(Drop)]
-pub struct FileMedia<'a, R: Files<File = File>> {
+pub struct FileMedia<'a, R: Files<File = File> + AllocGlobal> {
     rt: &'a R,
     seen: Seen,
 }
 
-impl<'a, R: Files<File = File>> FileMedia<'a, R> {
+impl<'a, R: Files<File = File> + AllocGlobal> FileMedia<'a, R> {
     /// The files of this runtime, whatever they hold and whatever was found there before. Each clause on what is held is
     /// for any such record, under the premise that what is found agrees with it.
     pub fn over(rt: &'a R) -> FileMedia<'a, R>
@@ -39,8 +41,8 @@ impl<'a, R: Files<File = File>> FileMedia<'a, R> {
     }
 }
 
-impl<'a, R: Files<File = File>> Media for FileMedia<'a, R> {
-    type Drive = FileDrive;
+impl<'a, R: Files<File = File> + AllocGlobal> Media for FileMedia<'a, R> {
+    type Drive = GatheringFileDrive;
 
     ghost use Rattle.media.specs.Seen.{found_by, lookup};
 
@@ -54,26 +56,39 @@ impl<'a, R: Files<File = File>> Media for FileMedia<'a, R> {
 
     ghost takes_back = { λ _ _. true };
 
-    fn open_to_read(&mut self, path: &str, capacity: u32) -> Result<FileDrive, DriveFault> {
+    fn open_to_read(
+        &mut self,
+        path: &str,
+        capacity: u32,
+    ) -> Result<GatheringFileDrive, DriveFault> {
         let Ok(drive) = FileDrive::open_to_read(self.rt, path, capacity) else {
             return Err(failed(&mut self.seen, path.as_bytes()));
         };
-        Ok(found(&mut self.seen, path.as_bytes(), drive))
-    }
-
-    fn open(&mut self, path: &str, capacity: u32) -> Result<FileDrive, DriveFault> {
-        let Ok(drive) = FileDrive::open(self.rt, path, capacity) else {
+        let Ok(drive) = GatheringFileDrive::over(self.rt.alloc(), drive) else {
             return Err(failed(&mut self.seen, path.as_bytes()));
         };
         Ok(found(&mut self.seen, path.as_bytes(), drive))
     }
 
-    fn create(&mut self, path: &str, capacity: u32) -> Result<FileDrive, DriveFault> {
+    fn open(&mut self, path: &str, capacity: u32) -> Result<GatheringFileDrive, DriveFault> {
+        let Ok(drive) = FileDrive::open(self.rt, path, capacity) else {
+            return Err(failed(&mut self.seen, path.as_bytes()));
+        };
+        let Ok(drive) = GatheringFileDrive::over(self.rt.alloc(), drive) else {
+            return Err(failed(&mut self.seen, path.as_bytes()));
+        };
+        Ok(found(&mut self.seen, path.as_bytes(), drive))
+    }
+
+    fn create(&mut self, path: &str, capacity: u32) -> Result<GatheringFileDrive, DriveFault> {
         let Ok(file) = create_image(self.rt, path) else {
             return Err(failed(&mut self.seen, path.as_bytes()));
         };
         self.seen = Seen::after_made(&self.seen, path.as_bytes());
         let Ok(drive) = FileDrive::over(file, capacity) else {
+            return Err(failed(&mut self.seen, path.as_bytes()));
+        };
+        let Ok(drive) = GatheringFileDrive::over(self.rt.alloc(), drive) else {
             return Err(failed(&mut self.seen, path.as_bytes()));
         };
         if sync_folder(self.rt, path).is_err() {
@@ -82,14 +97,14 @@ impl<'a, R: Files<File = File>> Media for FileMedia<'a, R> {
         Ok(found(&mut self.seen, path.as_bytes(), drive))
     }
 
-    fn put_back(&mut self, path: &str, drive: FileDrive) {
+    fn put_back(&mut self, path: &str, drive: GatheringFileDrive) {
         self.seen = Seen::after_back(&self.seen, path.as_bytes(), &drive);
     }
 
     fn part(
         &mut self,
         path: &str,
-        drive: &FileDrive,
+        drive: &GatheringFileDrive,
         into: &mut Block,
     ) -> Result<usize, DriveFault> {
         let mut look = Look::new(&[]);
@@ -102,10 +117,13 @@ impl<'a, R: Files<File = File>> Media for FileMedia<'a, R> {
 }
 
 /// Assumes that a drive over the image at this path, which was just opened, has the blocks that are held there.
-fn found(seen: &mut Seen, path: &[u8], mut drive: FileDrive) -> FileDrive
-    requires { (image : List (List ℕ)) × BeginsWith image drive }
-    ensures image { (image : List (List ℕ)) × BeginsWith image result }
-    ensures capacity { capacity_of result ≡ capacity_of drive }
+fn found(seen: &mut Seen, path: &[u8], mut drive: GatheringFileDrive) -> GatheringFileDrive
+    requires fits { next_of (journal_of drive) ≤ capacity_of drive }
+    requires unwritten { writes_of drive ≡ [] }
+    requires unfailed { failures_of drive ≡ 0 }
+    requires unread { misreads_of drive ≡ 0 }
+    requires never { gathering_of drive ≡ waits_never }
+    ensures fresh { IsFresh ⟦<GatheringFileDrive as Drive>⟧ (capacity_of drive) result }
     ensures images { seen.new.images ≡ seen.old.images }
     ensures looks { seen.new.looks ≡ seen.old.looks }
     ensures failures { seen.new.failures ≡ seen.old.failures }

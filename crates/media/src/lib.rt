@@ -18,14 +18,15 @@ mod files;
 mod memory;
 mod seen;
 
-use drive::{Block, Drive, DriveFault};
+use drive::{Block, DriveFault};
 pub use files::FileMedia;
 pub use memory::MemMedia;
+use settling::Settles;
 
 /// Images by their paths.
 pub trait Media {
     /// The drive over an image.
-    type Drive: Drive;
+    type Drive: Settles;
 
     /// The journal of the image at a path, if there is one. While its drive is out, nothing is said about it.
     ghost held: { Self → List ℕ → Option (List Event) };

@@ -1,19 +1,21 @@
 //! Images in memory. Such media are always honest.
-ghost use Rattle.std.specs.Prelude.{◌≡◌, ◌++◌, ◌∷◌, ◌<◌, ◌↔◌, List, ℕ, [], true, false, None, Some, is_err, length, IsTrue, IfOk, IfNone, IfSome, OnErr, OnOk};
-ghost use Rattle.drive.specs.Journal.{Event, InOrder, counted};
-ghost use Rattle.drive.specs.MemDrive.{journal_of, capacity_of, failures_of, writes_of};
+ghost use Rattle.std.specs.Prelude.{◌≡◌, ◌++◌, ◌∷◌, ◌<◌, List, ℕ, [], true, false, None, Some, is_err, length, IsTrue, IfOk, IfNone, IfSome, OnErr, OnOk};
+ghost use Rattle.drive.specs.Gathering.{waits_never};
+ghost use Rattle.drive.specs.Journal.{Event, counted};
+ghost use Rattle.settling.specs.Gathered.{journal_of, capacity_of, failures_of, gathering_of, writes_of};
 ghost use Rattle.media.specs.Held.{FoundAsHeld, IsFresh, Same, SameBut, SameOrMade, initial_journal};
 ghost use Rattle.media.specs.InMemory.{AreOthers, IsFit, IsPlace, IsUnfit, held_by, is_out, journal_in};
 
 use crate::Media;
-use drive::{Block, Drive, DriveFault, MemDrive};
+use drive::{Block, Drive, DriveFault};
+use settling::GatheringDrive;
 use std::alloc::Global;
 
 /// An image at its path. The drive is `None` while it is out.
 #[derive(Drop)]
 struct Slot {
     path: Vec<u8>,
-    drive: Option<MemDrive>,
+    drive: Option<GatheringDrive>,
 }
 
 /// Images in memory, each a drive that is taken out and put back.
@@ -39,12 +41,13 @@ impl MemMedia {
     }
 
     /// Takes out the drive of the image at this path.
-    fn take_out(&mut self, path: &[u8], capacity: u32) -> Result<MemDrive, DriveFault>
+    fn take_out(&mut self, path: &[u8], capacity: u32) -> Result<GatheringDrive, DriveFault>
         ensures opened { IfOk result (λ d. held_by self.old path.now ≡ Some (journal_of d)) }
         ensures size { IfOk result (λ d. capacity_of d ≡ capacity) }
         ensures fit { IfOk result (λ d. IsFit capacity (journal_of d)) }
         ensures writes { IfOk result (λ d. writes_of d ≡ []) }
         ensures failures { IfOk result (λ d. failures_of d ≡ 0) }
+        ensures gathering { IfOk result (λ d. gathering_of d ≡ waits_never) }
         ensures out { OnOk result (IsTrue (is_out self.new path.now)) }
         ensures others { SameBut path.now (held_by self.old) (held_by self.new) }
         ensures places { SameBut path.now (is_out self.old) (is_out self.new) }
@@ -60,12 +63,13 @@ impl MemMedia {
     }
 
     /// Makes an image of no blocks at this path, which has no slot yet, and takes out its drive.
-    fn add(&mut self, path: &[u8], capacity: u32) -> Result<MemDrive, DriveFault>
+    fn add(&mut self, path: &[u8], capacity: u32) -> Result<GatheringDrive, DriveFault>
         requires { AreOthers self.old.slots.items path.now (length self.old.slots.items) }
         ensures blank { IfOk result (λ d. journal_of d ≡ []) }
         ensures size { IfOk result (λ d. capacity_of d ≡ capacity) }
         ensures writes { IfOk result (λ d. writes_of d ≡ []) }
         ensures failures { IfOk result (λ d. failures_of d ≡ 0) }
+        ensures gathering { IfOk result (λ d. gathering_of d ≡ waits_never) }
         ensures out { OnOk result (IsTrue (is_out self.new path.now)) }
         ensures others { SameBut path.now (held_by self.old) (held_by self.new) }
         ensures places { SameBut path.now (is_out self.old) (is_out self.new) }
@@ -81,14 +85,14 @@ impl MemMedia {
             drive: None,
         };
         push_slot(&mut self.slots, slot)?;
-        Ok(MemDrive::new(self.alloc, capacity, Vec::new(self.alloc)))
+        Ok(GatheringDrive::new(self.alloc, capacity, Vec::new(self.alloc)))
     }
 
     /// Takes out the drive of the image at this path, which is made if it is missing.
-    fn take_or_add(&mut self, path: &str, capacity: u32) -> Result<MemDrive, DriveFault>
+    fn take_or_add(&mut self, path: &str, capacity: u32) -> Result<GatheringDrive, DriveFault>
         ensures opened { IfOk result (λ d. initial_journal (held_by self.old path.now) ≡ journal_of d) }
         ensures alike { IfOk result (λ d. FoundAsHeld (initial_journal (held_by self.old path.now)) (journal_of d)) }
-        ensures fresh { IfOk result (λ d. IsFresh ⟦<MemDrive as Drive>⟧ capacity d) }
+        ensures fresh { IfOk result (λ d. IsFresh ⟦<GatheringDrive as Drive>⟧ capacity d) }
         ensures place { OnOk result (IsTrue (is_out self.new path.now)) }
         ensures others { SameBut path.now (held_by self.old) (held_by self.new) }
         ensures places { SameBut path.now (is_out self.old) (is_out self.new) }
@@ -115,7 +119,7 @@ impl MemMedia {
 }
 
 impl Media for MemMedia {
-    type Drive = MemDrive;
+    type Drive = GatheringDrive;
 
     ghost use Rattle.media.specs.InMemory.{IsUnfit, held_by, is_out};
 
@@ -130,10 +134,10 @@ impl Media for MemMedia {
 
     ghost takes_back = { is_out };
 
-    fn open_to_read(&mut self, path: &str, capacity: u32) -> Result<MemDrive, DriveFault>
+    fn open_to_read(&mut self, path: &str, capacity: u32) -> Result<GatheringDrive, DriveFault>
         ensures opened { IfOk result (λ d. held_by self.old path.now ≡ Some (journal_of d)) }
         ensures alike { IfOk result (λ d. (J : List Event) → held_by self.old path.now ≡ Some J → FoundAsHeld J (journal_of d)) }
-        ensures fresh { IfOk result (λ d. IsFresh ⟦<MemDrive as Drive>⟧ capacity d) }
+        ensures fresh { IfOk result (λ d. IsFresh ⟦<GatheringDrive as Drive>⟧ capacity d) }
         ensures place { OnOk result (IsTrue (is_out self.new path.now)) }
         ensures others { SameBut path.now (held_by self.old) (held_by self.new) }
         ensures places { SameBut path.now (is_out self.old) (is_out self.new) }
@@ -147,10 +151,10 @@ impl Media for MemMedia {
         taken
     }
 
-    fn open(&mut self, path: &str, capacity: u32) -> Result<MemDrive, DriveFault>
+    fn open(&mut self, path: &str, capacity: u32) -> Result<GatheringDrive, DriveFault>
         ensures opened { IfOk result (λ d. held_by self.old path.now ≡ Some (journal_of d)) }
         ensures alike { IfOk result (λ d. (J : List Event) → held_by self.old path.now ≡ Some J → FoundAsHeld J (journal_of d)) }
-        ensures fresh { IfOk result (λ d. IsFresh ⟦<MemDrive as Drive>⟧ capacity d) }
+        ensures fresh { IfOk result (λ d. IsFresh ⟦<GatheringDrive as Drive>⟧ capacity d) }
         ensures place { OnOk result (IsTrue (is_out self.new path.now)) }
         ensures others { SameBut path.now (held_by self.old) (held_by self.new) }
         ensures places { SameBut path.now (is_out self.old) (is_out self.new) }
@@ -164,10 +168,10 @@ impl Media for MemMedia {
         taken
     }
 
-    fn create(&mut self, path: &str, capacity: u32) -> Result<MemDrive, DriveFault>
+    fn create(&mut self, path: &str, capacity: u32) -> Result<GatheringDrive, DriveFault>
         ensures opened { IfOk result (λ d. initial_journal (held_by self.old path.now) ≡ journal_of d) }
         ensures alike { IfOk result (λ d. FoundAsHeld (initial_journal (held_by self.old path.now)) (journal_of d)) }
-        ensures fresh { IfOk result (λ d. IsFresh ⟦<MemDrive as Drive>⟧ capacity d) }
+        ensures fresh { IfOk result (λ d. IsFresh ⟦<GatheringDrive as Drive>⟧ capacity d) }
         ensures place { OnOk result (IsTrue (is_out self.new path.now)) }
         ensures others { SameBut path.now (held_by self.old) (held_by self.new) }
         ensures places { SameBut path.now (is_out self.old) (is_out self.new) }
@@ -181,7 +185,7 @@ impl Media for MemMedia {
         taken
     }
 
-    fn put_back(&mut self, path: &str, drive: MemDrive) {
+    fn put_back(&mut self, path: &str, drive: GatheringDrive) {
         if let Some(place) = place_of(&self.slots, path.as_bytes()) {
             fill(&mut self.slots[place], drive);
         }
@@ -190,7 +194,7 @@ impl Media for MemMedia {
     fn part(
         &mut self,
         _path: &str,
-        _drive: &MemDrive,
+        _drive: &GatheringDrive,
         _into: &mut Block,
     ) -> Result<usize, DriveFault>
         ensures none { result ≡ Ok 0 }
@@ -201,7 +205,7 @@ impl Media for MemMedia {
 }
 
 /// Puts a drive into a slot.
-fn fill(slot: &mut Slot, drive: MemDrive)
+fn fill(slot: &mut Slot, drive: GatheringDrive)
     ensures path { slot.new.path ≡ slot.old.path }
     ensures drive { slot.new.drive ≡ Some drive }
 {
@@ -232,7 +236,7 @@ fn place_of(slots: &[Slot], path: &[u8]) -> Option<usize>
 }
 
 /// Takes the drive out of a slot, if it is there and fits the capacity.
-fn take_drive(slot: &mut Slot, capacity: u32) -> Result<MemDrive, DriveFault>
+fn take_drive(slot: &mut Slot, capacity: u32) -> Result<GatheringDrive, DriveFault>
     ensures path { slot.new.path ≡ slot.old.path }
     ensures opened { IfOk result (λ d. journal_in slot.old ≡ Some (journal_of d)) }
     ensures out { OnOk result (slot.new.drive ≡ None) }
@@ -240,34 +244,16 @@ fn take_drive(slot: &mut Slot, capacity: u32) -> Result<MemDrive, DriveFault>
     ensures fit { IfOk result (λ d. IsFit capacity (journal_of d)) }
     ensures writes { IfOk result (λ d. writes_of d ≡ []) }
     ensures failures { IfOk result (λ d. failures_of d ≡ 0) }
+    ensures gathering { IfOk result (λ d. gathering_of d ≡ waits_never) }
     ensures err { OnErr result (slot.new.drive ≡ slot.old.drive) }
     ensures refused { OnErr result (IsUnfit capacity (journal_in slot.old)) }
 {
     let Some(drive) = slot.drive.take() else {
         return Err(DriveFault);
     };
-    if is_fit(drive.journal(), capacity) {
+    if drive.blocks().len() <= capacity as usize {
         return Ok(drive.reopened(capacity));
     }
     slot.drive = Some(drive);
     Err(DriveFault)
-}
-
-/// Whether each block was written once, in order, and there are no more blocks than the capacity.
-fn is_fit(events: &[(u32, Block)], capacity: u32) -> bool
-    ensures { IsTrue result ↔ IsFit capacity events.now }
-{
-    events.len() <= capacity as usize && are_in_order(events)
-}
-
-/// Whether each address was written once, in order.
-fn are_in_order(events: &[(u32, Block)]) -> bool
-    ensures { IsTrue result ↔ InOrder events.now }
-{
-    for place in 0..events.len() {
-        if events[place].0 as usize != place {
-            return false;
-        }
-    }
-    true
 }

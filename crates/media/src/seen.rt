@@ -1,11 +1,12 @@
 //! What image files are assumed to hold. Only clauses read this.
 ghost use Rattle.std.specs.Prelude.{◌≡◌, ◌+◌, ◌∷◌, true, ℕ};
 ghost use Rattle.std.specs.Borrow.{ftrue};
-ghost use Rattle.drive.specs.FileDrive.{journal_of, misreads_of};
+ghost use Rattle.settling.specs.GatheringFile.{journal_of, misreads_of};
 ghost use Rattle.drive.specs.Journal.{counted};
 ghost use Rattle.media.specs.Seen.{FileRecord, ImageJournals, LookLog, held_blocks, lookup, missed, with_new_image};
 
-use drive::{FileDrive, HeldBlocks, Look};
+use drive::{HeldBlocks, Look};
+use settling::GatheringFileDrive;
 use std::marker::Model;
 
 /// What was found and looked at. It takes no memory, and its functions do nothing when they run.
@@ -38,7 +39,7 @@ impl Seen {
     }
 
     /// The image at this path was opened, with what this drive has.
-    pub(crate) fn after_open(_seen: &Seen, _path: &[u8], _drive: &FileDrive) -> Seen
+    pub(crate) fn after_open(_seen: &Seen, _path: &[u8], _drive: &GatheringFileDrive) -> Seen
         ensures { (result.images ≡ _seen.now.images) × (result.misses ≡ _seen.now.misses + missed (lookup _seen.now.images _path.now) (journal_of _drive.now)) × (result.looks ≡ _seen.now.looks) × (result.failures ≡ _seen.now.failures) }
     {
         Seen {}
@@ -59,7 +60,7 @@ impl Seen {
     }
 
     /// This drive was put back at this path.
-    pub(crate) fn after_back(_seen: &Seen, _path: &[u8], _drive: &FileDrive) -> Seen
+    pub(crate) fn after_back(_seen: &Seen, _path: &[u8], _drive: &GatheringFileDrive) -> Seen
         ensures { (result.images ≡ (_path.now, journal_of _drive.now) ∷ _seen.now.images) × (result.misses ≡ _seen.now.misses + misreads_of _drive.now) × (result.looks ≡ _seen.now.looks) × (result.failures ≡ _seen.now.failures) }
     {
         Seen {}

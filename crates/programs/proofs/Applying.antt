@@ -2,6 +2,7 @@
 use Rattle.std.proofs.Common.{◌≡◌, ◌↔◌, ℕ, ◌<◌, ◌≤◌, min, List, [], length, codes, Bool, true, Option, None, Result, Ok, Err, refl, sym, ap, ◌∙◌, subst, arith, drop, IsTrue, IsSome, IsNone, inr}
 use Rattle.std.specs.Prelude.{IsErrAnd}
 use Rattle.limits.specs.declared.TheConstants.{GREATEST_CAPACITY, LEAST_CAPACITY}
+use Rattle.drive.specs.Gathering.{Gathering, waits_never}
 use Rattle.drive.specs.Journal.{Event, held, Once}
 use Rattle.drive.specs.declared.Drive.{Ghosts}
 use Rattle.drive.proofs.Once.{once-written}
@@ -23,11 +24,12 @@ use Rattle.engine.specs.Steps.{HoldsState}
 use Rattle.engine.specs.Said.{model_answers}
 use Rattle.engine.specs.Served.{AllAnswered, ServedHolds, ServesAll, ServesUntil, brought}
 use Rattle.engine.specs.declared.serving.ServeFault.{ServeFault}
+use Rattle.grouping.specs.Streams.{ServesGroups, ServesGroupsUntil}
 use Rattle.engine.proofs.Running.{runs_begin}
 use Rattle.engine.proofs.Served.{answered_counted}
 use Rattle.programs.specs.declared.fault.Fault.{Fault}
 use Rattle.programs.specs.declared.fault.Fault.TheVariants.{Usage, Path, Socket, Store as Stored, Stream}
-use Rattle.programs.specs.Applied.{AppliesStream, AppliesAll, AppliesUntil, AppliesToImage, IsRunOfNew, IsUnmade, AnswersAll, AnswersUntil, AnswersInMemory}
+use Rattle.programs.specs.Applied.{AppliesGroups, AppliesInGroups, AppliesStream, AppliesAll, AppliesUntil, AppliesToImage, IsRunOfNew, IsUnmade, AnswersAll, AnswersUntil, AnswersInMemory}
 use Rattle.programs.specs.Images.{Images, IsOpened, IsPutBack, IsThere}
 use Rattle.programs.proofs.Opening.{keeps_self, on_media}
 
@@ -45,11 +47,26 @@ applied_until {T} (Err f) fault store kept J failures capacity honest writes aft
     subst (λ (g : Fault). AppliesStream {T = T} (Err g) (situation None J failures capacity honest writes) afterwards i l o w) (sym is)
     (kept, subst (λ (s : Option Store). ServesUntil fault (situation s J failures capacity honest writes) (with_store kept afterwards) i l o w) e h)
 
--- the same on an image that was opened
+-- the same in groups
+pub grouped_all : (store kept : Option Store) (J : List Event) (failures capacity : ℕ) (honest : Bool) (writes : List (List (List ℕ))) (begun : Gathering) (afterwards : Situation) (ended : Gathering) (i l o w : Option (List ℕ)) → store ≡ None
+    → ServesGroups (situation store J failures capacity honest writes) begun (with_store kept afterwards) ended i l o w → AppliesGroups (situation None J failures capacity honest writes) begun afterwards i l o w
+grouped_all store kept J failures capacity honest writes begun afterwards ended i l o w e h =
+    (kept, ended, subst (λ (s : Option Store). ServesGroups (situation s J failures capacity honest writes) begun (with_store kept afterwards) ended i l o w) e h)
+
+pub grouped_until : {T : Type 0} (outcome : Result T Fault) (fault : ServeFault) (store kept : Option Store) (J : List Event) (failures capacity : ℕ) (honest : Bool) (writes : List (List (List ℕ))) (begun : Gathering) (afterwards : Situation) (ended : Gathering) (i l o w : Option (List ℕ)) → IsErrAnd outcome (λ f. f ≡ Stream fault) → store ≡ None
+    → ServesGroupsUntil fault (situation store J failures capacity honest writes) begun (with_store kept afterwards) ended i l o w → AppliesInGroups outcome (situation None J failures capacity honest writes) begun afterwards i l o w
+grouped_until {T} (Ok x) fault store kept J failures capacity honest writes begun afterwards ended i l o w is e h = absurd is
+grouped_until {T} (Err f) fault store kept J failures capacity honest writes begun afterwards ended i l o w is e h =
+    subst (λ (g : Fault). AppliesInGroups {T = T} (Err g) (situation None J failures capacity honest writes) begun afterwards i l o w) (sym is)
+    (kept, ended, subst (λ (s : Option Store). ServesGroupsUntil fault (situation s J failures capacity honest writes) begun (with_store kept afterwards) ended i l o w) e h)
+
+-- so it is on an image that was opened, whose drive did not gather yet
 pub applied_to_image : {T D : Type 0} (drive : Ghosts D) (image : List ℕ) (outcome : Result T Fault) (d e : D) (before between afterwards : Images) (i l o w : Option (List ℕ))
-    → IsOpened drive IsThere GREATEST_CAPACITY image d before between → IsPutBack drive image e between afterwards → AppliesStream outcome (situation_on drive None d) (situation_on drive None e) i l o w
+    → IsOpened drive IsThere GREATEST_CAPACITY image d before between → IsPutBack drive image e between afterwards → AppliesInGroups outcome (situation_on drive None d) (drive.gathering d) (situation_on drive None e) i l o w
     → AppliesToImage image outcome before afterwards i l o w
-applied_to_image drive image outcome d e before between afterwards i l o w opened back h = inr (on_media drive IsThere GREATEST_CAPACITY image (λ first last. AppliesStream outcome first last i l o w) d e before between afterwards opened back h)
+applied_to_image drive image outcome d e before between afterwards i l o w opened back h =
+    inr (on_media drive IsThere GREATEST_CAPACITY image (λ first last. AppliesInGroups outcome first waits_never last i l o w) d e before between afterwards opened back
+    (subst (λ (g : Gathering). AppliesInGroups outcome (situation_on drive None d) g (situation_on drive None e) i l o w) opened.fresh.gathering h))
 
 -- ---- a new volume on a drive that was blank and is honest
 

@@ -5,21 +5,24 @@ use Rattle.std.specs.Io.KnownBytes.{Appends, Keeps, append_known}
 use Rattle.std.proofs.lemmas.List.{append-nil}
 use Rattle.std.proofs.Math.Seq.{take-append-add}
 use Rattle.limits.specs.declared.TheConstants.{GREATEST_CAPACITY}
+use Rattle.drive.specs.Gathering.{Gathering, waits_never}
 use Rattle.drive.specs.Journal.{Event}
 use Rattle.drive.specs.Reads.{CountsFailures}
 use Rattle.request.specs.Answers.{answer_frame}
 use Rattle.request.specs.declared.answer.Answer.{Answer}
-use Rattle.engine.specs.Served.{LastUntold, LeftAt, LeftBy, ServesAll, ServesUntil, frames_of}
+use Rattle.engine.specs.Served.{LastUntold, LeftAt, LeftBy, frames_of}
 use Rattle.engine.specs.declared.serving.ServeFault.{ServeFault}
 use Rattle.engine.specs.declared.serving.ServeFault.TheVariants as streams
 use Rattle.engine.specs.Situation.{Situation, with_store}
 use Rattle.engine.specs.Streams.{PutsPrefix}
 use Rattle.engine.proofs.Messages.{nothing_more}
 use Rattle.engine.proofs.Pieces.{keeps_on}
+use Rattle.grouping.specs.Served.{Group, answers_of}
+use Rattle.grouping.specs.Streams.{LastGroupUntold, LeftByIn, LeftIn, ServesGroups, ServesGroupsUntil}
 use Rattle.recover.specs.declared.fault.StoreFault.{StoreFault}
 use Rattle.programs.specs.declared.fault.Fault.{Fault}
 use Rattle.programs.specs.declared.fault.Fault.TheVariants.{Usage, Path, Socket, Store, Stream}
-use Rattle.programs.specs.Applied.{AppliesStream, AppliesToImage, AnswersInMemory}
+use Rattle.programs.specs.Applied.{AppliesInGroups, AppliesToImage, AnswersInMemory}
 use Rattle.programs.specs.Connections.{ServesPrefix}
 use Rattle.programs.specs.Copies.{SendsFrames, SendsSome}
 use Rattle.programs.specs.FaultLines.{Said, Reports}
@@ -68,20 +71,20 @@ module _ (i l o v w : Option (List ℕ)) (kept : Keeps v w) where
   made_on_kept label moment capacity outcome look earlier later before afterwards (inl k) = inl (record { refused = k.refused; why = k.why; journal = k.journal; writes = k.writes; unwritten = keeps_trans o v w k.unwritten kept; failed = k.failed })
   made_on_kept label moment capacity outcome look earlier later before afterwards (inr k) = inr (k.0, k.1, k.2, makes_kept label moment capacity outcome before.journal afterwards.journal afterwards.honest k.3, k.4)
 
-  serves_kept : (before afterwards : Situation) → ServesAll before afterwards i l o v → ServesAll before afterwards i l o w
-  serves_kept before afterwards h = record {
+  serves_kept : (before : Situation) (begun : Gathering) (afterwards : Situation) (ended : Gathering) → ServesGroups before begun afterwards ended i l o v → ServesGroups before begun afterwards ended i l o w
+  serves_kept before begun afterwards ended h = record {
     reader = h.reader;
     serving = record {
       bytes = h.serving.bytes;
-      messages = h.serving.messages;
-      answers = h.serving.answers;
+      groups = h.serving.groups;
       consumed = h.serving.consumed;
       messages_are = h.serving.messages_are;
-      answered = h.serving.answered;
-      told = keeps_on o v w (frames_of h.serving.answers) h.serving.told kept;
+      are = h.serving.are;
+      told = keeps_on o v w (frames_of (answers_of h.serving.groups)) h.serving.told kept;
     };
-    holds = h.holds;
-    withstands = h.withstands;
+    run = h.run;
+    withstand = h.withstand;
+    lives = h.lives;
     idle = h.idle;
     ends = h.ends;
   }
@@ -102,30 +105,44 @@ module _ (i l o v w : Option (List ℕ)) (kept : Keeps v w) where
   left_kept streams.Memory bytes answers reader (inr (inl h)) = inr (inl (h.0, h.1, h.2, h.3, h.4, keeps_on o v w (frames_of answers) h.5 kept))
   left_kept streams.Memory bytes answers reader (inr (inr h)) = inr (inr (h.0, keeps_on o v w (frames_of answers) h.1 kept))
 
-  until_kept : (fault : ServeFault) (before afterwards : Situation) → ServesUntil fault before afterwards i l o v → ServesUntil fault before afterwards i l o w
-  until_kept fault before afterwards h = record {
-    some = record {
-      bytes = h.some.bytes;
-      messages = h.some.messages;
-      answers = h.some.answers;
-      reader = h.some.reader;
-      consumed = h.some.consumed;
-      messages_are = h.some.messages_are;
-      answered = h.some.answered;
-      holds = h.some.holds;
-      withstands = h.some.withstands;
-      front = front_kept o v w (frames_of h.some.answers) h.some.front kept;
-    };
-    left_by = left_kept fault h.some.bytes h.some.answers h.some.reader h.left_by;
+  group_kept : (groups : List Group) (count : ℕ) → LastGroupUntold groups count o v → LastGroupUntold groups count o w
+  group_kept groups count (others, last, is, h) = (others, last, is, keeps_on o v w (frames_of (answers_of others) ++ take count (frames_of last.answers)) h kept)
+
+  left_in_kept : (fault : ServeFault) (groups : List Group) (reader : Option (List ℕ)) → LeftIn fault groups reader o v → LeftIn fault groups reader o w
+  left_in_kept streams.Read groups reader h = h
+  left_in_kept streams.Write groups reader (inl h) = inl (h.0, keeps_on o v w (frames_of (answers_of groups)) h.1 kept)
+  left_in_kept streams.Write groups reader (inr (count, h)) = inr (count, group_kept groups count h)
+  left_in_kept streams.Memory groups reader h = untold_kept (answers_of groups) 0 h
+
+  left_by_kept : (fault : ServeFault) (bytes : List ℕ) (groups : List Group) (reader : Option (List ℕ)) → LeftByIn fault bytes groups reader o v → LeftByIn fault bytes groups reader o w
+  left_by_kept streams.Read bytes groups reader h = (h.0, keeps_on o v w (frames_of (answers_of groups)) h.1 kept)
+  left_by_kept streams.Write bytes groups reader h = (h.0, left_in_kept streams.Write groups reader h.1)
+  left_by_kept streams.Memory bytes groups reader (inl h) = inl (left_in_kept streams.Memory groups reader h)
+  left_by_kept streams.Memory bytes groups reader (inr (inl h)) = inr (inl (h.0, h.1, h.2, h.3, h.4, keeps_on o v w (frames_of (answers_of groups)) h.5 kept))
+  left_by_kept streams.Memory bytes groups reader (inr (inr h)) = inr (inr (h.0, keeps_on o v w (frames_of (answers_of groups)) h.1 kept))
+
+  until_kept : (fault : ServeFault) (before : Situation) (begun : Gathering) (afterwards : Situation) (ended : Gathering) → ServesGroupsUntil fault before begun afterwards ended i l o v → ServesGroupsUntil fault before begun afterwards ended i l o w
+  until_kept fault before begun afterwards ended h = record {
+    bytes = h.bytes;
+    groups = h.groups;
+    reader = h.reader;
+    consumed = h.consumed;
+    messages_are = h.messages_are;
+    are = h.are;
+    run = h.run;
+    withstand = h.withstand;
+    lives = h.lives;
+    front = front_kept o v w (frames_of (answers_of h.groups)) h.front kept;
+    left_by = left_by_kept fault h.bytes h.groups h.reader h.left_by;
   }
 
-  applies_kept : {T : Type 0} (outcome : Result T Fault) (before afterwards : Situation) → AppliesStream outcome before afterwards i l o v → AppliesStream outcome before afterwards i l o w
-  applies_kept (Ok x) before afterwards (store, h) = (store, serves_kept before (with_store store afterwards) h)
-  applies_kept (Err Usage) before afterwards h = h
-  applies_kept (Err Path) before afterwards h = h
-  applies_kept (Err Socket) before afterwards h = h
-  applies_kept (Err (Store fault)) before afterwards h = h
-  applies_kept (Err (Stream fault)) before afterwards (store, h) = (store, until_kept fault before (with_store store afterwards) h)
+  applies_kept : {T : Type 0} (outcome : Result T Fault) (begun : Gathering) (before afterwards : Situation) → AppliesInGroups outcome before begun afterwards i l o v → AppliesInGroups outcome before begun afterwards i l o w
+  applies_kept (Ok x) begun before afterwards (store, ended, h) = (store, ended, serves_kept before begun (with_store store afterwards) ended h)
+  applies_kept (Err Usage) begun before afterwards h = h
+  applies_kept (Err Path) begun before afterwards h = h
+  applies_kept (Err Socket) begun before afterwards h = h
+  applies_kept (Err (Store fault)) begun before afterwards h = h
+  applies_kept (Err (Stream fault)) begun before afterwards (store, ended, h) = (store, ended, until_kept fault before begun (with_store store afterwards) ended h)
 
   answers_kept : {T : Type 0} (outcome : Result T Fault) (capacity : ℕ) → AnswersInMemory outcome capacity i l o v → AnswersInMemory outcome capacity i l o w
   answers_kept (Ok x) capacity h = record {
@@ -207,7 +224,9 @@ module _ (old new : Images) (i l o v w : Option (List ℕ)) (kept : Keeps v w) w
 
   applied_kept : {T : Type 0} (image : List ℕ) (outcome : Result T Fault) → AppliesToImage image outcome old new i l o v → AppliesToImage image outcome old new i l o w
   applied_kept image outcome (inl (h, same)) = inl (unopened_kept outcome h, same)
-  applied_kept image outcome (inr h) = inr (on_image IsThere GREATEST_CAPACITY image (λ before afterwards. AppliesStream outcome before afterwards i l o v) (λ before afterwards. AppliesStream outcome before afterwards i l o w) old new (applies_kept i l o v w kept outcome) h)
+  applied_kept image outcome (inr h) =
+      inr (on_image IsThere GREATEST_CAPACITY image (λ before afterwards. AppliesInGroups outcome before waits_never afterwards i l o v) (λ before afterwards. AppliesInGroups outcome before waits_never afterwards i l o w) old new
+      (applies_kept i l o v w kept outcome waits_never) h)
 
   shown_kept : {T : Type 0} (question : Question) (image : List ℕ) (outcome : Result T Fault) → ShowsImage question image outcome old new o v → ShowsImage question image outcome old new o w
   shown_kept question image outcome (inl h) = inl (unopened_kept outcome h)
@@ -333,7 +352,7 @@ module _ {O : Type 0} (contents : O → Option (List ℕ)) (output first last in
 pub err_of : {T E : Type 0} (r : Result T E) (e told : E) (P : E → Type 0) → r ≡ Err e → e ≡ told → IfErr r P → P told
 err_of {T} {E} r e told P is same h = subst (λ (x : E). P x) same (subst (λ (x : Result T E). IfErr x P) is h)
 
-module _ (before afterwards : Situation) (i l : Option (List ℕ)) {O : Type 0} (contents : O → Option (List ℕ)) (output first last inner : O) (waiting waited rest bytes : List ℕ)
+module _ (before : Situation) (begun : Gathering) (afterwards : Situation) (ended : Gathering) (i l : Option (List ℕ)) {O : Type 0} (contents : O → Option (List ℕ)) (output first last inner : O) (waiting waited rest bytes : List ℕ)
     (begins : first ≡ output) (empty : waiting ≡ []) (taken : inner ≡ last) (left : rest ≡ waited) (same : bytes ≡ rest) where
   begins_with : append_known (contents first) waiting ≡ contents output
   begins_with = ap (λ (x : O). append_known (contents x) waiting) begins ∙ nothing_waits (contents output) waiting empty
@@ -341,40 +360,40 @@ module _ (before afterwards : Situation) (i l : Option (List ℕ)) {O : Type 0} 
   ends_with : append_known (contents last) waited ≡ append_known (contents inner) bytes
   ends_with = ap (λ (x : O). append_known (contents x) waited) (sym taken) ∙ ap (λ (b : List ℕ). append_known (contents inner) b) (sym (same ∙ left))
 
-  pub served_all : (now : Option (List ℕ)) → Appends (contents inner) now bytes → ServesAll before afterwards i l (append_known (contents first) waiting) (append_known (contents last) waited) → ServesAll before afterwards i l (contents output) now
+  pub served_all : (now : Option (List ℕ)) → Appends (contents inner) now bytes → ServesGroups before begun afterwards ended i l (append_known (contents first) waiting) (append_known (contents last) waited) → ServesGroups before begun afterwards ended i l (contents output) now
   served_all now put h =
-      serves_kept i l (contents output) (append_known (contents inner) bytes) now (written_out (contents inner) now bytes put) before afterwards
-      (subst (λ (a : Option (List ℕ)). ServesAll before afterwards i l a (append_known (contents inner) bytes)) begins_with
-      (subst (λ (b : Option (List ℕ)). ServesAll before afterwards i l (append_known (contents first) waiting) b) ends_with h))
+      serves_kept i l (contents output) (append_known (contents inner) bytes) now (written_out (contents inner) now bytes put) before begun afterwards ended
+      (subst (λ (a : Option (List ℕ)). ServesGroups before begun afterwards ended i l a (append_known (contents inner) bytes)) begins_with
+      (subst (λ (b : Option (List ℕ)). ServesGroups before begun afterwards ended i l (append_known (contents first) waiting) b) ends_with h))
 
   -- all messages were answered, and a prefix of what waited was written
-  pub served_part : (fault : ServeFault) (now : Option (List ℕ)) → fault ≡ streams.Write → PutsPrefix (contents inner) now bytes → ServesAll before afterwards i l (append_known (contents first) waiting) (append_known (contents last) waited)
-      → ServesPrefix fault before afterwards i l (contents output) now
+  pub served_part : (fault : ServeFault) (now : Option (List ℕ)) → fault ≡ streams.Write → PutsPrefix (contents inner) now bytes → ServesGroups before begun afterwards ended i l (append_known (contents first) waiting) (append_known (contents last) waited)
+      → ServesPrefix fault before begun afterwards ended i l (contents output) now
   served_part fault now write put h = record {
     gathered = append_known (contents inner) bytes;
     serves = inr (
       write,
-      subst (λ (a : Option (List ℕ)). ServesAll before afterwards i l a (append_known (contents inner) bytes)) begins_with
-          (subst (λ (b : Option (List ℕ)). ServesAll before afterwards i l (append_known (contents first) waiting) b) ends_with h),
+      subst (λ (a : Option (List ℕ)). ServesGroups before begun afterwards ended i l a (append_known (contents inner) bytes)) begins_with
+          (subst (λ (b : Option (List ℕ)). ServesGroups before begun afterwards ended i l (append_known (contents first) waiting) b) ends_with h),
     );
     front = written_part (contents inner) now bytes put;
   }
 
-  served_front : (fault : ServeFault) (now : Option (List ℕ)) → PutsPrefix (contents inner) now bytes → ServesUntil fault before afterwards i l (append_known (contents first) waiting) (append_known (contents last) waited)
-      → ServesPrefix fault before afterwards i l (contents output) now
+  served_front : (fault : ServeFault) (now : Option (List ℕ)) → PutsPrefix (contents inner) now bytes → ServesGroupsUntil fault before begun afterwards ended i l (append_known (contents first) waiting) (append_known (contents last) waited)
+      → ServesPrefix fault before begun afterwards ended i l (contents output) now
   served_front fault now put h = record {
     gathered = append_known (contents inner) bytes;
-    serves = inl (subst (λ (a : Option (List ℕ)). ServesUntil fault before afterwards i l a (append_known (contents inner) bytes)) begins_with
-        (subst (λ (b : Option (List ℕ)). ServesUntil fault before afterwards i l (append_known (contents first) waiting) b) ends_with h));
+    serves = inl (subst (λ (a : Option (List ℕ)). ServesGroupsUntil fault before begun afterwards ended i l a (append_known (contents inner) bytes)) begins_with
+        (subst (λ (b : Option (List ℕ)). ServesGroupsUntil fault before begun afterwards ended i l (append_known (contents first) waiting) b) ends_with h));
     front = written_part (contents inner) now bytes put;
   }
 
   -- what waited was let go
-  pub served_cut : (fault : ServeFault) → ServesUntil fault before afterwards i l (append_known (contents first) waiting) (append_known (contents last) waited) → ServesPrefix fault before afterwards i l (contents output) (contents inner)
+  pub served_cut : (fault : ServeFault) → ServesGroupsUntil fault before begun afterwards ended i l (append_known (contents first) waiting) (append_known (contents last) waited) → ServesPrefix fault before begun afterwards ended i l (contents output) (contents inner)
   served_cut fault h = served_front fault (contents inner) (0, nothing_more (contents inner)) h
 
   -- what waited was written, or a prefix of it
   pub served_tried : {T E : Type 0} (fault : ServeFault) (r : Result T E) (now : Option (List ℕ)) → OnOk r (Appends (contents inner) now bytes) → OnErr r (PutsPrefix (contents inner) now bytes)
-      → ServesUntil fault before afterwards i l (append_known (contents first) waiting) (append_known (contents last) waited) → ServesPrefix fault before afterwards i l (contents output) now
+      → ServesGroupsUntil fault before begun afterwards ended i l (append_known (contents first) waiting) (append_known (contents last) waited) → ServesPrefix fault before begun afterwards ended i l (contents output) now
   served_tried fault (Ok x) now all some h = served_front fault now (whole_front (contents inner) now bytes all) h
   served_tried fault (Err e) now all some h = served_front fault now some h

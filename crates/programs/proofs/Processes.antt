@@ -1,47 +1,44 @@
 -- Processes over the same media, one after another, are runs of which each begins on what the one before it left.
 use Rattle.std.proofs.Common.{◌≡◌, inl, inr, ℕ, zero, suc, ◌<◌, Bool, true, false, List, [], ◌∷◌, ◌++◌, length, take, drop, Option, Some, None, Result, Ok, Err, IsTrue, refl, sym, ap, ◌∙◌, subst, arith, append-nil}
-use Rattle.std.specs.Prelude.{bytes_eq}
+use Rattle.std.specs.Prelude.{bytes_eq, map}
 use Rattle.std.proofs.Math.Seq.{take-append_seam}
 use Rattle.std.proofs.lemmas.Option.{none-some}
 use Rattle.std.proofs.lemmas.List.{append_cancel_left, drop_all}
 use Rattle.limits.specs.declared.TheConstants.{GREATEST_CAPACITY}
+use Rattle.drive.specs.Gathering.{Gathering, waits_never}
 use Rattle.drive.specs.Journal.{Event, Once, held, next_of, written}
 use Rattle.drive.specs.Reads.{CountsFailures}
 use Rattle.drive.specs.Writes.{IsLeft}
-use Rattle.request.specs.declared.answer.Answer.{Answer}
-use Rattle.request.specs.declared.message.Message.{Message}
 use Rattle.media.specs.Held.{SameOrMade, initial_journal}
 use Rattle.model.specs.Session.{State, Request, after}
 use Rattle.model.proofs.Lists.{bytes_cases}
 use Rattle.model.specs.Tree as tree
-use Rattle.durability.specs.Commit.{need}
-use Rattle.durability.specs.Journal.{HoldsOnJournal}
 use Rattle.durability.specs.Volume.{RecoversTo}
 use Rattle.durability.proofs.Lists.{side}
-use Rattle.udf.specs.Udf.{udf, spelled_length}
+use Rattle.udf.specs.Udf.{udf}
 use Rattle.formatting.specs.NewVolume.{Words, HoldsPrefixes, IsFormatOf, IsFormatted, IsFormatRefused, words_on}
 use Rattle.formatting.specs.NewVolume as new_volumes
 use Rattle.formatting.proofs.NewVolumes.{format_long}
 use Rattle.recover.specs.declared.fault.StoreFault.{StoreFault}
 use Rattle.recover.specs.declared.fault.StoreFault.TheVariants as stores
-use Rattle.engine.specs.Lives.{IsLifeCut, life_of}
-use Rattle.engine.specs.Losses.{AreCut, IsLost, IsRunCutShort, Life, Survives}
-use Rattle.engine.specs.Said.{model_answers}
-use Rattle.engine.specs.Served.{AllAnswered, ServedHolds, ServedWithstands, brought, frames_of}
+use Rattle.engine.specs.Losses.{AreCut, IsLost, Life, Survives}
+use Rattle.engine.specs.Served.{frames_of}
 use Rattle.engine.specs.Situation.{Situation, situation, with_store}
 use Rattle.engine.specs.Steps.{HoldsState}
 use Rattle.engine.specs.declared.serving.ServeFault.TheVariants as streams
-use Rattle.engine.proofs.Lives.{cuts_join, run_ended, run_lost}
+use Rattle.engine.proofs.Lives.{cuts_join}
 use Rattle.engine.proofs.Losses.{losses_reach}
 use Rattle.engine.proofs.Running.{runs_begin}
+use Rattle.grouping.specs.Losses.{GroupsAreLives, life_in}
+use Rattle.grouping.specs.Served.{AreGroups, Group, answers_of}
 use Rattle.programs.specs.declared.fault.Fault.{Fault}
 use Rattle.programs.specs.declared.fault.Fault.TheVariants.{Usage, Path, Socket, Store, Stream}
-use Rattle.programs.specs.Applied.{AppliesStream, AppliesToImage}
+use Rattle.programs.specs.Applied.{AppliesInGroups, AppliesToImage}
 use Rattle.programs.specs.CutShort.{CutOnMedia, IsTaskCut, LosesApply, LosesDaemon, LosesFormat, LosesReading, LosesServing}
 use Rattle.programs.specs.Images.{AreUntouched, Images, IsThere, IsThereOrMade, OnMedia, Unopened}
 use Rattle.programs.specs.Listening.{Heard, ServesEach}
 use Rattle.programs.specs.NewVolumes.{MakesVolume, MakesOn, MakesOnImage}
-use Rattle.programs.specs.Processes.{AllDid, AllRan, AnswersInput, Did, Process, ProcessesAreRuns, Ran, RanCommand, RanUntil}
+use Rattle.programs.specs.Processes.{AllDid, AllRan, AnswersInput, AreLivesCut, Did, Process, ProcessesAreRuns, Ran, RanCommand, RanUntil}
 use Rattle.programs.specs.Processes.Process.{Command, CutCommand, CutDaemon, Daemon}
 use Rattle.programs.specs.Questions.{Question, PrintsAnswer, ShowsImage, ShowsPath}
 use Rattle.programs.specs.Questions.Question.{Names_at, Bytes_at, Commits, Soundness}
@@ -186,46 +183,48 @@ format_lost label moment capacity before next lost volume S stands sure (survive
   | inr torn ↦ absurd ((torn sure).0 GREATEST_CAPACITY volume S stands)
 ]
 
--- the messages of an input that were answered, on an image where a state is recovered
-record Run (volume : ℕ) (S : State) (before afterwards : List Event) (Are : List Message → List Answer → Type 0) : Type 0 where
-  pub messages : List Message
-  pub answers : List Answer
-  pub are : Are messages answers
-  pub holds : HoldsOnJournal udf (need spelled_length) GREATEST_CAPACITY volume S before afterwards (brought messages) (model_answers answers)
+-- the groups of an input that were answered, on an image where a state is recovered
+record Run (volume : ℕ) (S : State) (before afterwards : List Event) (Are : List Group → Type 0) : Type 0 where
+  pub groups : List Group
+  pub are : Are groups
+  pub done : List Request
+  pub cuts : AreCut GREATEST_CAPACITY volume S before (map life_in groups) done afterwards
 
-module _ (volume : ℕ) (S : State) (J : List Event) (once : Once J) (stands : RecoversTo udf GREATEST_CAPACITY volume (held J) S) (last : Situation) (honest : IsTrue last.honest) where
+module _ (volume : ℕ) (S : State) (J : List Event) (once : Once J) (stands : RecoversTo udf GREATEST_CAPACITY volume (held J) S) where
   at_start : HoldsState volume S (situation None J 0 GREATEST_CAPACITY true [])
   at_start = (runs_begin volume S J 0 GREATEST_CAPACITY true [] once stands).0
 
-  applies_run : {T : Type 0} (outcome : Result T Fault) (i l o w : Option (List ℕ)) → AppliesStream outcome (situation None J 0 GREATEST_CAPACITY true []) last i l o w → Run volume S J last.journal (AnswersInput i l o w)
-  applies_run (Ok x) i l o w (kept, h) = record {
-    messages = h.serving.messages;
-    answers = h.serving.answers;
-    are = record {
-      bytes = h.serving.bytes;
-      reader = h.reader;
-      consumed = h.serving.consumed;
-      messages_are = h.serving.messages_are;
-      front = whole_front o w (frames_of h.serving.answers) h.serving.told;
-    };
-    holds = h.holds volume S honest at_start;
-  }
-  applies_run (Err Usage) i l o w h = absurd h
-  applies_run (Err Path) i l o w h = absurd h
-  applies_run (Err Socket) i l o w h = absurd h
-  applies_run (Err (Store fault)) i l o w h = absurd h
-  applies_run (Err (Stream fault)) i l o w (kept, h) = record {
-    messages = h.some.messages;
-    answers = h.some.answers;
-    are = record {
-      bytes = h.some.bytes;
-      reader = h.some.reader;
-      consumed = h.some.consumed;
-      messages_are = h.some.messages_are;
-      front = h.some.front;
-    };
-    holds = h.some.holds volume S honest at_start;
-  }
+  groups_cut : (groups : List Group) (last : Situation) (finished : Gathering) (are : AreGroups groups (situation None J 0 GREATEST_CAPACITY true []) waits_never last finished) → GroupsAreLives groups (situation None J 0 GREATEST_CAPACITY true []) waits_never last finished are → IsTrue last.honest
+      → (done : List Request) × AreCut GREATEST_CAPACITY volume S J (map life_in groups) done last.journal
+  groups_cut groups last finished are lives honest = let ended = (lives volume S honest at_start).0 in (ended.0, ended.1)
+
+  applies_run : {T : Type 0} (last : Situation) (outcome : Result T Fault) (i l o w : Option (List ℕ)) → IsTrue last.honest → AppliesInGroups outcome (situation None J 0 GREATEST_CAPACITY true []) waits_never last i l o w → Run volume S J last.journal (AnswersInput i l o w)
+  applies_run last (Ok x) i l o w honest (kept, finished, h) =
+      let cut = groups_cut h.serving.groups (with_store kept last) finished h.serving.are h.lives honest in
+      record {
+        groups = h.serving.groups;
+        are = record {
+          bytes = h.serving.bytes;
+          reader = h.reader;
+          consumed = h.serving.consumed;
+          messages_are = h.serving.messages_are;
+          front = whole_front o w (frames_of (answers_of h.serving.groups)) h.serving.told;
+        };
+        done = cut.0;
+        cuts = cut.1;
+      }
+  applies_run last (Err Usage) i l o w honest h = absurd h
+  applies_run last (Err Path) i l o w honest h = absurd h
+  applies_run last (Err Socket) i l o w honest h = absurd h
+  applies_run last (Err (Store fault)) i l o w honest h = absurd h
+  applies_run last (Err (Stream fault)) i l o w honest (kept, finished, h) =
+      let cut = groups_cut h.groups (with_store kept last) finished h.are h.lives honest in
+      record {
+        groups = h.groups;
+        are = record { bytes = h.bytes; reader = h.reader; consumed = h.consumed; messages_are = h.messages_are; front = h.front };
+        done = cut.0;
+        cuts = cut.1;
+      }
 
 module _ (path : List ℕ) (volume : ℕ) (S : State) (J : List Event) (once : Once J) (stands : RecoversTo udf GREATEST_CAPACITY volume (held J) S) (old new : Images) (honest : IsTrue new.honest) (there : old.held path ≡ Some J) where
   stays : (Are : List Life → Type 0) → new.held path ≡ Some J → Are [] → Left path volume S J new Are
@@ -234,25 +233,21 @@ module _ (path : List ℕ) (volume : ℕ) (S : State) (J : List Event) (once : O
   untouched_stays : (Are : List Life → Type 0) → AreUntouched old new → Are [] → Left path volume S J new Are
   untouched_stays Are h are = stays Are (h.same path ∙ there) are
 
-  cut_off : (Are : List Life → Type 0) (life : Life) (K : List Event) → IsRunCutShort GREATEST_CAPACITY volume S J life K → new.held path ≡ Some K → Are (life ∷ []) → Left path volume S J new Are
-  cut_off Are life K cut held_is are =
-      record { lives = life ∷ []; done = (cut.run.holds.committed ++ life.under) ++ []; afterwards = K; are = are; cuts = (K, cut, [], refl, (refl, refl)); held_is = held_is }
+  ran : (Are : List Life → Type 0) (lives : List Life) (done : List Request) (K : List Event) → AreCut GREATEST_CAPACITY volume S J lives done K → new.held path ≡ Some K → Are lives → Left path volume S J new Are
+  ran Are lives done K cuts held_is are = record { lives = lives; done = done; afterwards = K; are = are; cuts = cuts; held_is = held_is }
 
-  ran : (Are : List Life → Type 0) (messages : List Message) (answers : List Answer) (K : List Event) → HoldsOnJournal udf (need spelled_length) GREATEST_CAPACITY volume S J K (brought messages) (model_answers answers) → new.held path ≡ Some K
-      → Are (life_of messages answers ∷ []) → Left path volume S J new Are
-  ran Are messages answers K run held_is are = cut_off Are (life_of messages answers) K (run_ended GREATEST_CAPACITY volume S J K messages answers run) held_is are
-
-  -- the power was lost while messages were answered
-  lost_serving : (Are : List Life → Type 0) (messages : List Message) (answers : List Answer) (last : Situation) (all : AllAnswered messages (situation None J 0 GREATEST_CAPACITY true []) answers last) → IsTrue last.honest
-      → ServedHolds messages (situation None J 0 GREATEST_CAPACITY true []) answers last → ServedWithstands messages (situation None J 0 GREATEST_CAPACITY true []) answers last all
-      → (lost : List Event) → LosesServing messages (situation None J 0 GREATEST_CAPACITY true []) answers last all lost → new.held path ≡ Some lost
-      → ((life : Life) → IsLifeCut messages answers life → Are (life ∷ [])) → Left path volume S J new Are
-  lost_serving Are messages answers last all sure holds withstands lost (inl same) held_is are =
-      ran Are messages answers lost (subst (λ (K : List Event). HoldsOnJournal udf (need spelled_length) GREATEST_CAPACITY volume S J K (brought messages) (model_answers answers)) (sym same) (holds volume S sure (at_start volume S J once stands last sure))) held_is
-      (are (life_of messages answers) (inl refl))
-  lost_serving Are messages answers last all sure holds withstands lost (inr loses) held_is are =
-      let c = run_lost volume S (situation None J 0 GREATEST_CAPACITY true []) messages answers last all sure (at_start volume S J once stands last sure) withstands lost loses in
-      cut_off Are c.0 lost c.2 held_is (are c.0 (inr c.1))
+  -- the power was lost while messages were answered in groups
+  lost_serving : (Are : List Life → Type 0) (groups : List Group) (last : Situation) (finished : Gathering) (all : AreGroups groups (situation None J 0 GREATEST_CAPACITY true []) waits_never last finished) → IsTrue last.honest
+      → GroupsAreLives groups (situation None J 0 GREATEST_CAPACITY true []) waits_never last finished all
+      → (lost : List Event) → LosesServing groups (situation None J 0 GREATEST_CAPACITY true []) waits_never last finished all lost → new.held path ≡ Some lost
+      → ((lives : List Life) → AreLivesCut groups lives → Are lives) → Left path volume S J new Are
+  lost_serving Are groups last finished all sure lives lost (inl same) held_is are =
+      let cut = groups_cut volume S J once stands groups last finished all lives sure in
+      ran Are (map life_in groups) cut.0 lost (subst (λ (K : List Event). AreCut GREATEST_CAPACITY volume S J (map life_in groups) cut.0 K) (sym same) cut.1) held_is (are (map life_in groups) (inl refl))
+  lost_serving Are groups last finished all sure lives lost (inr loses) held_is are =
+      let cut = (lives volume S sure (at_start volume S J once stands)).1 lost loses in
+      ran Are cut.0 cut.2 lost cut.3 held_is
+      (are cut.0 (inr (record { before = situation None J 0 GREATEST_CAPACITY true []; begun = waits_never; afterwards = last; ended = finished; are = all; lost = lost; loses = loses; until = cut.1 })))
 
   -- ---- on the drive of an image
 
@@ -325,34 +320,35 @@ module _ (path : List ℕ) (volume : ℕ) (S : State) (J : List Event) (once : O
       (λ did. elim did [ inl unbegun ↦ unbegun.journal | inr makes ↦ makes_none label moment capacity outcome J h.last.journal h.last.honest o w volume S stands (h.drive_honest honest) makes.3 ]) are
 
   applied : {T : Type 0} (image : List ℕ) (outcome : Result T Fault) (i l o w : Option (List ℕ)) (Are : List Life → Type 0) → AppliesToImage image outcome old new i l o w → (Unopened outcome old new o w → Are []) → ((path ≡ image → ⊥) → Are [])
-      → (path ≡ image → (messages : List Message) (answers : List Answer) → AnswersInput i l o w messages answers → Are (life_of messages answers ∷ [])) → Left path volume S J new Are
+      → (path ≡ image → (groups : List Group) → AnswersInput i l o w groups → Are (map life_in groups)) → Left path volume S J new Are
   applied image outcome i l o w Are (inl (h, same)) unopened apart here = untouched_stays Are h.untouched (unopened h)
   applied image outcome i l o w Are (inr h) unopened apart here = elim (bytes_cases path image) [
     | inl is ↦ (
-        let run = applies_run volume S J once stands h.last (h.drive_honest honest) outcome i l o w (did_here IsThere same_there GREATEST_CAPACITY image (λ first last. AppliesStream outcome first last i l o w) h is.1) in
-        ran Are run.messages run.answers h.last.journal run.holds (left_here IsThere same_there GREATEST_CAPACITY image (λ first last. AppliesStream outcome first last i l o w) h is.1) (here is.1 run.messages run.answers run.are)
+        let run = applies_run volume S J once stands h.last outcome i l o w (h.drive_honest honest) (did_here IsThere same_there GREATEST_CAPACITY image (λ first last. AppliesInGroups outcome first waits_never last i l o w) h is.1) in
+        ran Are (map life_in run.groups) run.done h.last.journal run.cuts (left_here IsThere same_there GREATEST_CAPACITY image (λ first last. AppliesInGroups outcome first waits_never last i l o w) h is.1) (here is.1 run.groups run.are)
         )
-    | inr other ↦ stays Are (elsewhere IsThere same_there GREATEST_CAPACITY image (λ first last. AppliesStream outcome first last i l o w) h other.0) (apart other.1)
+    | inr other ↦ stays Are (elsewhere IsThere same_there GREATEST_CAPACITY image (λ first last. AppliesInGroups outcome first waits_never last i l o w) h other.0) (apart other.1)
   ]
 
-  served : (image : List ℕ) (connections : ℕ) (before afterwards : Heard) → OnMedia IsThere GREATEST_CAPACITY image (ServesEach connections before afterwards) old new → Left path volume S J new (Ran path (Daemon image connections before afterwards))
+  served : (image : List ℕ) (connections : ℕ) (before afterwards : Heard) → OnMedia IsThere GREATEST_CAPACITY image (ServesEach connections before afterwards waits_never) old new → Left path volume S J new (Ran path (Daemon image connections before afterwards))
   served image connections before afterwards h = elim (bytes_cases path image) [
     | inl is ↦ (
-        let did : ServesEach connections before afterwards (situation None J 0 GREATEST_CAPACITY true []) h.last = did_here IsThere same_there GREATEST_CAPACITY image (ServesEach connections before afterwards) h is.1 in
-        ran (Ran path (Daemon image connections before afterwards)) did.run.messages did.run.answers h.last.journal (did.run.holds volume S (h.drive_honest honest) (at_start volume S J once stands h.last (h.drive_honest honest)))
-        (left_here IsThere same_there GREATEST_CAPACITY image (ServesEach connections before afterwards) h is.1)
-        (inr (is.1, (did.run.messages, did.run.answers, record { inputs = did.inputs; outputs = did.outputs; given = did.given; ended = did.ended; heard = did.run.heard }, life_of did.run.messages did.run.answers, refl, refl)))
+        let did : ServesEach connections before afterwards waits_never (situation None J 0 GREATEST_CAPACITY true []) h.last = did_here IsThere same_there GREATEST_CAPACITY image (ServesEach connections before afterwards waits_never) h is.1 in
+        let cut = groups_cut volume S J once stands did.run.groups (with_store did.kept h.last) did.finished did.run.are did.run.lives (h.drive_honest honest) in
+        ran (Ran path (Daemon image connections before afterwards)) (map life_in did.run.groups) cut.0 h.last.journal cut.1
+        (left_here IsThere same_there GREATEST_CAPACITY image (ServesEach connections before afterwards waits_never) h is.1)
+        (inr (is.1, (did.run.groups, record { inputs = did.inputs; outputs = did.outputs; given = did.given; ended = did.ended; heard = did.run.heard }, refl)))
         )
-    | inr other ↦ stays (Ran path (Daemon image connections before afterwards)) (elsewhere IsThere same_there GREATEST_CAPACITY image (ServesEach connections before afterwards) h other.0) (inl (refl, other.1))
+    | inr other ↦ stays (Ran path (Daemon image connections before afterwards)) (elsewhere IsThere same_there GREATEST_CAPACITY image (ServesEach connections before afterwards waits_never) h other.0) (inl (refl, other.1))
   ]
 
   cut_served : (image : List ℕ) (before afterwards : Heard) → CutOnMedia IsThere GREATEST_CAPACITY image (LosesDaemon before afterwards) old new → Left path volume S J new (Ran path (CutDaemon image before afterwards))
   cut_served image before afterwards h = elim (bytes_cases path image) [
     | inl is ↦ (
         let did : LosesDaemon before afterwards (situation None J 0 GREATEST_CAPACITY true []) h.last h.lost = loses_here IsThere same_there GREATEST_CAPACITY image (LosesDaemon before afterwards) h is.1 in
-        lost_serving (Ran path (CutDaemon image before afterwards)) did.run.messages did.run.answers (with_store did.kept h.last) did.run.answered (h.drive_honest honest) did.run.holds did.run.withstands h.lost did.loses
+        lost_serving (Ran path (CutDaemon image before afterwards)) did.run.groups (with_store did.kept h.last) did.finished did.run.are (h.drive_honest honest) did.run.lives h.lost did.loses
         (lost_here IsThere same_there GREATEST_CAPACITY image (LosesDaemon before afterwards) h is.1)
-        (λ life cut. inr (is.1, (did.run.messages, did.run.answers, record { inputs = did.inputs; outputs = did.outputs; given = did.given; ended = did.ended; heard = did.run.heard }, life, cut, refl)))
+        (λ lives cut. inr (is.1, (did.run.groups, record { inputs = did.inputs; outputs = did.outputs; given = did.given; ended = did.ended; heard = did.run.heard }, cut)))
         )
     | inr other ↦ stays (Ran path (CutDaemon image before afterwards)) (lost_elsewhere IsThere same_there GREATEST_CAPACITY image (LosesDaemon before afterwards) h other.0) (inl (refl, other.1))
   ]
@@ -362,9 +358,9 @@ module _ (path : List ℕ) (volume : ℕ) (S : State) (J : List Event) (once : O
     | inl is ↦ (
         let did : LosesApply i l o w (situation None J 0 GREATEST_CAPACITY true []) h.last h.lost = loses_here IsThere same_there GREATEST_CAPACITY image (LosesApply i l o w) h is.1 in
         let some = did.serves in
-        lost_serving (RanUntil path (Apply_to_image image) i l o w) some.messages some.answers (with_store did.kept h.last) some.answered (h.drive_honest honest) some.holds some.withstands h.lost did.loses
+        lost_serving (RanUntil path (Apply_to_image image) i l o w) some.groups (with_store did.kept h.last) did.finished some.are (h.drive_honest honest) some.lives h.lost did.loses
         (lost_here IsThere same_there GREATEST_CAPACITY image (LosesApply i l o w) h is.1)
-        (λ life cut. inr (is.1, (some.messages, some.answers, record { bytes = some.bytes; reader = some.reader; consumed = some.consumed; messages_are = some.messages_are; front = some.front }, life, cut, refl)))
+        (λ lives cut. inr (is.1, (some.groups, record { bytes = some.bytes; reader = some.reader; consumed = some.consumed; messages_are = some.messages_are; front = some.front }, cut)))
         )
     | inr other ↦ stays (RanUntil path (Apply_to_image image) i l o w) (lost_elsewhere IsThere same_there GREATEST_CAPACITY image (LosesApply i l o w) h other.0) (inl (refl, other.1))
   ]
@@ -388,7 +384,7 @@ module _ (path : List ℕ) (volume : ℕ) (S : State) (J : List Event) (once : O
   does (Format image label moment capacity) outcome i l o w h = made image label moment capacity outcome o w (RanCommand path (Format image label moment capacity) outcome i l o w) h.1 refl
   does (Apply_to_image image) outcome i l o w h =
       applied image outcome i l o w (RanCommand path (Apply_to_image image) outcome i l o w) h (λ none. inl (refl, none.fault)) (λ apart. inr (inl (refl, apart)))
-      (λ here messages answers is. inr (inr (here, (messages, answers, is, life_of messages answers, refl, refl))))
+      (λ here groups is. inr (inr (here, (groups, is, refl))))
   does (Apply_in_memory capacity) outcome i l o w h = untouched_stays (RanCommand path (Apply_in_memory capacity) outcome i l o w) h.0 refl
   does (List_names image text) outcome i l o w h = shown_at Names_at image text outcome o w (RanCommand path (List_names image text) outcome i l o w) h.1 refl
   does (Get_bytes image text) outcome i l o w h = shown_at Bytes_at image text outcome o w (RanCommand path (Get_bytes image text) outcome i l o w) h.1 refl

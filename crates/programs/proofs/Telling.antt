@@ -2,6 +2,7 @@
 use Rattle.std.proofs.Common.{◌≡◌, ℕ, ◌≤◌, List, [], ◌∷◌, ◌++◌, codes, None, Result, Ok, Err, refl, sym, ◌∙◌, subst, inl, inr, arith}
 use Rattle.std.specs.Prelude.{IfErr, IsErrAnd, OnErr, OnOk}
 use Rattle.limits.specs.declared.TheConstants.{GREATEST_CAPACITY}
+use Rattle.drive.specs.Gathering.{Gathering, waits_never}
 use Rattle.drive.specs.declared.Drive.{Ghosts}
 use Rattle.command_line.specs.declared.daemon.DaemonWords.{DaemonWords}
 use Rattle.command_line.specs.declared.daemon.WordsFault.{WordsFault}
@@ -78,13 +79,14 @@ told_refusal words status old new e f h = inr (words, h)
 
 -- ---- on the image of a daemon
 
--- the socket cannot be had
-pub serves_unheard : {T D : Type 0} (drive : Ghosts D) (image : List ℕ) (Did : Situation → Situation → Type 0) (outcome : Result T Fault) (d e : D) (before between afterwards : Images) → IsOpened drive IsThere GREATEST_CAPACITY image d before between
-    → IsPutBack drive image e between afterwards → IfErr outcome (λ fault. fault ≡ Socket) → OnErr outcome (IsUnchanged (situation_on drive None d) (situation_on drive None e)) → OnOk outcome (Did (situation_on drive None d) (situation_on drive None e))
-    → ServesImage image Did outcome before afterwards
-serves_unheard drive image Did (Ok x) d e before between afterwards opened back refused unchanged run = on_media drive IsThere GREATEST_CAPACITY image Did d e before between afterwards opened back run
+-- it did not gather yet, or the socket cannot be had
+pub serves_unheard : {T D : Type 0} (drive : Ghosts D) (image : List ℕ) (Did : Gathering → Situation → Situation → Type 0) (outcome : Result T Fault) (d e : D) (before between afterwards : Images) → IsOpened drive IsThere GREATEST_CAPACITY image d before between
+    → IsPutBack drive image e between afterwards → IfErr outcome (λ fault. fault ≡ Socket) → OnErr outcome (IsUnchanged (situation_on drive None d) (situation_on drive None e)) → OnOk outcome (Did (drive.gathering d) (situation_on drive None d) (situation_on drive None e))
+    → ServesImage image (Did waits_never) outcome before afterwards
+serves_unheard drive image Did (Ok x) d e before between afterwards opened back refused unchanged run =
+    on_media drive IsThere GREATEST_CAPACITY image (Did waits_never) d e before between afterwards opened back (subst (λ (g : Gathering). Did g (situation_on drive None d) (situation_on drive None e)) opened.fresh.gathering run)
 serves_unheard {T} drive image Did (Err fault) d e before between afterwards opened back refused unchanged run =
-    subst (λ (f : Fault). ServesImage {T = T} image Did (Err f) before afterwards) (sym refused) (on_media drive IsThere GREATEST_CAPACITY image IsUnchanged d e before between afterwards opened back unchanged)
+    subst (λ (f : Fault). ServesImage {T = T} image (Did waits_never) (Err f) before afterwards) (sym refused) (on_media drive IsThere GREATEST_CAPACITY image IsUnchanged d e before between afterwards opened back unchanged)
 
 -- the image cannot
 pub serves_unopened : {T : Type 0} (image : List ℕ) (Did : Situation → Situation → Type 0) (outcome : Result T Fault) (fault : Fault) (before afterwards : Images) → IsErrAnd outcome (λ f. f ≡ fault) → fault ≡ Store stores.Device → AreUntouched before afterwards → HasFailed before afterwards
@@ -112,12 +114,12 @@ at_most_two (Err (Stream fault)) = omega arith
 
 -- ---- what a daemon says of its connections
 
-leaving : (fault : Fault) (before afterwards : Situation) → LeavesConnection fault before afterwards → IsLeaving fault
-leaving Usage before afterwards h = h
-leaving Path before afterwards h = h
-leaving Socket before afterwards h = tt
-leaving (Store fault) before afterwards h = h.0
-leaving (Stream fault) before afterwards h = tt
+leaving : (fault : Fault) (before : Situation) (begun : Gathering) (afterwards : Situation) (ended : Gathering) → LeavesConnection fault before begun afterwards ended → IsLeaving fault
+leaving Usage before begun afterwards ended h = h
+leaving Path before begun afterwards ended h = h
+leaving Socket before begun afterwards ended h = tt
+leaving (Store fault) before begun afterwards ended h = h.0
+leaving (Stream fault) before begun afterwards ended h = tt
 
 pub says_none : (e : Said) → ReportsFaults e e
 says_none e = record { faults = []; lines = refl }
@@ -127,9 +129,9 @@ pub says_unconnected : (e f : Said) → Reports {T = Unit {0}} (codes "udfburnd"
 says_unconnected e f reports = record { faults = Socket ∷ []; lines = (e, refl, tt, reports) }
 
 -- and then why one was left, where it was
-pub says_left : {T : Type 0} (served : Result T Fault) (before afterwards : Situation) (e d f : Said) → IfErr served (λ fault. LeavesConnection fault before afterwards) → ReportsFaults e d → Reports (codes "udfburnd") served d f → ReportsFaults e f
-says_left (Ok x) before afterwards e d f left says reports = subst (λ (y : Said). ReportsFaults e y) (sym reports) says
-says_left (Err fault) before afterwards e d f left says reports = record { faults = fault ∷ says.faults; lines = (d, says.lines, leaving fault before afterwards left, reports) }
+pub says_left : {T : Type 0} (served : Result T Fault) (before : Situation) (begun : Gathering) (afterwards : Situation) (ended : Gathering) (e d f : Said) → IfErr served (λ fault. LeavesConnection fault before begun afterwards ended) → ReportsFaults e d → Reports (codes "udfburnd") served d f → ReportsFaults e f
+says_left (Ok x) before begun afterwards ended e d f left says reports = subst (λ (y : Said). ReportsFaults e y) (sym reports) says
+says_left (Err fault) before begun afterwards ended e d f left says reports = record { faults = fault ∷ says.faults; lines = (d, says.lines, leaving fault before begun afterwards ended left, reports) }
 
 each_after : (faults earlier : List Fault) (e d f : Said) → ReportsEach earlier e d → ReportsEach faults d f → ReportsEach (faults ++ earlier) e f
 each_after [] earlier e d f h k = subst (λ (y : Said). ReportsEach earlier e y) (sym k) h

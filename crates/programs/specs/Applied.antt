@@ -2,6 +2,7 @@
 use Rattle.std.specs.Prelude.{◌≡◌, ◌⊎◌, ⊤, ℕ, ◌<◌, List, codes, sum_by, Option, None, IsSome, IsTrue, Result, Ok, Err}
 use Rattle.std.specs.Io.KnownBytes.{Appends, Consumes, IsAtEnd, Keeps}
 use Rattle.limits.specs.declared.TheConstants.{GREATEST_CAPACITY, LEAST_CAPACITY, FORMAT_BLOCKS}
+use Rattle.drive.specs.Gathering.{Gathering, waits_never}
 use Rattle.drive.specs.Reads.{CountsFailures}
 use Rattle.osta.specs.FirstFault.{first_text_fault}
 use Rattle.osta.specs.Label.{label_faults}
@@ -25,6 +26,7 @@ use Rattle.engine.specs.Answered.{faults}
 use Rattle.engine.specs.Steps.{HoldsState}
 use Rattle.engine.specs.Served.{AllAnswered, IsCutOff, LeftBy, ServesAll, ServesUntil, brought, frames_of}
 use Rattle.engine.specs.declared.serving.ServeFault.{ServeFault}
+use Rattle.grouping.specs.Streams.{ServesGroups, ServesGroupsUntil}
 use Rattle.programs.specs.declared.fault.Fault.{Fault}
 use Rattle.programs.specs.declared.fault.Fault.TheVariants.{Usage, Path, Socket, Store as Stored, Stream}
 use Rattle.programs.specs.Images.{Images, IsThere, OnMedia, Unopened}
@@ -45,10 +47,31 @@ AppliesStream (Err Socket) before afterwards input left output written = ⊥
 AppliesStream (Err (Stored fault)) before afterwards input left output written = ⊥
 AppliesStream (Err (Stream fault)) before afterwards input left output written = AppliesUntil fault before afterwards input left output written
 
--- the same on the image at a path
+-- ---- the same in groups, on a drive that begins to gather from here on
+
+-- All messages of the input were answered in groups, or the first ones up to where this fault came. Neither the store that is open after
+-- them is reported, nor how the writes of the drive waited.
+abbrev pub AppliesGroups : Situation → Gathering → Situation → Option (List ℕ) → Option (List ℕ) → Option (List ℕ) → Option (List ℕ) → Type 0
+AppliesGroups before begun afterwards input left output written =
+    (kept : Option Store) × (ended : Gathering) × ServesGroups before begun (with_store kept afterwards) ended input left output written
+
+abbrev pub AppliesGroupsUntil : ServeFault → Situation → Gathering → Situation → Option (List ℕ) → Option (List ℕ) → Option (List ℕ) → Option (List ℕ) → Type 0
+AppliesGroupsUntil fault before begun afterwards input left output written =
+    (kept : Option Store) × (ended : Gathering) × ServesGroupsUntil fault before begun (with_store kept afterwards) ended input left output written
+
+-- by the outcome, which is no other fault than that of a stream
+abbrev pub AppliesInGroups : {T : Type 0} → Result T Fault → Situation → Gathering → Situation → Option (List ℕ) → Option (List ℕ) → Option (List ℕ) → Option (List ℕ) → Type 0
+AppliesInGroups (Ok x) before begun afterwards input left output written = AppliesGroups before begun afterwards input left output written
+AppliesInGroups (Err Usage) before begun afterwards input left output written = ⊥
+AppliesInGroups (Err Path) before begun afterwards input left output written = ⊥
+AppliesInGroups (Err Socket) before begun afterwards input left output written = ⊥
+AppliesInGroups (Err (Stored fault)) before begun afterwards input left output written = ⊥
+AppliesInGroups (Err (Stream fault)) before begun afterwards input left output written = AppliesGroupsUntil fault before begun afterwards input left output written
+
+-- so it is on the image at a path, whose drive did not gather yet
 abbrev pub AppliesToImage : {T : Type 0} → List ℕ → Result T Fault → Images → Images → Option (List ℕ) → Option (List ℕ) → Option (List ℕ) → Option (List ℕ) → Type 0
 AppliesToImage image outcome old new input left output written =
-    (Unopened outcome old new output written × (left ≡ input)) ⊎ OnMedia IsThere GREATEST_CAPACITY image (λ before afterwards. AppliesStream outcome before afterwards input left output written) old new
+    (Unopened outcome old new output written × (left ≡ input)) ⊎ OnMedia IsThere GREATEST_CAPACITY image (λ before afterwards. AppliesInGroups outcome before waits_never afterwards input left output written) old new
 
 -- ---- a volume in memory, whose drive is honest: no premise is left
 

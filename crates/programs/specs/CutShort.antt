@@ -1,32 +1,51 @@
 -- What a power loss leaves of the image that a process works on.
 use Rattle.std.specs.Prelude.{◌≡◌, ◌⊎◌, ℕ, true, List, [], ◌++◌, Option, Some, None, IsTrue}
 use Rattle.std.specs.List.{flat_map}
+use Rattle.std.specs.Io.KnownBytes.{Consumes}
 use Rattle.limits.specs.declared.TheConstants.{GREATEST_CAPACITY}
+use Rattle.drive.specs.Gathering.{Gathering, waits_never}
 use Rattle.drive.specs.Journal.{Event, Once}
 use Rattle.media.specs.Held.{SameBut}
-use Rattle.request.specs.declared.answer.Answer.{Answer}
-use Rattle.request.specs.declared.message.Message.{Message}
+use Rattle.request.specs.Frames.{MessagesAre}
 use Rattle.formatting.specs.NewVolume.{FormatSurvivesPowerLoss, words_on}
 use Rattle.store.specs.declared.store.Store.{Store}
-use Rattle.engine.specs.Losses.{IsLost, LosesStream}
-use Rattle.engine.specs.Served.{AllAnswered, ServesSome}
+use Rattle.engine.specs.Losses.{IsLost}
+use Rattle.engine.specs.Served.{frames_of}
 use Rattle.engine.specs.Situation.{Situation, situation, with_store}
+use Rattle.engine.specs.Streams.{PutsPrefix}
+use Rattle.grouping.specs.Losses.{GroupsAreLives, LosesGroups}
+use Rattle.grouping.specs.Served.{AreGroups, Group, GroupsRun, GroupsWithstand, answers_of, messages_of}
 use Rattle.programs.specs.Images.{AreUntouched, Images, IsThere, IsThereOrMade}
 use Rattle.programs.specs.Listening.{Heard, IsOneRun}
 use Rattle.programs.specs.Outputs.{known}
 use Rattle.programs.specs.Tasks.{Task}
 use Rattle.programs.specs.Tasks.Task.{Format, Apply_to_image, Apply_in_memory, List_names, Get_bytes, Log, Check, Send}
 
--- The power was lost while messages were answered: in one of them, and the disk kept what is left of the writes for it, or
--- after the last of them.
-abbrev pub LosesServing : (messages : List Message) → (before : Situation) → (answers : List Answer) → (afterwards : Situation) → AllAnswered messages before answers afterwards → List Event → Type 0
-LosesServing messages before answers afterwards all lost = (lost ≡ afterwards.journal) ⊎ LosesStream messages before answers afterwards all lost
+-- The power was lost while messages were answered in groups: in one of these, and the disk kept what is left of what it was given
+-- of it, or after the last of them.
+abbrev pub LosesServing : (groups : List Group) → (before : Situation) → (begun : Gathering) → (afterwards : Situation) → (ended : Gathering)
+    → AreGroups groups before begun afterwards ended → List Event → Type 0
+LosesServing groups before begun afterwards ended all lost = (lost ≡ afterwards.journal) ⊎ LosesGroups groups before begun afterwards ended all lost
+
+-- The first messages of the bytes that were read were answered in groups, and of the answers' frames a prefix was written.
+pub record ServesSomeGroups (before : Situation) (begun : Gathering) (afterwards : Situation) (ended : Gathering) (input left output written : Option (List ℕ)) : Type 0 where
+  pub bytes : List ℕ
+  pub groups : List Group
+  pub reader : Option (List ℕ)
+  pub consumed : Consumes input left bytes
+  pub messages_are : MessagesAre bytes (messages_of groups) reader
+  pub are : AreGroups groups before begun afterwards ended
+  pub run : GroupsRun groups before begun afterwards ended are
+  pub withstand : GroupsWithstand groups before begun afterwards ended are
+  pub lives : GroupsAreLives groups before begun afterwards ended are
+  pub front : PutsPrefix output written (frames_of (answers_of groups))
 
 -- So a command was cut off that answers the messages of its input. It had read and answered so much, or would have.
 pub record LosesApply (input left output written : Option (List ℕ)) (before afterwards : Situation) (lost : List Event) : Type 0 where
   pub kept : Option Store
-  pub serves : ServesSome before (with_store kept afterwards) input left output written
-  pub loses : LosesServing serves.messages before serves.answers (with_store kept afterwards) serves.answered lost
+  pub finished : Gathering
+  pub serves : ServesSomeGroups before waits_never (with_store kept afterwards) finished input left output written
+  pub loses : LosesServing serves.groups before waits_never (with_store kept afterwards) finished serves.are lost
 
 -- so a daemon was, in one of the connections that its listener gave
 pub record LosesDaemon (old new : Heard) (before afterwards : Situation) (lost : List Event) : Type 0 where
@@ -35,8 +54,9 @@ pub record LosesDaemon (old new : Heard) (before afterwards : Situation) (lost :
   pub given : new.given ≡ old.given ++ inputs
   pub ended : new.ended ≡ old.ended ++ flat_map known outputs
   pub kept : Option Store
-  pub run : IsOneRun inputs outputs before (with_store kept afterwards)
-  pub loses : LosesServing run.messages before run.answers (with_store kept afterwards) run.answered lost
+  pub finished : Gathering
+  pub run : IsOneRun inputs outputs before waits_never (with_store kept afterwards) finished
+  pub loses : LosesServing run.groups before waits_never (with_store kept afterwards) finished run.are lost
 
 -- so a format was, in one of its writes
 abbrev pub LosesFormat : List ℕ → ℕ → ℕ → Situation → Situation → List Event → Type 0

@@ -1,9 +1,10 @@
 //! The program `udfburnd`.
 
 ghost use Rattle.std.specs.Prelude.{◌≡◌, ◌≤◌, ◌-◌, ◌^◌, None, unwrap_or, map, IfErr, OnOk, OnErr, IfNone, IfSome, IsSomeAnd};
-ghost use Rattle.drive.specs.Reads.{ReadsAndWrites};
+ghost use Rattle.drive.specs.Gathering.{waits_never};
 ghost use Rattle.engine.specs.Situation.{IsReady, seen_on, situation_on};
-ghost use Rattle.engine.specs.Served.{ServesAll};
+ghost use Rattle.grouping.specs.Groups.{MaySettle};
+ghost use Rattle.grouping.specs.Streams.{ServesGroups};
 ghost use Rattle.programs.specs.Connections.{ServesMessages, LeavesConnection, LeavesStream};
 ghost use Rattle.programs.specs.FaultLines.{said_on};
 ghost use Rattle.programs.specs.Images.{IsUnchanged, images_on};
@@ -18,9 +19,10 @@ use crate::fault::{Fault, report};
 use crate::images::{open_image, put_back};
 use crate::listening::Listener;
 use command_line::{DaemonWords, read_daemon};
-use drive::Drive;
-use engine::{CountedReader, Engine, ServeFault, put_all, serve};
+use engine::{CountedReader, Engine, ServeFault, put_all};
+use grouping::serve_groups;
 use media::Media;
+use settling::Settles;
 use std::alloc::Global;
 use std::io::{BufWriter, Read, Write};
 use std::thread;
@@ -51,7 +53,7 @@ where
     ensures status { result ≤ 2 }
     // If it ends by itself, its words are those of a daemon. As many connections as they say were served on the image
     // that they name, one after another, as one run.
-    ensures run { result ≡ 0 → OnAsked (map (λ w. w.now) words.now) (λ asked. ServesEach (unwrap_or asked.connections (2 ^ 64 - 1)) (heard_on L.Listener listener.old) (heard_on L.Listener listener.new)) (images_on M.Media media.old) (images_on M.Media media.new) }
+    ensures run { result ≡ 0 → OnAsked (map (λ w. w.now) words.now) (λ asked. ServesEach (unwrap_or asked.connections (2 ^ 64 - 1)) (heard_on L.Listener listener.old) (heard_on L.Listener listener.new) waits_never) (images_on M.Media media.old) (images_on M.Media media.new) }
     // It then reported only why connections could not be accepted, or were left.
     ensures described { result ≡ 0 → ReportsFaults (said_on E.Write errors.old) (said_on E.Write errors.new) }
     // If it was refused, it reported why, and nothing else, and asked for no connection.
@@ -75,7 +77,7 @@ where
     L: Listener,
     R: Clock + AllocGlobal,
     E: Write,
-    ensures run { OnOk result (OnAsked (map (λ w. w.now) words.now) (λ asked. ServesEach (unwrap_or asked.connections (2 ^ 64 - 1)) (heard_on L.Listener listener.old) (heard_on L.Listener listener.new)) (images_on M.Media media.old) (images_on M.Media media.new)) }
+    ensures run { OnOk result (OnAsked (map (λ w. w.now) words.now) (λ asked. ServesEach (unwrap_or asked.connections (2 ^ 64 - 1)) (heard_on L.Listener listener.old) (heard_on L.Listener listener.new) waits_never) (images_on M.Media media.old) (images_on M.Media media.new)) }
     ensures described { OnOk result (ReportsFaults (said_on E.Write errors.old) (said_on E.Write errors.new)) }
     ensures refused { IfErr result (λ fault. RefusesDaemon (map (λ w. w.now) words.now) fault (images_on M.Media media.old) (images_on M.Media media.new)) }
     ensures unreported { OnErr result (said_on E.Write errors.new ≡ said_on E.Write errors.old) }
@@ -101,7 +103,7 @@ where
     L: Listener,
     R: Clock + AllocGlobal,
     E: Write,
-    ensures serves { ServesImage asked.now.image.now (ServesEach (unwrap_or asked.now.connections (2 ^ 64 - 1)) (heard_on L.Listener listener.old) (heard_on L.Listener listener.new)) result (images_on M.Media media.old) (images_on M.Media media.new) }
+    ensures serves { ServesImage asked.now.image.now (ServesEach (unwrap_or asked.now.connections (2 ^ 64 - 1)) (heard_on L.Listener listener.old) (heard_on L.Listener listener.new) waits_never) result (images_on M.Media media.old) (images_on M.Media media.new) }
     ensures described { OnOk result (ReportsFaults (said_on E.Write errors.old) (said_on E.Write errors.new)) }
     ensures unreported { OnErr result (said_on E.Write errors.new ≡ said_on E.Write errors.old) }
     ensures unheard { OnErr result (heard_on L.Listener listener.new ≡ heard_on L.Listener listener.old) }
@@ -123,11 +125,11 @@ fn serve_all<L, R, D, E>(
 where
     L: Listener,
     R: Clock + AllocGlobal,
-    D: Drive,
+    D: Settles,
     E: Write,
     ensures refused { IfErr result (λ fault. fault ≡ Fault.Socket) }
     ensures unchanged { OnErr result (IsUnchanged (situation_on D.Drive None drive.old) (situation_on D.Drive None drive.new)) }
-    ensures run { OnOk result (ServesEach (unwrap_or asked.now.connections (2 ^ 64 - 1)) (heard_on L.Listener listener.old) (heard_on L.Listener listener.new) (situation_on D.Drive None drive.old) (situation_on D.Drive None drive.new)) }
+    ensures run { OnOk result (ServesEach (unwrap_or asked.now.connections (2 ^ 64 - 1)) (heard_on L.Listener listener.old) (heard_on L.Listener listener.new) (D.gathering drive.old) (situation_on D.Drive None drive.old) (situation_on D.Drive None drive.new)) }
     ensures described { OnOk result (ReportsFaults (said_on E.Write errors.old) (said_on E.Write errors.new)) }
     ensures unreported { OnErr result (said_on E.Write errors.new ≡ said_on E.Write errors.old) }
     ensures unheard { OnErr result (heard_on L.Listener listener.new ≡ heard_on L.Listener listener.old) }
@@ -160,9 +162,9 @@ fn serve_each<L, R, D, E>(
 where
     L: Listener,
     R: Clock + AllocGlobal,
-    D: Drive,
+    D: Settles,
     E: Write,
-    ensures run { ServesEach connections (heard_on L.Listener listener.old) (heard_on L.Listener listener.new) (situation_on D.Drive None drive.old) (situation_on D.Drive None drive.new) }
+    ensures run { ServesEach connections (heard_on L.Listener listener.old) (heard_on L.Listener listener.new) (D.gathering drive.old) (situation_on D.Drive None drive.old) (situation_on D.Drive None drive.new) }
     ensures described { ReportsFaults (said_on E.Write errors.old) (said_on E.Write errors.new) }
 {
     let mut engine = Engine::new();
@@ -198,7 +200,7 @@ fn tell_once<E: Write>(is_told: bool, errors: &mut ErrorStream<E>)
 
 /// Answers the messages of a connection that was just accepted, and ends it. A client that neither sends nor takes a
 /// byte for a minute is left, so that it keeps nobody waiting.
-pub fn serve_one<L: Listener, D: Drive>(
+pub fn serve_one<L: Listener, D: Settles>(
     alloc: Global,
     listener: &mut L,
     input: L::Input,
@@ -208,14 +210,14 @@ pub fn serve_one<L: Listener, D: Drive>(
 ) -> Result<(), Fault>
     requires { IsReady (seen_on D.Drive engine.old drive.old) }
     ensures ready { IsReady (seen_on D.Drive engine.new drive.new) }
-    ensures lent { ReadsAndWrites D.Drive 0 drive.old drive.new }
+    ensures lent { MaySettle D.Drive 0 drive.old drive.new }
     // Messages were answered, and nothing else was done.
-    ensures goes { ServesMessages (seen_on D.Drive engine.old drive.old) (seen_on D.Drive engine.new drive.new) }
+    ensures goes { ServesMessages (seen_on D.Drive engine.old drive.old) (D.gathering drive.old) (seen_on D.Drive engine.new drive.new) (D.gathering drive.new) }
     // Or nothing was done, as the fault shows.
-    ensures left { IfErr result (λ fault. LeavesConnection fault (seen_on D.Drive engine.old drive.old) (seen_on D.Drive engine.new drive.new)) }
+    ensures left { IfErr result (λ fault. LeavesConnection fault (seen_on D.Drive engine.old drive.old) (D.gathering drive.old) (seen_on D.Drive engine.new drive.new) (D.gathering drive.new)) }
     ensures refusal { IfErr result IsRefusal }
     // If the bytes are known, they determine which messages were answered, and what was written of the answers.
-    ensures ends { IsBlank (L.Output.contents output) → EndsOne result (L.Input.remaining input) (heard_on L.Listener listener.old) (heard_on L.Listener listener.new) (seen_on D.Drive engine.old drive.old) (seen_on D.Drive engine.new drive.new) }
+    ensures ends { IsBlank (L.Output.contents output) → EndsOne result (L.Input.remaining input) (heard_on L.Listener listener.old) (heard_on L.Listener listener.new) (seen_on D.Drive engine.old drive.old) (D.gathering drive.old) (seen_on D.Drive engine.new drive.new) (D.gathering drive.new) }
 {
     if listener.limit(&input).is_err() {
         listener.end(CountedReader::new(input), output);
@@ -244,27 +246,27 @@ fn serve_stream<I, O, D>(
 where
     I: Read,
     O: Write + Drop,
-    D: Drive,
+    D: Settles,
     requires { IsReady (seen_on D.Drive engine.old drive.old) }
     ensures ready { IsReady (seen_on D.Drive engine.new drive.new) }
-    ensures lent { ReadsAndWrites D.Drive 0 drive.old drive.new }
-    ensures goes { ServesMessages (seen_on D.Drive engine.old drive.old) (seen_on D.Drive engine.new drive.new) }
+    ensures lent { MaySettle D.Drive 0 drive.old drive.new }
+    ensures goes { ServesMessages (seen_on D.Drive engine.old drive.old) (D.gathering drive.old) (seen_on D.Drive engine.new drive.new) (D.gathering drive.new) }
     ensures refusal { IfErr result.0 IsRefusal }
     ensures failures { CountsReads result.0 input.old.failures input.new.failures }
     // If it ended well, all messages of the input were answered, and each answer is written.
-    ensures all { OnOk result.0 (IsSomeAnd result.1 (λ written. ServesAll (seen_on D.Drive engine.old drive.old) (seen_on D.Drive engine.new drive.new) (I.remaining input.old.stream) (I.remaining input.new.stream) (O.contents output) (O.contents written))) }
+    ensures all { OnOk result.0 (IsSomeAnd result.1 (λ written. ServesGroups (seen_on D.Drive engine.old drive.old) (D.gathering drive.old) (seen_on D.Drive engine.new drive.new) (D.gathering drive.new) (I.remaining input.old.stream) (I.remaining input.new.stream) (O.contents output) (O.contents written))) }
     // Otherwise the first of them were answered, as far as the fault says, and a prefix of their answers is written.
-    ensures front { IfErr result.0 (λ fault. IfSome result.1 (λ written. LeavesStream fault (seen_on D.Drive engine.old drive.old) (seen_on D.Drive engine.new drive.new) (I.remaining input.old.stream) (I.remaining input.new.stream) (O.contents output) (O.contents written))) }
-    ensures left { IfErr result.0 (λ fault. LeavesConnection fault (seen_on D.Drive engine.old drive.old) (seen_on D.Drive engine.new drive.new)) }
+    ensures front { IfErr result.0 (λ fault. IfSome result.1 (λ written. LeavesStream fault (seen_on D.Drive engine.old drive.old) (D.gathering drive.old) (seen_on D.Drive engine.new drive.new) (D.gathering drive.new) (I.remaining input.old.stream) (I.remaining input.new.stream) (O.contents output) (O.contents written))) }
+    ensures left { IfErr result.0 (λ fault. LeavesConnection fault (seen_on D.Drive engine.old drive.old) (D.gathering drive.old) (seen_on D.Drive engine.new drive.new) (D.gathering drive.new)) }
     // If the output was dropped, nothing was done.
-    ensures let_go { IfNone result.1 (LetsGo result.0 (seen_on D.Drive engine.old drive.old) (seen_on D.Drive engine.new drive.new)) }
+    ensures let_go { IfNone result.1 (LetsGo result.0 (seen_on D.Drive engine.old drive.old) (D.gathering drive.old) (seen_on D.Drive engine.new drive.new) (D.gathering drive.new)) }
     ensures unread { IfNone result.1 (I.remaining input.new.stream ≡ I.remaining input.old.stream) }
 {
     let mut writer = match BufWriter::new(alloc, output) {
         Ok(writer) => writer,
         Err(_) => return (Err(Fault::Store(StoreFault::Memory)), None),
     };
-    let served = serve(alloc, input, &mut writer, engine, drive);
+    let served = serve_groups(alloc, input, &mut writer, engine, drive);
     let (mut output, rest) = writer.into_parts();
     match served {
         Ok(()) => match put_all(&mut output, &rest) {

@@ -2,6 +2,7 @@
 
 ghost use Rattle.std.specs.Prelude.{◌≡◌, ◌≤◌, ◌-◌, ◌^◌, unwrap_or, map, codes, IfErr, IfNone, IfOk, IfSome, IsSomeAnd, OnErr};
 ghost use Rattle.command_line.specs.Commands.{Asks};
+ghost use Rattle.drive.specs.Gathering.{waits_never};
 ghost use Rattle.programs.specs.FaultLines.{ReportsOutcome, said_on};
 ghost use Rattle.programs.specs.Images.{AreUntouched, images_on};
 ghost use Rattle.programs.specs.Inputs.{input_on};
@@ -81,7 +82,7 @@ where
     ensures status { result ≤ 2 }
     // If it ends by itself, the words are those of a daemon. As many connections as they say were served on the image
     // that they name, as one run.
-    ensures run { result ≡ 0 → (words : _) × OnAsked words (λ asked. ServesEach (unwrap_or asked.connections (2 ^ 64 - 1)) (heard_on L.Listener listener.old) (heard_on L.Listener listener.new)) (images_on M.Media media.old) (images_on M.Media media.new) }
+    ensures run { result ≡ 0 → (words : _) × OnAsked words (λ asked. ServesEach (unwrap_or asked.connections (2 ^ 64 - 1)) (heard_on L.Listener listener.old) (heard_on L.Listener listener.new) waits_never) (images_on M.Media media.old) (images_on M.Media media.new) }
     // It then reported only why connections could not be accepted, or were left.
     ensures described { result ≡ 0 → ReportsFaults (said_on E.Write errors.old) (said_on E.Write errors.new) }
     // If it was refused, it reported why, and nothing else, and asked for no connection.
@@ -191,7 +192,7 @@ where
     E: Write,
     ensures unreported { IfErr result (λ _. said_on E.Write errors.new ≡ said_on E.Write errors.old) }
     ensures status { IfOk result (λ status. status ≤ 2) }
-    ensures run { IfOk result (λ status. status ≡ 0 → (words : _) × OnAsked words (λ asked. ServesEach (unwrap_or asked.connections (2 ^ 64 - 1)) (heard_on L.Listener listener.old) (heard_on L.Listener listener.new)) (images_on M.Media media.old) (images_on M.Media media.new)) }
+    ensures run { IfOk result (λ status. status ≡ 0 → (words : _) × OnAsked words (λ asked. ServesEach (unwrap_or asked.connections (2 ^ 64 - 1)) (heard_on L.Listener listener.old) (heard_on L.Listener listener.new) waits_never) (images_on M.Media media.old) (images_on M.Media media.new)) }
     ensures unopened { OnErr result (AreUntouched (images_on M.Media media.old) (images_on M.Media media.new)) }
     ensures described { IfOk result (λ status. status ≡ 0 → ReportsFaults (said_on E.Write errors.old) (said_on E.Write errors.new)) }
     ensures refused { IfErr result IsEarly }

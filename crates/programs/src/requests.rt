@@ -3,7 +3,7 @@
 ghost use Rattle.limits.specs.declared.TheConstants.{GREATEST_CAPACITY};
 ghost use Rattle.std.specs.Prelude.{◌≤◌, IfErr};
 ghost use Rattle.engine.specs.Situation.{situation_on};
-ghost use Rattle.programs.specs.Applied.{AppliesStream, AppliesToImage, AnswersInMemory};
+ghost use Rattle.programs.specs.Applied.{AppliesInGroups, AppliesStream, AppliesToImage, AnswersInMemory};
 ghost use Rattle.programs.specs.Images.{images_on};
 ghost use Rattle.programs.specs.Inputs.{CountsReads};
 ghost use Rattle.programs.specs.Status.{IsRefusal};
@@ -12,7 +12,9 @@ use crate::fault::Fault;
 use crate::images::{open_image, put_back};
 use drive::{Drive, MemDrive};
 use engine::{CountedReader, Engine, serve};
+use grouping::serve_groups;
 use media::Media;
+use settling::Settles;
 use std::alloc::Global;
 use std::io::{Read, Write};
 use store::format;
@@ -20,7 +22,7 @@ use store::format;
 /// The label of a volume in memory.
 const MEMORY_LABEL: &str = "MEM";
 
-/// Answers the messages of the input on the volume of an image.
+/// Answers the messages of the input on the volume of an image, those that came together as a group.
 pub(crate) fn apply_to_image<M, I, O>(
     alloc: Global,
     media: &mut M,
@@ -37,9 +39,27 @@ where
     ensures applies { AppliesToImage image.now result (images_on M.Media media.old) (images_on M.Media media.new) (I.remaining input.old.stream) (I.remaining input.new.stream) (O.contents output.old) (O.contents output.new) }
 {
     let mut drive = open_image(media, image)?;
-    let applied = apply(alloc, &mut drive, input, output);
+    let applied = apply_in_groups(alloc, &mut drive, input, output);
     put_back(media, image, drive);
     applied
+}
+
+/// Answers the messages of the input in groups.
+fn apply_in_groups<D: Settles, I: Read, O: Write>(
+    alloc: Global,
+    drive: &mut D,
+    input: &mut CountedReader<I>,
+    output: &mut O,
+) -> Result<(), Fault>
+    ensures refusal { IfErr result IsRefusal }
+    ensures failures { CountsReads result input.old.failures input.new.failures }
+    ensures applies { AppliesInGroups result (situation_on D.Drive None drive.old) (D.gathering drive.old)
+        (situation_on D.Drive None drive.new)
+        (I.remaining input.old.stream) (I.remaining input.new.stream) (O.contents output.old) (O.contents output.new) }
+{
+    let mut engine = Engine::new();
+    serve_groups(alloc, input, output, &mut engine, drive)?;
+    Ok(())
 }
 
 /// Answers the messages of the input on a new volume in memory.
@@ -59,7 +79,7 @@ pub(crate) fn apply_in_memory<I: Read, O: Write>(
     apply(alloc, &mut drive, input, output)
 }
 
-/// Answers the messages of the input.
+/// Answers the messages of the input one by one, for a drive that syncs nothing.
 fn apply<D: Drive, I: Read, O: Write>(
     alloc: Global,
     drive: &mut D,

@@ -1,8 +1,10 @@
 -- Laws of the blocks of a drive in memory, and of what is given of them.
-use Rattle.std.proofs.Common.{◌≡◌, ℕ, zero, suc, ◌+◌, ◌≤◌, ◌<◌, List, [], ◌∷◌, ◌++◌, length, take, drop, get_or, Bool, true, false, if◌then◌else◌, Some, Result, Ok, Err, refl, sym, ◌∙◌, ap, subst, arith, append_assoc, add-one}
+use Rattle.std.proofs.Common.{◌≡◌, ℕ, zero, suc, ◌+◌, ◌≤◌, ◌<◌, List, [], ◌∷◌, ◌++◌, length, take, drop, get_or, Bool, true, false, if◌then◌else◌, Some, Result, Ok, Err, refl, sym, ◌∙◌, ap, subst, arith, append_assoc, add-one, length-append}
 use Rattle.std.specs.Prelude.{All, OnErr, OnOk, is_err}
 use Rattle.std.proofs.lemmas.List.{append-nil}
 use Rattle.std.proofs.lemmas.List.Elements.{filter-append}
+use Rattle.drive.specs.Gathering.{CountsWaited}
+use Rattle.drive.specs.Reads.{one_if}
 use Rattle.drive.specs.Journal.{Event, written, next_of, last_at, AreWhole}
 use Rattle.drive.specs.Writes.{unwritten}
 use Rattle.drive.proofs.Journals.{written-append, take-written, length-written, written_more}
@@ -128,3 +130,8 @@ same_at (b ∷ bs) (suc i) c d h = same_at bs i c d (omega (arith, h))
 pub ok_of : {T E : Type 0} (r : Result T E) (X : Type 0) → is_err r ≡ false → OnOk r X → X
 ok_of (Ok v) X is x = x
 ok_of (Err e) X is x = let bad : ◌≡◌ {A = Bool} true false = is in absurd (cc)
+
+-- a write more is counted, if it waits
+pub counts_write : (gathers : Bool) (n m : ℕ) (ws vs : List (List (List ℕ))) (w : List (List ℕ)) → m ≡ n + one_if gathers → vs ≡ ws ++ w ∷ [] → CountsWaited gathers n m (length ws) (length vs)
+counts_write true n m ws vs w more is = omega (arith, more, ap (λ (l : List (List (List ℕ))). length l) is, length-append ws (w ∷ []))
+counts_write false n m ws vs w more is = omega (arith, more)

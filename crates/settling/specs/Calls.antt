@@ -1,6 +1,7 @@
 -- What the calls of a drive that settles do to the drive.
-use Rattle.std.specs.Prelude.{◌≡◌, ◌++◌, List}
+use Rattle.std.specs.Prelude.{◌≡◌, ◌++◌, ℕ, Bool, true, false, List}
 use Rattle.drive.specs.Journal.{Event}
+use Rattle.drive.specs.Gathering.{Gathering}
 use Rattle.drive.specs.declared.Drive.{Ghosts}
 
 -- what the drive shows is as before, but perhaps its journal and how many failures it counted
@@ -22,3 +23,17 @@ pub record GivesFront (phases old new : List (List Event)) : Type 0 where
   pub rest : List (List Event)
   pub order : given ++ rest ≡ phases
   pub all : new ≡ old ++ given
+
+-- a drive that gathers, or not, and what came of it so far
+abbrev pub gathering_as : Bool → ℕ → List (List Event) → Gathering
+gathering_as gathers waited phases = record { gathers = gathers; waited = waited; phases = phases }
+
+-- from now on its writes wait
+abbrev pub begun : Gathering → Gathering
+begun g = gathering_as true g.waited g.phases
+
+-- A gathering ended, and the first of these phases were given to the disk.
+pub record EndsGathering (phases : List (List Event)) (old new : Gathering) : Type 0 where
+  pub gathers : new.gathers ≡ false
+  pub waited : new.waited ≡ old.waited
+  pub given : GivesFront phases old.phases new.phases

@@ -4,3 +4,4 @@ pub mod Given
 pub mod Gathered
 pub mod Note
 pub mod GatheringFile
+pub mod Head

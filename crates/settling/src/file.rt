@@ -1,19 +1,23 @@
 //! A drive over an image file that gathers. No clause can know what the file holds, so clauses speak of the bytes of a
 //! record instead.
 ghost use Rattle.limits.specs.declared.TheConstants.{BLOCK_BYTES};
-ghost use Rattle.std.specs.Prelude.{◌≡◌, ◌==◌, ◌≤◌, ◌<◌, ◌+◌, ◌^◌, ◌++◌, [], ◌∷◌, ℕ, List, length, take, drop, false, is_err, refl, All, IsTrue, OnErr, OnOk};
+ghost use Rattle.std.specs.Prelude.{◌≡◌, ◌==◌, ◌≤◌, ◌<◌, ◌+◌, ◌^◌, ◌++◌, [], ◌∷◌, ℕ, List, length, take, drop, false, is_err, refl, All, IfOk, IsTrue, OnErr, OnOk, Some};
 ghost use Rattle.drive.specs.FileDrive.{BeginsWith};
 ghost use Rattle.drive.specs.FileDrive.{capacity_of as file_capacity, journal_of as file_journal};
+ghost use Rattle.drive.specs.Gathering.{KeepsGathering, waits_never};
 ghost use Rattle.drive.specs.Journal.{AddsPrefix, AreWhole, InOrder, counted, next_of, written};
+ghost use Rattle.drive.specs.Note.{fitted};
+ghost use Rattle.drive.specs.Reads.{one_if};
 ghost use Rattle.drive.specs.Writes.{SplitsRun};
-ghost use Rattle.settling.specs.Calls.{GivesFront};
+ghost use Rattle.settling.specs.Calls.{GivesFront, gathering_as};
 ghost use Rattle.settling.specs.Phases.{blanked, two_phases};
 
 use crate::Settles;
 use crate::group::GroupImage;
-use crate::record::{BLANKS, GIVEN, MARKS, MORE, READ, Record, TAKEN, WRITTEN};
+use crate::head::counted;
+use crate::record::{BLANKS, GIVEN, MARKS, MORE, READ, Record, TAKEN, WAITS, WRITTEN};
 use crate::settles::fail;
-use drive::{Drive, DriveFault, FileDrive, Look};
+use drive::{Drive, DriveFault, FileDrive, HeldBlocks, Look};
 use limits::{BLOCK_SIZE, Block};
 use std::alloc::Global;
 
@@ -31,36 +35,77 @@ pub struct GatheringFileDrive {
     count: u32,
     failures: u64,
     contents: Record,
+    /// What was found after the last block.
+    found: Look,
     ghost counted: { count ≡ next_of contents.journal },
     ghost in_order: { InOrder contents.journal },
     ghost whole: { AreWhole contents.journal },
 }
 
 impl GatheringFileDrive {
-    ghost use Rattle.settling.specs.GatheringFile.{capacity_of, failures_of, gathers_of, journal_of, misreads_of, phases_of, writes_of, KeepsAllButPhases};
+    ghost use Rattle.settling.specs.GatheringFile.{capacity_of, failures_of, found_of, gathering_of, gathers_of, journal_of, misreads_of, phases_of, waited_of, writes_of, KeepsAllButPhases};
+    ghost use Rattle.settling.specs.Head.{Counts};
 
-    /// A drive over the image of this one, on which no call may have been made yet.
-    pub fn over(alloc: Global, drive: FileDrive) -> GatheringFileDrive
+    /// A drive over the image of this one, on which no call may have been made yet. If the image ends with the head of a
+    /// group that was never settled, only the blocks before the group count. A file that is open to write is then cut
+    /// back to these. One that is only read is left as it is: another may be settling that group now.
+    ///
+    /// It is a fault if the bytes after the last block, or the marks that they name, cannot be read: then nobody knows which
+    /// blocks count. And it is one if the marks of a group that is cut off cannot be zeroed.
+    pub fn over(alloc: Global, drive: FileDrive) -> Result<GatheringFileDrive, DriveFault>
         requires { (image : List (List ℕ)) × BeginsWith image drive }
-        ensures journal { journal_of result ≡ file_journal drive }
-        ensures capacity { capacity_of result ≡ file_capacity drive }
-        ensures writes { writes_of result ≡ [] }
-        ensures failures { failures_of result ≡ 0 }
-        ensures misreads { misreads_of result ≡ 0 }
-        ensures phases { phases_of result ≡ [] }
-        ensures gathers { gathers_of result ≡ false }
+        ensures journal { IfOk result (λ d. Counts (found_of d) (file_journal drive) (journal_of d)) }
+        ensures capacity { IfOk result (λ d. capacity_of d ≡ file_capacity drive) }
+        ensures fits { IfOk result (λ d. next_of (journal_of d) ≤ capacity_of d) }
+        ensures writes { IfOk result (λ d. writes_of d ≡ []) }
+        ensures failures { IfOk result (λ d. failures_of d ≡ 0) }
+        ensures misreads { IfOk result (λ d. misreads_of d ≡ 0) }
+        ensures gathering { IfOk result (λ d. gathering_of d ≡ waits_never) }
     {
-        let contents = Record::over(&drive);
+        let mut contents = Record::over(&drive);
         let mut part = [0; BLOCK_SIZE];
-        let has_part = drive.part(&mut part, &mut Look::new(&[])) != Ok(0);
-        let parts = drive.into_parts();
-        GatheringFileDrive {
-            image: GroupImage::new(alloc, parts.image, parts.count, has_part),
+        let mut found = Look::new(&[]);
+        let len = drive.part(&mut part, &mut found)?;
+        let mut parts = drive.into_parts();
+        let count = counted(&mut parts.image, parts.count, &part[..len])?;
+        contents.note_group(&[count, TAKEN], &[]);
+        let mut image = GroupImage::new(alloc, parts.image, parts.count, len > 0);
+        image.keep(count, &part[..len])?;
+        Ok(GatheringFileDrive {
+            image,
             capacity: parts.capacity,
-            count: parts.count,
+            count: parts.count.min(count),
             failures: 0,
             contents,
-        }
+            found,
+        })
+    }
+
+    /// States for contracts that the blocks that count are the first of these. No call may have been made on the drive yet.
+    pub fn hold(&mut self, held: &HeldBlocks)
+        requires unread { misreads_of self.old ≡ 0 }
+        requires unwritten { writes_of self.old ≡ [] }
+        requires never { gathering_of self.old ≡ waits_never }
+        ensures journal { journal_of self.new ≡ written 0 (fitted (next_of (journal_of self.old)) held.now.blocks) }
+        ensures capacity { capacity_of self.new ≡ capacity_of self.old }
+        ensures writes { writes_of self.new ≡ [] }
+        ensures failures { failures_of self.new ≡ failures_of self.old }
+        ensures misreads { misreads_of self.new ≡ 0 }
+        ensures gathering { gathering_of self.new ≡ waits_never }
+    {
+        self.contents = Record::holding(&[self.count], held);
+    }
+
+    /// Reads the bytes after the last whole block of the file, which have no address, to the beginning of `into`. Returns
+    /// how many there are, at most 2,047. Contracts see in `look` what was found.
+    pub fn part(&self, into: &mut Block, look: &mut Look) -> Result<usize, DriveFault>
+        ensures short { IfOk result (λ n. n < BLOCK_BYTES) }
+        ensures seen { IfOk result (λ n. look.new.part ≡ Some (take n into.new)) }
+        ensures failed { OnErr result (look.new.part ≡ look.old.part) }
+    {
+        let count = self.image.part(into)?;
+        *look = Look::of(&into[..count]);
+        Ok(count)
     }
 
     /// Gives the disk both phases, if the settle is for the group that waits. Returns whether all that worked.
@@ -85,6 +130,7 @@ impl GatheringFileDrive {
     fn cut(&mut self, from: u32)
         ensures journal { journal_of self.new ≡ take from (journal_of self.old) }
         ensures phases { phases_of self.new ≡ phases_of self.old }
+        ensures waited { waited_of self.new ≡ waited_of self.old }
         ensures gathers { gathers_of self.new ≡ false }
         ensures failures { failures_of self.new ≡ failures_of self.old }
         ensures writes { writes_of self.new ≡ writes_of self.old }
@@ -98,7 +144,7 @@ impl GatheringFileDrive {
 }
 
 impl Drive for GatheringFileDrive {
-    ghost use Rattle.settling.specs.GatheringFile.{capacity_of, failures_of, gathers_of, honest_of, journal_of, misreads_of, phases_of, writes_of};
+    ghost use Rattle.settling.specs.GatheringFile.{capacity_of, failures_of, gathering_of, honest_of, journal_of, misreads_of, writes_of};
 
     ghost journal = { λ d. d.contents.journal };
 
@@ -111,6 +157,8 @@ impl Drive for GatheringFileDrive {
     ghost misreads = { λ d. d.contents.misreads };
 
     ghost honest = { λ d. d.contents.misreads == 0 };
+
+    ghost gathering = { λ d. gathering_as d.image.gathers d.contents.waited d.contents.phases };
 
     ghost honest_is = { λ _. refl };
 
@@ -145,12 +193,12 @@ impl Drive for GatheringFileDrive {
         ensures failures { failures_of self.new ≡ counted (is_err result) (failures_of self.old) }
         ensures misreads { misreads_of self.new ≡ misreads_of self.old }
         ensures honest { honest_of self.new ≡ honest_of self.old }
-        ensures phases { phases_of self.new ≡ phases_of self.old }
-        ensures gathers { gathers_of self.new ≡ gathers_of self.old }
+        ensures gathering { KeepsGathering (gathering_of self.old) (gathering_of self.new) (writes_of self.old) (writes_of self.new) }
     {
         // Unused: brings its range into the proof.
         let _capacity = self.capacity;
         self.contents.note(&[at, GIVEN], blocks);
+        note_waiting(&mut self.contents, self.image.gathers);
         let none = &blocks[..0];
         if self.image.write(self.count, at, blocks, none).is_err() {
             return fail(&mut self.failures);
@@ -172,13 +220,13 @@ impl Drive for GatheringFileDrive {
         ensures failures { failures_of self.new ≡ counted (is_err result) (failures_of self.old) }
         ensures misreads { misreads_of self.new ≡ misreads_of self.old }
         ensures honest { honest_of self.new ≡ honest_of self.old }
-        ensures phases { phases_of self.new ≡ phases_of self.old }
-        ensures gathers { gathers_of self.new ≡ gathers_of self.old }
+        ensures gathering { KeepsGathering (gathering_of self.old) (gathering_of self.new) (writes_of self.old) (writes_of self.new) }
     {
         // Unused: brings its range into the proof.
         let _capacity = self.capacity;
         self.contents.note(&[at, GIVEN], first);
         self.contents.note(&[at, MORE], second);
+        note_waiting(&mut self.contents, self.image.gathers);
         if self.image.write(self.count, at, first, second).is_err() {
             return fail(&mut self.failures);
         }
@@ -195,10 +243,6 @@ impl Drive for GatheringFileDrive {
 
 impl Settles for GatheringFileDrive {
     ghost use Rattle.drive.proofs.Once.{once_of};
-
-    ghost phases = { λ d. d.contents.phases };
-
-    ghost gathers = { λ d. d.image.gathers };
 
     ghost once = { λ d. once_of d.contents.journal d.in_order };
 
@@ -229,11 +273,25 @@ impl Settles for GatheringFileDrive {
     }
 }
 
+/// Notes that a write waits, if the drive gathers.
+fn note_waiting(notes: &mut Record, gathers: bool)
+    ensures waited { notes.new.waited ≡ notes.old.waited + one_if gathers }
+    ensures journal { notes.new.journal ≡ notes.old.journal }
+    ensures writes { notes.new.writes ≡ notes.old.writes }
+    ensures misreads { notes.new.misreads ≡ notes.old.misreads }
+    ensures phases { notes.new.phases ≡ notes.old.phases }
+{
+    if gathers {
+        notes.note_group(&[0, WAITS], &[]);
+    }
+}
+
 /// Notes that the file may have all blocks of a group but the marks, if it was given any.
 fn note_begun(notes: &mut Record, image: &GroupImage, from: u32, marks: &[u32])
     ensures journal { notes.new.journal ≡ notes.old.journal }
     ensures writes { notes.new.writes ≡ notes.old.writes }
     ensures misreads { notes.new.misreads ≡ notes.old.misreads }
+    ensures waited { notes.new.waited ≡ notes.old.waited }
     ensures begun { GivesFront (blanked marks.now (drop from notes.old.journal) ∷ []) notes.old.phases notes.new.phases }
 {
     if image.has_given() {
@@ -250,6 +308,7 @@ fn note_written(notes: &mut Record, count: &mut u32, at: u32, blocks: &[Block])
     ensures journal { notes.new.journal ≡ notes.old.journal ++ written at blocks.now }
     ensures writes { notes.new.writes ≡ notes.old.writes }
     ensures misreads { notes.new.misreads ≡ notes.old.misreads }
+    ensures waited { notes.new.waited ≡ notes.old.waited }
     ensures phases { notes.new.phases ≡ notes.old.phases }
     ensures count { count.new ≡ next_of notes.new.journal }
     ensures next { count.new ≡ at + length blocks.now }

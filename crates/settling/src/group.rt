@@ -1,13 +1,26 @@
 //! An image file that gathers: which blocks the file has, and which wait in memory.
 //!
 //! The block that was written last may be a mark, so it waits until another is written or its commit ends. A mark waits
-//! until all other blocks of its group are synced. Meanwhile the file has zeros in its place.
-ghost use Rattle.std.specs.Prelude.{◌≡◌, ◌+◌, ◌<◌, ◌^◌, length, true, false, OnOk};
+//! until all other blocks of its group are synced. Meanwhile the file has zeros in its place, and while the marks are
+//! written it ends with the head of the group.
+ghost use Rattle.limits.specs.declared.TheConstants.{BLOCK_BYTES};
+ghost use Rattle.std.specs.Prelude.{◌≡◌, ◌+◌, ◌<◌, ◌^◌, length, true, false, IfOk, OnOk};
 
+use crate::head::{Head, MOST_MARKS, begins_as_head, forget_marks, is_blank};
 use drive::{DriveFault, Image};
-use limits::Block;
+use limits::{BLOCK_SIZE, Block};
 use std::alloc::Global;
 use std::slice;
+
+/// What comes after the last block of a file.
+#[derive(Clone, Copy, Debug, PartialEq, Eq)]
+enum Tail {
+    Nothing,
+    /// Nothing, but the disk may still have the head of a group that was settled.
+    HeadWasCut,
+    /// A part of a block.
+    Part,
+}
 
 /// An image file, and the blocks of a group that it was not given yet. Its user keeps how many blocks there are, those
 /// that wait included, and passes that count.
@@ -16,8 +29,7 @@ pub(crate) struct GroupImage {
     image: Image,
     /// How many blocks the file has. Outside a group all of them are synced.
     shown: u32,
-    /// The file may end with a part of a block.
-    has_part: bool,
+    tail: Tail,
     pub(crate) gathers: bool,
     /// How many blocks the file had when the group began. They are synced.
     begun: u32,
@@ -25,32 +37,56 @@ pub(crate) struct GroupImage {
     last: Option<Block>,
     /// The marks that wait, each with its address.
     marks: Vec<(u32, Block)>,
+    /// How many of the marks the file may have, which are not all synced.
+    given: usize,
+    /// To how many blocks the file must be cut back before anything else is done with it.
+    owed: Option<u32>,
     /// The group cannot be settled, and takes no more blocks.
     is_spoiled: bool,
 }
 
 impl GroupImage {
-    /// An image of so many blocks, all of them synced.
+    /// An image of so many blocks, all of them synced. After them it has a part of a block, or nothing.
     pub(crate) fn new(alloc: Global, image: Image, shown: u32, has_part: bool) -> GroupImage
         ensures { result.gathers ≡ false }
     {
         GroupImage {
             image,
             shown,
-            has_part,
+            tail: if has_part { Tail::Part } else { Tail::Nothing },
             gathers: false,
             begun: shown,
             last: None,
             marks: Vec::new(alloc),
+            given: 0,
+            owed: None,
             is_spoiled: false,
         }
+    }
+
+    /// Counts only the first `count` blocks of the file. One that is open to write is cut back to these. Before that the
+    /// disk gets zeros for the marks that the head at its end tells of, as `finish_cut` has it.
+    pub(crate) fn keep(&mut self, count: u32, head: &[u8]) -> Result<(), DriveFault>
+        ensures { self.new.gathers ≡ self.old.gathers }
+    {
+        if count >= self.shown {
+            return Ok(());
+        }
+        if self.image.is_open_to_write() {
+            forget_marks(&mut self.image, self.shown, head)?;
+        }
+        self.shown = count;
+        self.cut_tail();
+        Ok(())
     }
 
     /// Whether the file has exactly the blocks that it was given, and a name. Outside a group these must be all.
     pub(crate) fn is_as_given(&mut self, count: u32) -> bool
         ensures { self.new.gathers ≡ self.old.gathers }
     {
-        (self.gathers || self.shown == count) && self.image.has(self.shown) == Ok(true)
+        self.finish_cut().is_ok()
+            && (self.gathers || self.shown == count)
+            && self.image.has(self.shown) == Ok(true)
     }
 
     /// Reads the block at an address, from the file or from those that wait.
@@ -61,6 +97,7 @@ impl GroupImage {
             *into = *block;
             return Ok(());
         }
+        self.finish_cut()?;
         self.image.read(self.shown, at, into)
     }
 
@@ -78,6 +115,13 @@ impl GroupImage {
             }
         }
         None
+    }
+
+    /// Reads the bytes after the last whole block of the file to the beginning of `into`. Returns how many there are.
+    pub(crate) fn part(&self, into: &mut Block) -> Result<usize, DriveFault>
+        ensures { IfOk result (λ n. n < BLOCK_BYTES) }
+    {
+        self.image.part(into)
     }
 
     /// Makes the system begin to read these blocks.
@@ -101,6 +145,8 @@ impl GroupImage {
         if at != count {
             return Err(DriveFault);
         }
+        self.finish_cut()?;
+        self.trim(first.first().or(second.first()));
         if self.gathers {
             return self.gather_more(at, first, second);
         }
@@ -117,7 +163,6 @@ impl GroupImage {
         if self.is_spoiled {
             return Err(DriveFault);
         }
-        self.trim()?;
         if let Some((last, others)) = second.split_last() {
             self.give(at, first, others)?;
             self.last = Some(*last);
@@ -150,17 +195,30 @@ impl GroupImage {
         Ok(())
     }
 
-    /// Cuts off a part of a block at the end of the file, so that the places of marks there are zeros. A file that
-    /// cannot be written is left as it is.
-    fn trim(&mut self) -> Result<(), DriveFault>
+    /// Cuts off a part of a block at the end of the file, so that the places of marks there are zeros. If the next block
+    /// begins as a head does, this also waits until the disk knows that the head before it was cut off. For a power loss
+    /// may leave the length that the file had with the head, and in the head's place the first bytes of this block.
+    fn trim(&mut self, next: Option<&Block>)
         ensures { self.new.gathers ≡ self.old.gathers }
     {
-        if self.has_part {
-            self.image.append(self.shown, self.shown, &[], &[])?;
-            self.image.cut(self.shown);
-            self.has_part = false;
+        let is_due = match self.tail {
+            Tail::Nothing => false,
+            Tail::HeadWasCut => next.is_some_and(|block| begins_as_head(block)),
+            Tail::Part => true,
+        };
+        if is_due {
+            self.cut_tail();
         }
-        Ok(())
+    }
+
+    /// Cuts off what comes after the blocks that the file has. A file that is only read is left as it is.
+    fn cut_tail(&mut self)
+        ensures { self.new.gathers ≡ self.old.gathers }
+    {
+        if self.image.is_open_to_write() {
+            self.image.cut(self.shown);
+            self.tail = Tail::Nothing;
+        }
     }
 
     /// Begins a group, unless one has begun.
@@ -168,8 +226,9 @@ impl GroupImage {
         ensures { self.new.gathers ≡ true }
     {
         if !self.gathers {
+            let is_ready = self.finish_cut().is_ok();
             self.begun = self.shown;
-            self.is_spoiled = self.shown != count;
+            self.is_spoiled = !is_ready || self.shown != count;
         }
         self.gathers = true;
     }
@@ -194,6 +253,7 @@ impl GroupImage {
         self.gathers
             && !self.is_spoiled
             && self.last.is_none()
+            && marks.len() <= MOST_MARKS
             && from == self.begun
             && self.marks.len() == marks.len()
             && self
@@ -208,7 +268,8 @@ impl GroupImage {
         self.gathers && self.shown > self.begun
     }
 
-    /// Waits until the disk has all blocks of the group but the marks, and zeros in place of these.
+    /// Waits until the disk has all blocks of the group but the marks, zeros in place of these, and the head. A group of
+    /// one mark needs none: that mark is there or not.
     pub(crate) fn sync_blanks(&mut self, count: u32) -> Result<(), DriveFault>
         ensures { self.new.gathers ≡ self.old.gathers }
     {
@@ -217,10 +278,15 @@ impl GroupImage {
             return Ok(());
         }
         self.shown = count;
+        if self.marks.len() > 1 {
+            self.tail = Tail::Part;
+            let head = Head::new(self.begun, count, &self.marks);
+            self.image.put_part(count, &head.bytes())?;
+        }
         self.image.sync(count)
     }
 
-    /// Gives the file the marks, and waits until the disk has them.
+    /// Gives the file the marks, and waits until the disk has them. Then it cuts off the head.
     pub(crate) fn sync_marks(&mut self, count: u32) -> Result<(), DriveFault>
         ensures { self.new.gathers ≡ self.old.gathers }
     {
@@ -228,9 +294,21 @@ impl GroupImage {
             return Ok(());
         }
         for mark in &self.marks {
-            self.image.fill(mark.0, &mark.1)?;
+            self.given = self.given.saturating_add(1);
+            if self.image.fill(mark.0, &mark.1).is_err() {
+                // If the disk has no room for the place, there will be none for zeros either: but it has them.
+                if is_blank(&mut self.image, count, mark.0) == Ok(true) {
+                    self.given = self.given.saturating_sub(1);
+                }
+                return Err(DriveFault);
+            }
         }
-        self.image.sync(count)
+        self.image.sync(count)?;
+        self.given = 0;
+        if self.tail == Tail::Part && self.image.drop_part(count).is_ok() {
+            self.tail = Tail::HeadWasCut;
+        }
+        Ok(())
     }
 
     /// Ends the group. Its blocks stay.
@@ -250,9 +328,38 @@ impl GroupImage {
         let synced = if self.gathers { self.begun } else { self.shown };
         let kept = from.min(synced);
         if kept < self.shown {
-            self.image.cut(kept);
-            self.shown = kept;
+            self.owed = Some(self.owed.map_or(kept, |owed| owed.min(kept)));
+            // What fails here is done before the next call.
+            let _ = self.finish_cut();
         }
-        self.end();
+        self.gathers = false;
+        self.last = None;
+        if self.given == 0 {
+            self.marks.clear();
+        }
+    }
+
+    /// Does what is left of a cut. First the disk gets zeros for all marks that it may have. For a power loss in the cut
+    /// may leave the length from before it, and zeros up to the end of the page in which it cuts: then no mark may lead
+    /// to these.
+    fn finish_cut(&mut self) -> Result<(), DriveFault>
+        ensures { self.new.gathers ≡ self.old.gathers }
+    {
+        let Some(kept) = self.owed else {
+            return Ok(());
+        };
+        if self.given > 0 {
+            for mark in self.marks.iter().take(self.given) {
+                self.image.fill(mark.0, &[0; BLOCK_SIZE])?;
+            }
+            self.image.sync(self.shown)?;
+            self.given = 0;
+            self.marks.clear();
+        }
+        self.image.cut(kept);
+        self.shown = kept;
+        self.tail = Tail::Nothing;
+        self.owed = None;
+        Ok(())
     }
 }

@@ -7,12 +7,16 @@
 
 mod file;
 mod group;
+mod head;
+#[cfg(test)]
+mod head_tests;
 mod memory;
 mod phase;
 mod record;
 mod settles;
 
 pub use file::GatheringFileDrive;
+pub use head::MOST_MARKS;
 pub use memory::GatheringDrive;
 pub use phase::Phase;
 pub use settles::Settles;

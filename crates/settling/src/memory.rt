@@ -1,9 +1,11 @@
 //! A drive in memory that gathers.
 ghost use Rattle.limits.specs.declared.TheConstants.{BLOCK_BYTES};
-ghost use Rattle.std.specs.Prelude.{◌≡◌, ◌≤◌, ◌++◌, [], ◌∷◌, length, take, vec_len, refl, true, false, All, IsTrue, OnErr, OnOk};
+ghost use Rattle.std.specs.Prelude.{◌≡◌, ◌≤◌, ◌++◌, [], ◌∷◌, length, take, vec_len, ◌+◌, refl, true, false, All, IsTrue, OnErr, OnOk};
+ghost use Rattle.drive.specs.Gathering.{waits_never};
 ghost use Rattle.drive.specs.Journal.{AreWhole, counted, written};
 ghost use Rattle.drive.specs.MemDrive.{capacity_of, writes_of};
-ghost use Rattle.settling.specs.Calls.{GivesFront};
+ghost use Rattle.drive.specs.Reads.{one_if};
+ghost use Rattle.settling.specs.Calls.{GivesFront, gathering_as};
 ghost use Rattle.settling.specs.Given.{blocks_in, phases_in};
 ghost use Rattle.settling.specs.Phases.{two_phases};
 
@@ -25,6 +27,8 @@ pub struct GatheringDrive {
     blocks: Vec<Block>,
     failures: u64,
     gathers: bool,
+    /// Counts the writes that wait, for contracts: it is given an empty write for each.
+    waits: MemDrive,
     marks: Vec<u32>,
     /// There was no memory for a mark.
     lost_mark: bool,
@@ -34,14 +38,15 @@ pub struct GatheringDrive {
 }
 
 impl GatheringDrive {
-    ghost use Rattle.settling.specs.Gathered.{blocks_of, failures_of, gathers_of, phases_of, KeepsAllButPhases};
+    ghost use Rattle.settling.specs.Gathered.{blocks_of, capacity_of as room_of, failures_of, gathering_of, gathers_of, phases_of, writes_of as given_of, KeepsAllButPhases};
 
     /// A blank drive of `capacity` blocks.
     pub fn new(alloc: Global, capacity: u32, schedule: Vec<Scheduled>) -> GatheringDrive
         ensures blocks { blocks_of result ≡ [] }
-        ensures phases { phases_of result ≡ [] }
+        ensures room { room_of result ≡ capacity }
+        ensures given { given_of result ≡ [] }
         ensures failures { failures_of result ≡ 0 }
-        ensures gathers { gathers_of result ≡ false }
+        ensures gathering { gathering_of result ≡ waits_never }
     {
         GatheringDrive {
             alloc,
@@ -49,9 +54,32 @@ impl GatheringDrive {
             blocks: Vec::new(alloc),
             failures: 0,
             gathers: false,
+            waits: MemDrive::new(alloc, 0, Vec::new(alloc)),
             marks: Vec::new(alloc),
             lost_mark: false,
             phases: Vec::new(alloc),
+        }
+    }
+
+    /// A drive of this capacity with the same blocks, on which no call was made yet. No call fails.
+    pub fn reopened(self, capacity: u32) -> GatheringDrive
+        requires { length (blocks_of self) ≤ capacity }
+        ensures blocks { blocks_of result ≡ blocks_of self }
+        ensures room { room_of result ≡ capacity }
+        ensures given { given_of result ≡ [] }
+        ensures failures { failures_of result ≡ 0 }
+        ensures gathering { gathering_of result ≡ waits_never }
+    {
+        GatheringDrive {
+            alloc: self.alloc,
+            script: MemDrive::new(self.alloc, capacity, Vec::new(self.alloc)),
+            blocks: self.blocks,
+            failures: 0,
+            gathers: false,
+            waits: MemDrive::new(self.alloc, 0, Vec::new(self.alloc)),
+            marks: Vec::new(self.alloc),
+            lost_mark: false,
+            phases: Vec::new(self.alloc),
         }
     }
 
@@ -122,6 +150,7 @@ impl GatheringDrive {
         ensures gathers { gathers_of self.new ≡ gathers_of self.old }
         ensures failures { failures_of self.new ≡ failures_of self.old }
         ensures script { self.new.script ≡ self.old.script }
+        ensures waits { self.new.waits ≡ self.old.waits }
     {
         self.blocks.truncate(from as usize);
     }
@@ -152,6 +181,8 @@ impl Drive for GatheringDrive {
 
     ghost honest = { λ _. true };
 
+    ghost gathering = { λ d. gathering_as d.gathers (length (writes_of d.waits)) (phases_in d.phases.items) };
+
     ghost honest_is = { λ _. refl };
 
     fn capacity(&self) -> u32 {
@@ -175,6 +206,7 @@ impl Drive for GatheringDrive {
     }
 
     fn write(&mut self, at: u32, blocks: &[Block]) -> Result<(), DriveFault> {
+        note_waiting(&mut self.waits, self.gathers);
         if self.script.write(0, blocks).is_err() {
             return fail(&mut self.failures);
         }
@@ -190,10 +222,6 @@ impl Drive for GatheringDrive {
 
 impl Settles for GatheringDrive {
     ghost use Rattle.drive.proofs.Once.{once-written};
-
-    ghost phases = { λ d. phases_in d.phases.items };
-
-    ghost gathers = { λ d. d.gathers };
 
     ghost once = { λ d. once-written 0 d.blocks.items };
 
@@ -229,6 +257,15 @@ impl Settles for GatheringDrive {
     fn take_back(&mut self, from: u32, _marks: &[u32]) {
         self.gathers = false;
         self.cut(from);
+    }
+}
+
+/// Counts a write, if it waits.
+fn note_waiting(waits: &mut MemDrive, gathers: bool)
+    ensures { length (writes_of waits.new) ≡ length (writes_of waits.old) + one_if gathers }
+{
+    if gathers {
+        let _ = waits.write(0, &[]);
     }
 }
 

@@ -1,5 +1,6 @@
 -- `udfburn_core_open_fd` lends what lies at the handle for the call, and has it back.
 use Rattle.capi.proofs.Walking.{ℕ, ℤ, [], ◌∷◌, refl, w32, MutBor, proved, full_share, id⊢, ftrue, flft, flent, named, vptr, fact, tables, WpFn, ‵, raw, ◌⊛◌, some, later, prop, at_ret, ◌$◌, ◌∵◌, !, qed, done, move, keep, drop, use1, use2, use3, split, join, fsplit, fpack, pick, await, regoal, suffices, group, enter, of_opd, addr, stop, no_more, and_then, first, blocks, exec, returns, alloc_all, pass_all, free_all, look_at, get, through, sets, sets_last, lands_as, env, Borrowed, lft_new, lft_end, i32, yes, Is, shows, sint_Lawful, mem, lends_ref, ref_back, Ptr, RawPtr, block_ptr, lies_at, in_a_block, rawptr_vals, rawptr_Tells, MutRef, plain, nothing, heard, peeks, calls_at, lasts, triple_of, Stays, walk_of, stay_dropped, Goes-dropped, ends_at, framed, ◌++◌, fsplit, owns, sint_vals, sint_Tells, of_z_fits}
+use Rattle.std.specs.Prelude.{false}
 use Rattle.embedding.specs.declared.session.Session.{Session}
 use Rattle.embedding.specs.contracts.session.Session.{the_row}
 use Rattle.embedding.specs.Calls.{OpensVolume}
@@ -44,7 +45,7 @@ udfburn_core_open_fd_spec 𝓤 𝓛 𝓜 𝓡 wired =
     calls_at ! (framed 𝓤 𝓛.H 𝓜 𝓣) G (met 𝓤 𝓛 𝓜 𝓡 (code.calls-embedding::calls::open_fd 𝓡.env wired)) z
     (and_then ! (get ! refl) (and_then ! (get ! refl) (no_more !))) (λ v.
     use1 𝓛 (later (some (λ (u : ℤ). ((‵ (flft (α ∷ []) full_share) ⊛ ‵ ftrue) ⊛ ‵ (i32.own_val u (v ∷ []))) ⊛
-    some (λ (ws : Session × (Unit {0} × Unit {0})). ‵ (lasts g.ended z.0.0 z.0.3 ws) ⊛ raw (fact 𝓤 (OpensVolume u held ws.0)))))) (id⊢ 𝓤 _) $
+    some (λ (ws : Session × (Unit {0} × Unit {0})). ‵ (lasts g.ended z.0.0 z.0.3 ws) ⊛ raw (fact 𝓤 (OpensVolume false u held ws.0)))))) (id⊢ 𝓤 _) $
     await ! tt $ pick ! (λ u.
     split ! $ split ! $ split ! $ lft_end ! tt $ move ! (2 ∷ []) $
     peeks ! i32 (Is i32) (shows 𝓛 i32) u (v ∷ []) (λ is. lands_as ! refl refl ((sint_Lawful 𝓛 w32).typed u _ is).0 $
@@ -54,5 +55,5 @@ udfburn_core_open_fd_spec 𝓤 𝓛 𝓜 𝓡 wired =
     keep ! (2 ∷ 0 ∷ 3 ∷ 4 ∷ []) $ move ! (1 ∷ []) $
     suffices ! _ (ends_at 𝓛 f.ended stayed c (y (block_ptr b o)) v u (tt, (tt, tt)) (tt, (tt, tt))) $
     use1 𝓛 (‵ (lies_at the_row full_share (block_ptr b o) ws.0)) (id⊢ 𝓤 _) $
-    fpack ! ((s : Session) × OpensVolume u held s) (λ s. lies_at the_row full_share (block_ptr b o) s.0) (ws.0, known) $
+    fpack ! ((s : Session) × OpensVolume false u held s) (λ s. lies_at the_row full_share (block_ptr b o) s.0) (ws.0, known) $
     move ! (1 ∷ []) $ nothing ! $ join ! $ move ! (3 ∷ 0 ∷ 2 ∷ []) $ group ! 3 $ done !))))))))))

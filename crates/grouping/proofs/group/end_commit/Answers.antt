@@ -1,4 +1,4 @@
-use Rattle.std.proofs.Common.{◌++◌, ◌≤◌, List, ℕ, ap, sym, ◌∙◌, arith, append-nil}
+use Rattle.std.proofs.Common.{◌++◌, ◌≤◌, List, ℕ, ap, sym, ◌∙◌, arith, append-nil, refl}
 use Rattle.drive.specs.Journal.{next_of}
 use Rattle.grouping.proofs.Going.{no_mark, untouched_none}
 use Rattle.grouping.proofs.group.end_commit.Goals as goal
@@ -9,4 +9,5 @@ returns-then-after-before g c =
     record {
       ok = sym (append-nil c.args.marks.now.items) ∙ ap (λ (l : List ℕ). c.args.marks.now.items ++ l) (sym (no_mark c.args.before _ le));
       untouched = untouched_none g.D.Drive c.args.drive.now;
+      gathering = refl;
     }

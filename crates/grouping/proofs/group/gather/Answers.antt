@@ -6,7 +6,7 @@ use Rattle.engine.proofs.Messages.{taken_less}
 use Rattle.engine.specs.Served.{frames_of}
 use Rattle.grouping.proofs.Answers.{going_none, some_there}
 use Rattle.grouping.proofs.Going.{adds_none, adds_then, adds_untouched, both_are, goes_full, goes_on, goes_some, not_both, ok_of, err_of}
-use Rattle.grouping.proofs.Settled.{untouched_follows}
+use Rattle.grouping.proofs.Settled.{untouched_keeps}
 use Rattle.grouping.proofs.group.gather.Goals as goal
 
 pub loop-message-init : goal.loop-message-init
@@ -48,7 +48,7 @@ loop-message-preserved g c =
           (ok_of c.encode_answer.result _ (sym c.is_err-in-Some.ensures.value ∙ c.if-is_err-2.false) c.encode_answer.ensures.ok)
           (sym c.asks_to_grow-is_alone.ensures ∙ c.is_full.ensures c.if-is_full.false);
       follows = adds_then _ _ _ i.follows (adds_untouched g.D.Drive _ _ c.answer-answer.new.drive c.end_commit.new.drive c.end_commit.ensures.untouched e.answered.follows);
-      lent = follows_then i.lent (follows_then (follows_any e.lent) (untouched_follows c.answer-answer.new.drive c.end_commit.new.drive c.end_commit.ensures.untouched));
+      lent = follows_then i.lent (follows_then (follows_any e.lent) (untouched_keeps c.answer-answer.new.drive c.end_commit.new.drive c.end_commit.ensures.untouched c.end_commit.ensures.gathering));
     }
 
 pub loop-message-preserved-else-is_full : goal.loop-message-preserved-else-is_full
@@ -70,7 +70,7 @@ loop-message-preserved-else-is_full g c =
           (ok_of c.encode_answer.result _ (sym c.is_err-in-Some.ensures.value ∙ c.if-is_err-2.false) c.encode_answer.ensures.ok)
           (sym c.asks_to_grow-is_alone.ensures ∙ c.is_full.ensures c.if-is_full.false);
       follows = adds_then _ _ _ i.follows (adds_untouched g.D.Drive _ _ c.answer-answer.new.drive c.end_commit.new.drive c.end_commit.ensures.untouched e.answered.follows);
-      lent = follows_then i.lent (follows_then (follows_any e.lent) (untouched_follows c.answer-answer.new.drive c.end_commit.new.drive c.end_commit.ensures.untouched));
+      lent = follows_then i.lent (follows_then (follows_any e.lent) (untouched_keeps c.answer-answer.new.drive c.end_commit.new.drive c.end_commit.ensures.untouched c.end_commit.ensures.gathering));
     }
 
 pub loop-message-preserved-else-is_full-2 : goal.loop-message-preserved-else-is_full-2
@@ -92,7 +92,7 @@ loop-message-preserved-else-is_full-2 g c =
           (ok_of c.encode_answer.result _ (sym c.is_err-in-Some.ensures.value ∙ c.if-is_err-2.false) c.encode_answer.ensures.ok)
           (sym c.asks_to_grow-is_alone.ensures ∙ c.is_full.ensures c.if-is_full.false);
       follows = adds_then _ _ _ i.follows (adds_untouched g.D.Drive _ _ c.answer-answer.new.drive c.end_commit.new.drive c.end_commit.ensures.untouched e.answered.follows);
-      lent = follows_then i.lent (follows_then (follows_any e.lent) (untouched_follows c.answer-answer.new.drive c.end_commit.new.drive c.end_commit.ensures.untouched));
+      lent = follows_then i.lent (follows_then (follows_any e.lent) (untouched_keeps c.answer-answer.new.drive c.end_commit.new.drive c.end_commit.ensures.untouched c.end_commit.ensures.gathering));
     }
 
 pub returns-then-is_fault : goal.returns-then-is_fault
@@ -114,7 +114,7 @@ returns-then-is_err g c =
       gathers = tt;
       held = (frames_of i.going.gathering.told.answers, i.going.gathering.told.told);
       follows = adds_then _ _ _ i.follows (adds_untouched g.D.Drive _ _ c.answer-answer.new.drive c.end_commit.new.drive c.end_commit.ensures.untouched e.answered.follows);
-      lent = follows_then i.lent (follows_then (follows_any e.lent) (untouched_follows c.answer-answer.new.drive c.end_commit.new.drive c.end_commit.ensures.untouched));
+      lent = follows_then i.lent (follows_then (follows_any e.lent) (untouched_keeps c.answer-answer.new.drive c.end_commit.new.drive c.end_commit.ensures.untouched c.end_commit.ensures.gathering));
     }
 
 pub returns-then-is_err-2 : goal.returns-then-is_err-2
@@ -138,7 +138,7 @@ returns-then-is_err-2 g c =
           c.asks_to_grow-is_alone.result c.asks_to_grow-is_alone.ensures (not_both _ _ (sym c.comes_later.ensures ∙ c.if-comes_later.false));
       held = (frames_of i.going.gathering.told.answers, kept ∙ i.going.gathering.told.told);
       follows = adds_then _ _ _ i.follows (adds_untouched g.D.Drive _ _ c.answer-answer.new.drive c.end_commit.new.drive c.end_commit.ensures.untouched e.answered.follows);
-      lent = follows_then i.lent (follows_then (follows_any e.lent) (untouched_follows c.answer-answer.new.drive c.end_commit.new.drive c.end_commit.ensures.untouched));
+      lent = follows_then i.lent (follows_then (follows_any e.lent) (untouched_keeps c.answer-answer.new.drive c.end_commit.new.drive c.end_commit.ensures.untouched c.end_commit.ensures.gathering));
     }
 
 pub returns-then-is_full : goal.returns-then-is_full
@@ -162,7 +162,7 @@ returns-then-is_full g c =
       gathers = gathered;
       held = (frames_of gathered.gathering.told.answers, gathered.gathering.told.told);
       follows = adds_then _ _ _ i.follows (adds_untouched g.D.Drive _ _ c.answer-answer.new.drive c.end_commit.new.drive c.end_commit.ensures.untouched e.answered.follows);
-      lent = follows_then i.lent (follows_then (follows_any e.lent) (untouched_follows c.answer-answer.new.drive c.end_commit.new.drive c.end_commit.ensures.untouched));
+      lent = follows_then i.lent (follows_then (follows_any e.lent) (untouched_keeps c.answer-answer.new.drive c.end_commit.new.drive c.end_commit.ensures.untouched c.end_commit.ensures.gathering));
     }
 
 pub returns : goal.returns

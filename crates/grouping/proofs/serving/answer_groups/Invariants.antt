@@ -1,4 +1,4 @@
-use Rattle.drive.specs.Reads.{ReadsAndWrites}
+use Rattle.grouping.specs.Groups.{MaySettle}
 use Rattle.engine.specs.Situation.{IsReady, seen_on}
 use Rattle.engine.proofs.Messages.{left_of}
 use Rattle.grouping.specs.Streams.{Grouping}
@@ -6,12 +6,12 @@ use Rattle.grouping.proofs.serving.answer_groups.Given as goal
 
 abbrev pub invariant-loop-alloc : goal.invariant-loop-alloc
 invariant-loop-alloc g l = record {
-  grouping : Grouping g.D.Drive g.D.Settles.phases g.D.Settles.gathers l.fn.frames l.frames
-      (seen_on g.D.Drive l.fn.engine l.fn.drive)
-      (seen_on g.D.Drive l.engine l.drive)
+  grouping : Grouping l.fn.frames l.frames
+      (seen_on g.D.Drive l.fn.engine l.fn.drive) (g.D.Drive.gathering l.fn.drive)
+      (seen_on g.D.Drive l.engine l.drive) (g.D.Drive.gathering l.drive)
       (g.W.Write.contents l.fn.writer) (g.W.Write.contents l.writer);
   ready : IsReady (seen_on g.D.Drive l.engine l.drive);
-  lent : ReadsAndWrites g.D.Drive 0 l.fn.drive l.drive;
+  lent : MaySettle g.D.Drive 0 l.fn.drive l.drive;
 }
 
 abbrev pub decreases-loop-alloc : goal.decreases-loop-alloc

@@ -1,13 +1,6 @@
 use Rattle.std.proofs.Common.{inr}
-use Rattle.embedding.specs.declared.medium.Medium.TheVariants.{Image}
 use Rattle.embedding.proofs.Beginning.{turned}
 use Rattle.embedding.proofs.session.Session.open_file.Goals as goal
 
 pub returns-in-Ok : goal.returns-in-Ok
-returns-in-Ok c = inr (
-  c.in-Ok.ensures.image.0,
-  c.in-Ok.drive,
-  c.in-Ok.ensures.image.1,
-  c.in-Ok.ensures.capacity,
-  turned (Image c.in-Ok.drive) c.turn_to.result c.args.self.now c.turn_to.new.self c.turn_to.ensures.opened c.turn_to.ensures.refused,
-)
+returns-in-Ok c = inr (c.in-Ok.medium, c.in-Ok.ensures.lies, turned c.in-Ok.medium c.turn_to.result c.args.self.now c.turn_to.new.self c.turn_to.ensures.opened c.turn_to.ensures.refused)

@@ -1,6 +1,7 @@
-use Rattle.std.proofs.Common.{◌∙◌}
-use Rattle.media.proofs.Finding.{fresh_file}
+use Rattle.std.proofs.Common.{ℕ, subst, ◌∙◌}
+use Rattle.media.specs.Held.{IsFresh}
+use Rattle.settling.specs.contracts.file.GatheringFileDriveDrive.TheImpl as gathering
 use Rattle.media.proofs.files.FileMediaMedia.open.Goals as goal
 
 pub returns-clause-fresh : goal.returns-clause-fresh
-returns-clause-fresh g c = fresh_file c.args.capacity c.found.result c.found.ensures.image (c.found.ensures.capacity ∙ c.in-Ok.ensures.capacity)
+returns-clause-fresh g c = subst (λ (n : ℕ). IsFresh gathering.ghosts n c.found.result) (c.in-Ok-over.ensures.capacity ∙ c.in-Ok.ensures.capacity) c.found.ensures.fresh

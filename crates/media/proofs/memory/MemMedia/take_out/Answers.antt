@@ -2,8 +2,8 @@ use Rattle.std.proofs.Common.{◌≡◌, List, length, get_or, Option, None, fal
 use Rattle.std.specs.Prelude.{is_none}
 use Rattle.std.specs.Option.{option_map}
 use Rattle.std.proofs.lemmas.Result.{IfOk-weaker, on_err_weaker}
-use Rattle.drive.specs.MemDrive.{journal_of}
-use Rattle.drive.specs.declared.memory.MemDrive.{MemDrive}
+use Rattle.settling.specs.Gathered.{journal_of}
+use Rattle.settling.specs.declared.memory.GatheringDrive.{GatheringDrive}
 use Rattle.media.specs.declared.memory.Slot.{Slot}
 use Rattle.media.specs.InMemory.{AreOthers, IsPlace, IsUnfit, is_empty, journal_in}
 use Rattle.media.proofs.Places.{slot_here, slot_none, set_here, set_alike, set_other}
@@ -14,7 +14,7 @@ returns-clause-opened c =
     let slots : List Slot = c.args.self.now.slots.items in
     let place : IsPlace slots c.args.path.now c.in-Some.place = subst (λ ss. IsPlace ss c.args.path.now c.in-Some.place) c.deref.ensures.value c.in-Some.ensures.found in
     IfOk-weaker c.take_drive.result _ _
-    (λ (d : MemDrive) is. slot_here journal_in None slots c.args.path.now c.in-Some.place c.index_mut.result.now place ∙ ap journal_in (sym c.index_mut.ensures.value) ∙ is) c.take_drive.ensures.opened
+    (λ (d : GatheringDrive) is. slot_here journal_in None slots c.args.path.now c.in-Some.place c.index_mut.result.now place ∙ ap journal_in (sym c.index_mut.ensures.value) ∙ is) c.take_drive.ensures.opened
 
 pub returns-clause-out : goal.returns-clause-out
 returns-clause-out c =
@@ -24,7 +24,7 @@ returns-clause-out c =
     let place : IsPlace slots c.args.path.now c.in-Some.place = subst (λ ss. IsPlace ss c.args.path.now c.in-Some.place) c.deref.ensures.value c.in-Some.ensures.found in
     let same : taken.path.items ≡ (get_or slots c.in-Some.place old).path.items = ap (λ p. p.items) c.take_drive.ensures.path ∙ ap (λ (s : Slot). s.path.items) c.index_mut.ensures.value in
     IfOk-weaker c.take_drive.result _ _
-    (λ (d : MemDrive) out. set_here is_empty false slots c.args.path.now c.in-Some.place old taken place same ∙ ap (λ (o : Option MemDrive). is_none o) out) c.take_drive.ensures.out
+    (λ (d : GatheringDrive) out. set_here is_empty false slots c.args.path.now c.in-Some.place old taken place same ∙ ap (λ (o : Option GatheringDrive). is_none o) out) c.take_drive.ensures.out
 
 pub returns-clause-others : goal.returns-clause-others
 returns-clause-others c =
@@ -76,4 +76,4 @@ returns-clause-kept c =
     let place : IsPlace slots c.args.path.now c.in-Some.place = subst (λ ss. IsPlace ss c.args.path.now c.in-Some.place) c.deref.ensures.value c.in-Some.ensures.found in
     let same : taken.path.items ≡ (get_or slots c.in-Some.place old).path.items = ap (λ p. p.items) c.take_drive.ensures.path ∙ ap (λ (s : Slot). s.path.items) c.index_mut.ensures.value in
     on_err_weaker c.take_drive.result
-    (λ kept. λ q. set_alike is_empty false slots q c.in-Some.place old taken place.below same (ap (λ (o : Option MemDrive). is_none o) kept ∙ ap is_empty c.index_mut.ensures.value)) c.take_drive.ensures.err
+    (λ kept. λ q. set_alike is_empty false slots q c.in-Some.place old taken place.below same (ap (λ (o : Option GatheringDrive). is_none o) kept ∙ ap is_empty c.index_mut.ensures.value)) c.take_drive.ensures.err

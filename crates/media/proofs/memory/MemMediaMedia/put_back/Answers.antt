@@ -1,7 +1,7 @@
 use Rattle.std.proofs.Common.{◌≡◌, ◌∙◌, List, get_or, None, false, length, sym, ap, subst}
 use Rattle.std.specs.Option.{option_map}
 use Rattle.std.proofs.lemmas.Bool.{false≢true}
-use Rattle.drive.specs.MemDrive.{journal_of}
+use Rattle.settling.specs.Gathered.{journal_of}
 use Rattle.media.specs.declared.memory.Slot.{Slot}
 use Rattle.media.specs.InMemory.{AreOthers, IsPlace, is_empty, journal_in}
 use Rattle.media.proofs.Places.{set_here, set_other, slot_none}

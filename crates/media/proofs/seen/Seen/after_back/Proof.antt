@@ -32,7 +32,7 @@ use denote.Triple.Table.{entered}
 use denote.Triple.Walked.{says, stay_none_ref, stay_none_slice, Stays, walk_of, Walks, ends_at, walked, Goes-none_ref, Goes-none_slice, walk_Meets}
 use Rattle.media.specs.declared.seen.Seen.{Seen}
 use Rattle.media.specs.contracts.seen.Seen as seen
-use Rattle.drive.specs.contracts.file.FileDrive as drives
+use Rattle.settling.specs.contracts.file.GatheringFileDrive as drives
 use Rattle.media.specs.contracts.seen.Seen.after_back.Key.{name as key}
 use Rattle.media.specs.contracts.seen.Seen.after_back as f
 use Rattle.media.proofs.seen.Seen.after_back.Statement as stated

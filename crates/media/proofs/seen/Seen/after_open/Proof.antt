@@ -33,7 +33,7 @@ use denote.Triple.Walked.{says, stay_none_ref, stay_none_slice, Stays, walk_of, 
 use Rattle.media.specs.Seen.{lookup, missed}
 use Rattle.media.specs.declared.seen.Seen.{Seen}
 use Rattle.media.specs.contracts.seen.Seen as seen
-use Rattle.drive.specs.contracts.file.FileDrive as drives
+use Rattle.settling.specs.contracts.file.GatheringFileDrive as drives
 use Rattle.media.specs.contracts.seen.Seen.after_open.Key.{name as key}
 use Rattle.media.specs.contracts.seen.Seen.after_open as f
 use Rattle.media.proofs.seen.Seen.after_open.Statement as stated

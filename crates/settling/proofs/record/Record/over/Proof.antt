@@ -47,7 +47,7 @@ module _ {M : Type 1} {𝓤 : Ura M} (𝓛 : Logic 𝓤) (mem : Memory → SProp
 
   module _ (κs : Lfts 1) (qs : Shares 1) (a : Args it.signature κs) where
     abbrev made : Record
-    made = record { marker = record {}; journal = journal_of a.0.now; writes = []; misreads = 0; phases = [] }
+    made = record { marker = record {}; journal = journal_of a.0.now; writes = []; misreads = 0; phases = []; waited = 0 }
 
     abbrev bound : (walk_of 𝓛 it.ended stayed (it.clauses 𝓛 mem run)).Ghost
     bound = ((κs, qs, tt, a, ((vptr a.0.ref_ptr.0 a.0.ref_ptr.1) ∷ [], tt)), tt)
@@ -63,7 +63,7 @@ module _ {M : Type 1} {𝓤 : Ura M} (𝓛 : Logic 𝓤) (mem : Memory → SProp
         sets ! (agg ! (no_more !)) refl (tt, tt) $ sets ! (agg ! (and_then ! (get ! refl) (no_more !))) refl (tt, (tt, tt)) $
         returns ! (look_at ! 0 refl) $ free_all ! refl $
         suffices ! _ (ends_at 𝓛 it.ended stayed (it.clauses 𝓛 mem run) bound v made (tt, tt) (tt, tt)) $
-        says ! (refl, refl, refl, refl) $ pure_i ! ((T.the_row).own_val made (v ∷ [])) ((λ vss. (tt, ((λ uss. (tt, tt)), tt))), tt) (((vstruct vnil ∷ [], tt), (refl, ((tt, (refl, tt)), tt))), tt) $
+        says ! (refl, refl, refl, refl, refl) $ pure_i ! ((T.the_row).own_val made (v ∷ [])) ((λ vss. (tt, ((λ uss. (tt, tt)), tt))), tt) (((vstruct vnil ∷ [], tt), (refl, ((tt, (refl, tt)), tt))), tt) $
         move ! (1 ∷ 2 ∷ 0 ∷ []) $ done !)
 
   walks : Walks 𝓛 it.ended stayed (WpFn 𝓤 H C Λ code.function) (it.clauses 𝓛 mem run)
