@@ -30,6 +30,8 @@ class Server:
         self.say: Say = honestly
         self.before: Callable[[bytes], Optional[Answer]] = lambda payload: None
         self.lost_behind: Optional[int] = None
+        # Whether this conversation ends once nothing more comes.
+        self.silent = False
         # As the daemon does, all answers to what was read go out together; else each by itself.
         self.together = True
         self.requests: List[bytes] = []
@@ -55,6 +57,7 @@ class Server:
                     self.serve(connection)
                 except OSError:
                     pass
+                self.silent = False
 
     def serve(self, connection: socket.socket) -> None:
         frames, unsent = Frames(), b""
@@ -63,6 +66,7 @@ class Server:
             while payload is None:
                 connection.sendall(unsent)
                 unsent = b""
+                connection.settimeout(0.03 if self.silent else None)
                 piece = connection.recv(1 << 16)
                 if not piece:
                     return

@@ -5,9 +5,7 @@ from __future__ import annotations
 import hashlib
 import os
 import random
-import sqlite3
 import unittest
-from contextlib import closing
 from typing import Any, Callable, Dict, List, Optional, Tuple
 
 from udfburn import Client
@@ -30,12 +28,6 @@ PHOTO = 2 * MEBIBYTE + 700_000
 
 def content(seed: int, size: int = PHOTO) -> bytes:
     return random.Random(seed).randbytes(size)
-
-
-def version_of(ledger: str) -> int:
-    """The version of a ledger."""
-    with closing(sqlite3.connect(ledger)) as base:
-        return int(base.execute("SELECT version FROM ledger").fetchone()[0])
 
 
 class Growing(Local):
@@ -151,17 +143,6 @@ class Put(Growing):
         self.assertEqual(self.put(rewrite=True).files, 1)
         self.assertEqual(self.volume.commits, commits + 5)
         self.assertEqual(self.files(), {"/x/a": content(1)})
-
-    def test_the_version_of_the_ledger(self) -> None:
-        """A client that knows no appends opens it until there is one in it."""
-        self.write("small", b"1")
-        self.put()
-        self.assertEqual(version_of(self.ledger), 3)
-        self.write("photo", content(1))
-        self.put()
-        self.assertEqual(version_of(self.ledger), 4)
-        self.write("photo", content(2))
-        self.assertEqual((self.put().files, version_of(self.ledger)), (1, 4))
 
     def test_dry_run(self) -> None:
         self.write("a", content(1))

@@ -33,7 +33,7 @@ BATCH, BATCHES = 100, 40
 """Files that are imported at once, and how many times a volume has room for the names of so many."""
 CODE = os.path.dirname(udfburn.__file__)
 NAMES = (
-    "session/session.py", "session/conversation.py", "session/recovery.py", "session/in_flight.py", "session/foresight.py", "session/recognition.py", "image/identity.py", "ledger/ledger.py", "ledger/file.py", "ledger/records.py", "ledger/schema.py", "trees/tree.py", "wire/connection.py",
+    "session/session.py", "session/conversation.py", "session/recovery.py", "session/in_flight.py", "session/shown.py", "session/recognition.py", "image/identity.py", "ledger/ledger.py", "ledger/file.py", "ledger/records.py", "ledger/schema.py", "trees/tree.py", "wire/connection.py",
     "trees/seal.py", "local/sources.py", "trees/ahead.py", "wire/library.py",
 )
 TRACED = {os.path.join(CODE, name) for name in NAMES}
@@ -208,6 +208,12 @@ class ClientKilled(WithPrograms):
         self.serve()
         self.way = f"unix:{self.path}"
         self.kill_often(KILLS, self.killed_by_line)
+
+    def test_by_time_on_an_image(self) -> None:
+        """The program goes on with what it has read, while the next one waits for the image."""
+        self.way = f"image:{self.image}"
+        self.longest = 0.5
+        self.kill_often(KILLS // 10, self.killed_by_time)
 
     def test_by_line_on_an_image(self) -> None:
         self.way = f"image:{self.image}"

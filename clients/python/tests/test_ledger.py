@@ -69,20 +69,6 @@ class Ledgers(WithServer):
         with self.client() as client:
             self.assertEqual(client.create("/after", b"1"), 9)
 
-    def test_an_append_in_memory(self) -> None:
-        """Where the ledger takes one over, a program that knows no appends does not open it any more."""
-        with self.client() as client:
-            client.create("/f", b"")
-            number = client.session().ledger.client
-        kept = MemoryLedger(number)
-        with Client(f"unix:{self.server.path}", ledger=kept, timeout=PATIENCE) as other:
-            other.do(p.Append, "/f", data=b"1")
-            with closing(Ledger(self.ledger)) as ledger:
-                (volume,) = ledger.volumes()
-                ledger.take(volume, kept)
-        with closing(sqlite3.connect(self.ledger)) as base:
-            self.assertEqual(base.execute("SELECT version FROM ledger").fetchall(), [(4,)])
-
     def test_the_client_stays(self) -> None:
         first = Ledger(self.ledger)
         client = first.client
@@ -119,7 +105,7 @@ class Ledgers(WithServer):
         base("names.sqlite", "CREATE TABLE ledger (what, ever)")
         base("none.sqlite", "CREATE TABLE ledger (version, client)")
         base("words.sqlite", "CREATE TABLE ledger (version, client)", "INSERT INTO ledger VALUES (1, 'me')")
-        base("newer.sqlite", "CREATE TABLE ledger (version, client)", "INSERT INTO ledger VALUES (5, '5')")
+        base("newer.sqlite", "CREATE TABLE ledger (version, client)", "INSERT INTO ledger VALUES (6, '5')")
         os.mkdir(os.path.join(room, "folder"))
         os.mkfifo(os.path.join(room, "pipe"))
 
@@ -129,7 +115,7 @@ class Ledgers(WithServer):
         before = found()
         self.assertEqual(len(before), 11)
         for name in before:
-            with self.assertRaisesRegex(e.LedgerError, "up to 4: use a newer program" if name == "newer.sqlite" else "is not a ledger .*--ledger", msg=name):
+            with self.assertRaisesRegex(e.LedgerError, "up to 5: use a newer program" if name == "newer.sqlite" else "is not a ledger .*--ledger", msg=name):
                 Ledger(os.path.join(room, name))
             self.assertEqual(found(), before, name)
         with self.assertRaises(e.LedgerError):
@@ -260,7 +246,7 @@ class Ledgers(WithServer):
             made[there] += 1
             if there:
                 base = sqlite3.connect(path)
-                self.assertEqual(base.execute("SELECT * FROM ledger").fetchall(), [(3, "5")])
+                self.assertEqual(base.execute("SELECT * FROM ledger").fetchall(), [(5, "5")])
                 base.close()
             Ledger(path, client=5 if there else 7, wait=0.0).close()
             self.assertEqual(sorted(os.listdir(room)), ["ledger.sqlite", "ledger.sqlite.lock"])
@@ -305,16 +291,14 @@ class Ledgers(WithServer):
         self.assertEqual((done, self.volume.commits, len(self.volume.files())), (90, 90, 90))
 
     def filled(self, ledger: Ledger, volume: Known, count: int) -> List[int]:
-        """Keeps two requests of 4 KiB at a time, as an import does, and gives the lengths that the log had."""
+        """Keeps ten requests of 4 KiB at a time, as an import does, and gives the lengths that the log had."""
         lengths, last, data = [], ledger.latest(volume), bytes(4200)
-        for number in range(last + 1, last + count, 2):
-            fresh = [Pending(number + step, data, f"/{number + step}") for step in range(2)]
-            replies = [Reply(number + step - 2, 0, Commit(number + step - 2), True) for step in range(2)] if number > last + 1 else []
-            if replies:
-                ledger.foresee(volume, replies, fresh)
+        for number in range(last + 1, last + count, 10):
+            fresh = [Pending(number + step, data, f"/{number + step}") for step in range(10)]
+            replies = [Reply(number + step - 10, 0, Commit(number + step - 10), True) for step in range(10)] if number > last + 1 else []
             ledger.record(volume, replies, fresh)
             lengths.append(os.path.getsize(self.ledger + "-wal"))
-        ledger.record(volume, [Reply(number + step, 0, Commit(number + step), True) for step in range(2)], [])
+        ledger.record(volume, [Reply(number + step, 0, Commit(number + step), True) for step in range(10)], [])
         return lengths
 
     def test_the_log_grows_once(self) -> None:
@@ -324,18 +308,18 @@ class Ledgers(WithServer):
             ledger.record(volume, [], [Pending(1, b"one", "/one")])
             ledger.record(volume, [Reply(1, 0, Commit(1), True)], [])
             self.assertLess(os.path.getsize(self.ledger + "-wal"), 100_000, "who stores one file writes no long log")
-            lengths = self.filled(ledger, volume, 400)
-            self.assertEqual(set(lengths[1:]), {LOG_BYTES})
-            self.assertEqual(len(ledger.history(volume)), 401)
+            lengths = self.filled(ledger, volume, 2000)
+            self.assertEqual(set(lengths), {LOG_BYTES})
+            self.assertEqual(len(ledger.history(volume)), 2001)
 
     def test_the_log_as_a_crash_leaves_it(self) -> None:
         """Zeros after its last page are none, also where it was written from its beginning again."""
         with closing(Ledger(self.ledger)) as ledger:
             volume = ledger.learn("way", 0)
-            for count in (4, 60, 200):
+            for count in (10, 60, 500):
                 self.filled(ledger, volume, count)
                 ledger.record(volume, [], [Pending(ledger.latest(volume) + 1, b"pending", "/pending")])
-                self.assertEqual(self.kept("SELECT payload FROM request JOIN frame ON frame.id = volume * 4 + number % 4 WHERE code IS NULL"), [(b"pending",)])
+                self.assertEqual(self.kept("SELECT payload FROM request JOIN frame ON frame.id = volume * 64 + number % 64 WHERE code IS NULL"), [(b"pending",)])
                 self.assertEqual(self.kept("SELECT count(*) FROM request"), [(len(ledger.history(volume)),)])
                 ledger.withdraw(volume)
 

@@ -1,4 +1,4 @@
-"""What a ledger keeps of numbers and images, and when its log is taken over."""
+"""What a ledger keeps of numbers and images."""
 
 from __future__ import annotations
 
@@ -8,14 +8,12 @@ import shutil
 import tempfile
 import unittest
 from contextlib import closing
-from typing import List
 from unittest import mock
 
 from udfburn.base import errors as e
-from udfburn import protocol as p
-from udfburn.ledger.ledger import GREATEST_NUMBER, LOG_PAGES, Ledger, MemoryLedger, Pending
+from udfburn.ledger.ledger import GREATEST_NUMBER, Ledger, MemoryLedger, Pending, Reply
 from udfburn.ledger.reading import ledger_to_read
-from udfburn.ledger.records import Identity, Mark
+from udfburn.ledger.records import NOT_KEPT, Identity, Mark
 from udfburn.protocol.units import Address, Commit, Moment
 
 
@@ -26,10 +24,10 @@ class Kept(unittest.TestCase):
         self.path = os.path.join(self.room, "ledger.sqlite")
 
     def test_the_last_numbers(self) -> None:
-        """No request gets a number that the volume cannot keep four replies before."""
+        """There is room for all requests that may be without a reply."""
         with closing(Ledger(self.path)) as ledger:
-            self.assertEqual(ledger.learn("one", GREATEST_NUMBER - p.limits.REPLIES - 1).latest, GREATEST_NUMBER - p.limits.REPLIES - 1)
-            for latest in (GREATEST_NUMBER - p.limits.REPLIES, GREATEST_NUMBER):
+            self.assertEqual(ledger.learn("one", GREATEST_NUMBER - 65).latest, GREATEST_NUMBER - 65)
+            for latest in (GREATEST_NUMBER - 64, GREATEST_NUMBER):
                 with self.assertRaisesRegex(e.LedgerError, "no numbers left"):
                     ledger.learn("two", latest)
 
@@ -49,18 +47,29 @@ class Kept(unittest.TestCase):
                 with self.assertRaises(error), ledger_to_read(self.path, 0.0):
                     self.fail("it was read")
 
-    def test_the_log_is_taken_over_before_it_is_full(self) -> None:
-        """Once more than seven eighths of its pages were written, while there is time."""
+    def test_sixty_four_without_a_reply(self) -> None:
+        """Each has its own payload, also beside those of other volumes, and of later numbers."""
         with closing(Ledger(self.path)) as ledger:
-            volume = ledger.learn("way", 0)
-            said: List[str] = []
-            ledger._base.set_trace_callback(said.append)
-            for logged, transactions, times in ((LOG_PAGES * 7 // 8, 1, 0), (LOG_PAGES * 7 // 8 + 1, 2, 1)):
-                ledger._logged = logged
-                for _ in range(transactions):
-                    ledger.foresee(volume, [], [Pending(1, b"one", "/one")])
-                    ledger.set_back()
-                self.assertEqual(said.count("PRAGMA wal_checkpoint"), times, logged)
+            volumes = [ledger.learn(way, 100) for way in ("one", "two", "three")]
+            for begin in (101, 130, 1000):
+                for volume in volumes:
+                    fresh = [Pending(number, f"{volume.id} {number}".encode(), "/") for number in range(begin, begin + 64)]
+                    ledger.record(volume, [], fresh)
+                for volume in volumes:
+                    waiting = ledger.pending(volume)
+                    self.assertEqual([(one.number, one.payload.decode()) for one in waiting], [(n, f"{volume.id} {n}") for n in range(begin, begin + 64)])
+                    ledger.withdraw(volume)
+
+    def test_a_reply_that_is_not_known(self) -> None:
+        """Its number is spent, its commit is known, and no code stands for it."""
+        with closing(Ledger(self.path)) as ledger:
+            volume = ledger.learn("way", 6)
+            ledger.record(volume, [], [Pending(number, b"", f"/{number}") for number in (7, 8)])
+            ledger.record(volume, [Reply(8, NOT_KEPT, Commit(9), False)], [])
+            self.assertEqual([waiting.number for waiting in ledger.pending(volume)], [7])
+            ledger.record(volume, [Reply(7, 3, Commit(8), True)], [])
+            self.assertEqual((ledger.latest(volume), ledger.last_commit(volume), ledger.pending(volume)), (8, 9, []))
+            self.assertEqual(ledger.history(volume), [(7, "/7", 3, 8, True), (8, "/8", None, 9, False)])
 
 
 if __name__ == "__main__":

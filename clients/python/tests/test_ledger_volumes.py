@@ -7,7 +7,7 @@ import os
 import sqlite3
 import unittest
 from contextlib import closing
-from typing import Optional
+from typing import List, Optional, Tuple
 
 from udfburn import Client
 from udfburn import protocol as p
@@ -15,6 +15,7 @@ from udfburn.base import errors as e
 from udfburn.ledger.ledger import Pending, Reply
 from udfburn.ledger.records import facts_of
 from udfburn.protocol.units import Commit, Moment
+from udfburn.wire.operations import Operation
 
 from .model import File, Volume
 from .server import Server, request_of
@@ -157,23 +158,39 @@ class Volumes(WithServer):
             replies = dict(self.kept("SELECT number, commit_number FROM request WHERE code IS NOT NULL AND confirmed"))
             self.assertEqual(replies.get(outcome.number), outcome.commit)
 
-    def test_pending_is_at_most_four(self) -> None:
-        """At every request the ledger has that request and at most four without a reply."""
+    def test_what_is_pending(self) -> None:
+        """At every request the ledger has that request and at most 64 without a reply; where the tree does not show what became of each, at
+        most four."""
+        files = creates(240)
+        renames = [Operation(p.Rename, file.path, Moment(1), to=(f"g{index}",)) for index, file in enumerate(files[:12])]
+        removals = [Operation(p.Remove, renamed.to, Moment(2)) for renamed in renames]
+        again = [file._replace(kind=p.Replace) for file in files[-12:] for _ in range(2)]
+        appends = [Operation(p.Append, file.path, Moment(3), b"x") for file in files[100:112]]
+        folders = [Operation(p.MakeDir, (f"d{index}",), Moment(4)) for index in range(70)]
+        cases = ((files, 64), (renames, 4), (removals, 4), (again[::2] + again[::2], 12), (again, 4), (appends, 4), (folders, 64))
+        for operations, most in cases:
+            self.check_pending(operations, most)
+        # One that takes care, among others: all those that were sent are answered before it goes.
+        self.check_pending(creates(40, 300) + [Operation(p.Remove, ("f300",), Moment(1))] + creates(40, 400), 40)
+
+    def check_pending(self, operations: List[Operation], most: int) -> None:
         client = self.client()
-        seen = []
+        seen: List[Tuple[int, bool]] = []
 
         def before(payload: bytes) -> Optional[p.Answer]:
             message = request_of(payload)
             if message:
-                pending = dict(self.kept("SELECT number, payload FROM request JOIN frame ON frame.id = volume * 4 + number % 4 WHERE code IS NULL"))
+                pending = dict(self.kept("SELECT number, payload FROM request JOIN frame ON frame.id = volume * 64 + number % 64 WHERE code IS NULL"))
                 seen.append((len(pending), pending.get(message.number) == payload))
             return None
 
         self.server.before = before
-        list(client.run(creates(24)))
-        self.assertEqual(len(seen), 24)
-        self.assertTrue(all(1 <= count <= 4 and kept for count, kept in seen), seen)
-        self.assertEqual(max(count for count, _ in seen), 4)
+        with client:
+            list(client.run(operations))
+        self.server.before = lambda payload: None
+        self.assertEqual(len(seen), len(operations))
+        self.assertTrue(all(1 <= count <= most and kept for count, kept in seen), seen)
+        self.assertEqual(max(count for count, _ in seen), most)
 
 
 if __name__ == "__main__":

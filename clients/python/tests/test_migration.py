@@ -13,7 +13,7 @@ import sqlite3
 import sys
 import unittest
 from contextlib import closing
-from typing import List, Tuple
+from typing import Dict, List, Tuple
 
 from udfburn import Client
 from udfburn.base import errors as e
@@ -72,13 +72,17 @@ class Migration(WithServer):
         with closing(sqlite3.connect(self.ledger)) as base:
             return base.execute(words).fetchall()
 
+    def frames(self) -> Dict[int, bytes]:
+        """The payloads that the ledger keeps, by their places."""
+        return {int(str(place)): bytes(payload) for place, payload in self.asked(FRAMES) if isinstance(payload, bytes)}
+
     def by(self, path: str) -> Client:
         made = Client(f"unix:{path}", ledger=self.ledger)
         self.addCleanup(made.close)
         return made
 
     def test_nothing_is_lost(self) -> None:
-        rows, frames = self.asked(ROWS), self.asked(FRAMES)
+        rows, frames = self.asked(ROWS), self.frames()
         with closing(Ledger(self.ledger)) as ledger:
             self.assertEqual(ledger.client, CLIENT)
             self.assertEqual([volume.latest for volume in ledger.volumes()], [6, 1, 8, 9])
@@ -87,19 +91,20 @@ class Migration(WithServer):
             (pending,) = ledger.pending(ledger.volumes()[3])
             self.assertEqual((pending.number, pending.path), (10, "/pending"))
         self.assertEqual(self.asked(ROWS), rows)
-        self.assertEqual(self.asked(FRAMES), frames)
-        self.assertEqual(self.asked("SELECT version FROM ledger"), [(3,)])
+        # Of four places for a volume and of 64: that of request 10 of volume 4.
+        self.assertEqual(self.asked(FRAMES), [(4 * 64 + 10, frames[4 * 4 + 10 % 4])])
+        self.assertEqual(self.asked("SELECT version FROM ledger"), [(5,)])
         Ledger(self.ledger).close()
         self.assertEqual(self.asked(ROWS), rows)
 
     def test_of_version_2(self) -> None:
         """What it has is there as it was, and its frames, which have all their data, are sent as they are."""
         self.write_ledger("ledger_v2.sql")
-        everything, frames = "SELECT * FROM request ORDER BY number", self.asked(FRAMES)
+        everything, frames = "SELECT * FROM request ORDER BY number", self.frames()
         rows = self.asked(everything)
         Ledger(self.ledger).close()
-        self.assertEqual(self.asked("SELECT version FROM ledger"), [(3,)])
-        self.assertEqual((self.asked(everything), self.asked(FRAMES)), (rows, frames))
+        self.assertEqual(self.asked("SELECT version FROM ledger"), [(5,)])
+        self.assertEqual((self.asked(everything), self.asked(FRAMES)), (rows, [(64 + 7, frames[4 + 7 % 4]), (64 + 8, frames[4 + 8 % 4])]))
         self.one.volume = Volume()
         self.one.volume.answer(p.MakeDir(CLIENT, 1, Moment(10), ("d",)))
         for index in range(5):
@@ -109,6 +114,33 @@ class Migration(WithServer):
             self.assertEqual(client.create("/next", b""), 9)
         self.assertEqual(self.one.volume.files()[("first",)], bytes(range(64)))
         self.assertEqual(self.one.volume.files()[("second",)], b"pending bytes")
+
+    def test_of_versions_3_and_4(self) -> None:
+        """A request of which the ledger has the place of its data, and one of which it has all: both are sent as they were."""
+        source = os.path.join(self.room, "source")
+        with open(source, "wb") as file:
+            file.write(bytes(range(64)))
+        modified = os.stat(source).st_mtime_ns
+        for version in (3, 4):
+            self.write_ledger("ledger_v2.sql")
+            frames = self.frames()
+            with closing(sqlite3.connect(self.ledger)) as base, base:
+                for column in ("origin BLOB", "start INTEGER", "size_then INTEGER", "modified INTEGER"):
+                    base.execute(f"ALTER TABLE frame ADD COLUMN {column}")
+                head, place = frames[4 + 7 % 4][:-64], (os.fsencode(source), 0, 64, modified)
+                base.execute("UPDATE frame SET payload = ?, origin = ?, start = ?, size_then = ?, modified = ? WHERE id = ?", (head, *place, 4 + 7 % 4))
+                base.execute("UPDATE ledger SET version = ?", (version,))
+            with closing(Ledger(self.ledger)) as ledger:
+                first, second = ledger.pending(ledger.volumes()[0])
+            self.assertEqual((first.number, first.payload, first.origin), (7, head, (source, 0, 64, modified)))
+            self.assertEqual((second.number, second.payload, second.origin), (8, frames[4 + 8 % 4], None))
+            self.one.volume = Volume()
+            self.one.volume.answer(p.MakeDir(CLIENT, 1, Moment(10), ("d",)))
+            for index in range(5):
+                self.one.volume.answer(p.Create(CLIENT, 2 + index, Moment(100 + index), ("d", f"f{index}"), b"x" * index))
+            with self.by(self.one.path) as client:
+                self.assertEqual(client.resume(), [(7, "/first", p.Code.DONE, 7), (8, "/second", p.Code.DONE, 8)])
+            self.assertEqual(self.one.volume.files()[("first",)], bytes(range(64)))
 
     def test_what_the_last_frames_say_is_kept(self) -> None:
         with closing(Ledger(self.ledger)) as ledger:
@@ -214,7 +246,7 @@ class Migration(WithServer):
             with closing(Ledger(self.ledger)) as ledger:
                 self.assertEqual([volume.latest for volume in ledger.volumes()], [6, 1, 8, 9])
             self.assertEqual(self.asked(ROWS), rows)
-        self.assertEqual(versions, {1, 3})
+        self.assertEqual(versions, {1, 5})
         self.assertGreater(lines, 50)
 
 

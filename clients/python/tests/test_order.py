@@ -20,7 +20,7 @@ from .with_server import PACKAGE, WithServer
 
 HERE = os.path.dirname(os.path.abspath(__file__))
 RECORD = struct.Struct("<4Iq")
-PENDING = "SELECT number, payload, origin, start, size FROM request JOIN frame ON frame.id = volume * 4 + number % 4 WHERE code IS NULL"
+PENDING = "SELECT number, payload, origin, start, size FROM request JOIN frame ON frame.id = volume * 64 + number % 64 WHERE code IS NULL"
 CONFIRMED = "SELECT path FROM request WHERE code = 0 AND confirmed"
 
 
@@ -125,6 +125,7 @@ class Order(WithServer):
     """An import that deletes its sources, followed call by call."""
 
     FILES = 48
+    whole = led = most = 0
 
     def setUp(self) -> None:
         super().setUp()
@@ -182,7 +183,7 @@ class Order(WithServer):
         return payload + self.stored[os.fsdecode(origin)][start : start + size]
 
     def check_sent(self, states: List[Files], payload: bytes, sent: Set[int]) -> None:
-        """A request that goes out is pending in every state, with at most three others."""
+        """A request that goes out is pending in every state, with at most 63 others."""
         request = request_of(payload)
         if request is None:
             return
@@ -190,13 +191,14 @@ class Order(WithServer):
         for state in states:
             pending: Dict[object, object] = {row[0]: self.kept_payload(row) for row in self.asked(state, PENDING)}
             self.assertEqual(pending.get(request.number), payload, f"request {request.number} was sent before it was kept")
-            self.assertLessEqual(len(pending), 4)
+            self.assertLessEqual(len(pending), 64)
+            self.most = max(self.most, len(pending))
 
     def check_whole(self, states: List[Files]) -> None:
         """A file of the ledger's name is a whole ledger in every state."""
         for state in states:
             if os.path.join(self.room, "kept", "ledger.sqlite") in state:
-                self.assertEqual(len(self.asked(state, "SELECT client FROM ledger WHERE version = 3")), 1)
+                self.assertEqual(len(self.asked(state, "SELECT client FROM ledger WHERE version = 5")), 1)
                 self.whole += 1
 
     def follow(self, calls: List[Call]) -> "tuple[Set[int], Set[str]]":
@@ -225,11 +227,12 @@ class Order(WithServer):
         return sent, removed
 
     def check(self, *words: str) -> None:
-        self.whole = self.led = 0
+        self.whole = self.led = self.most = 0
         sent, removed = self.follow(self.logged(*words))
         self.assertGreater(self.whole, 3)
         # Each of the three in each state in which it is pending.
         self.assertGreaterEqual(self.led, 9)
+        self.assertGreater(self.most, 32)
         self.assertEqual(sent, set(range(1, self.FILES + 2)))
         self.assertEqual(removed, {f"/x/f{index}" for index in range(self.FILES)})
         self.assertEqual(len(self.volume.files()), self.FILES)

@@ -24,7 +24,7 @@ from udfburn.wire.connection import Connection
 from udfburn.ledger.records import LARGE_DATA
 from udfburn.protocol.units import Commit, Moment
 from udfburn.wire.operations import Operation
-from udfburn.session.in_flight import InFlightRequest
+from udfburn.session.in_flight import Group
 from udfburn.session.session import Session
 from udfburn.trees.tree import ImportOptions, put_all
 
@@ -319,7 +319,7 @@ def die_before_sending(count: int) -> None:
     """Kills this process where it would send requests for this time."""
     left, real = [count], Session._sent
 
-    def sent(session: Session, connection: Connection, fresh: List[InFlightRequest]) -> bool:
+    def sent(session: Session, connection: Connection, fresh: Group) -> bool:
         left[0] -= 1
         if not left[0]:
             os.kill(os.getpid(), signal.SIGKILL)

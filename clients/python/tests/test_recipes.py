@@ -142,7 +142,7 @@ class Interrupted(WithPrograms):
         for steps in (1, 5, 10, 20, 40):
             self.assertIn("finishes what is under way", self.interrupted(steps, self.words(*put)))
             self.assertLess(self.commits(), len(above) + count)
-            self.assertRegex(self.run_command("resume"), "[0-4] requests? w(as|ere) pending")
+            self.assertRegex(self.run_command("resume"), r"\b([1-5]?[0-9]|6[0-4]) requests? w(as|ere) pending")
         self.run_command(*put)
         self.assertIn("all are there", self.run_command("verify", folder, path, "--exact"))
         self.assertEqual(self.commits(), len(above) + count, "each request once")

@@ -358,14 +358,14 @@ class Turns(WithServer):
 
         self.server.before = before
         client = self.client()
-        # The clock counts what the server was asked. A turn is over after 5 answers: then at most 6 requests with a question each were
+        # The clock counts what the server was asked. A turn is over after 5 answers: then at most 64 requests with a question each were
         # sent, or 20 questions, however far the server is ahead.
         clock = SimpleNamespace(monotonic=lambda: now[0], sleep=time.sleep)
         with mock.patch("udfburn.wire.retrying.TURN", 4), mock.patch("udfburn.wire.retrying.time", clock):
-            list(client.run(creates(60)))
+            list(client.run(creates(400)))
             imports = self.server.conversations
-            self.assertGreaterEqual(imports, 60 / 6)
-            self.assertEqual(self.volume.commits, 60)
+            self.assertGreaterEqual(imports, 400 / 64)
+            self.assertEqual(self.volume.commits, 400)
             self.assertEqual(len(list(client.ask_all(p.Get((f"f{index}",)) for index in range(60)))), 60)
             self.assertGreaterEqual(self.server.conversations - imports, 60 / 20)
 

@@ -1,19 +1,16 @@
-"""What a session makes ready while requests are under way: the next ones, and what is kept once their replies come."""
+"""What a session makes ready while requests are under way, and which go out as one group."""
 
 from __future__ import annotations
 
-import os
 import unittest
-from contextlib import closing
-from typing import Callable, Deque, Iterator, List, Tuple
+from typing import Iterator, List, Tuple
 from unittest import mock
 
 from udfburn import protocol as p
 from udfburn.base import errors as e
-from udfburn.ledger.ledger import Ledger, Pending, Reply
-from udfburn.protocol.units import Commit
-from udfburn.session.in_flight import InFlightRequest
-from udfburn.wire.connection import SOCKET_PIECE, Connection
+from udfburn.protocol.units import Moment
+from udfburn.session.in_flight import Group, InFlightRequest, Window
+from udfburn.wire.connection import Connection
 from udfburn.wire.operations import Operation
 
 from .model import Volume
@@ -28,131 +25,83 @@ class Ahead(WithServer):
         taken: List[int] = []
         ahead: List[int] = []
 
-        def operations() -> Iterator[Operation]:
-            for index, operation in enumerate(creates(20)):
+        def operations(wanted: List[Operation]) -> Iterator[Operation]:
+            taken.clear()
+            for index, operation in enumerate(wanted):
                 taken.append(index + 1)
                 yield operation
 
-        def before(payload: bytes) -> None:
-            request = request_of(payload)
-            # All before it are answered, so that nothing but the taking is waited for.
-            if request:
-                number = request.number
-                await_true(lambda: len(taken) >= min(number + 4, 20))
-                ahead.append(len(taken) - number)
+        def at_work(wanted: List[Operation], first: int, beyond: int) -> None:
+            """Each request waits until so many after it are taken."""
+            ahead.clear()
 
-        self.server.before, self.server.together = before, False
-        self.assertEqual([outcome.number for outcome in self.client().run(operations())], list(range(1, 21)))
-        # Of four under way the first is at work, and at most two are taken after them.
+            def before(payload: bytes) -> None:
+                request = request_of(payload)
+                # All before it are answered, so that nothing but the taking is waited for.
+                if request:
+                    number = request.number - first
+                    await_true(lambda: len(taken) >= min(number + beyond, len(wanted)))
+                    ahead.append(len(taken) - number)
+
+            self.server.before, self.server.together = before, False
+            with self.client() as client:
+                self.assertEqual([outcome.number - first for outcome in client.run(operations(wanted))], list(range(1, len(wanted) + 1)))
+
+        # Of two groups of 32 the first is at work, at most a third is made ready, and one more was looked at.
+        at_work(creates(200), 0, 64)
+        self.assertIn(max(ahead), range(64, 97))
+        # And of two groups of two: few are made ready, so that what depends on outcomes comes soon after them.
+        at_work([Operation(p.Remove, (f"f{index}",), Moment(1)) for index in range(40)], 200, 4)
         self.assertIn(max(ahead), range(4, 6))
 
-    def test_two_go_out_while_two_are_under_way(self) -> None:
-        """So the server is at work while replies are kept: it never has to wait for all four."""
+    def groups(self, operations: List[Operation], answers: int = 10 + 23) -> List[int]:
+        """The requests of each group that went out, and below 0 those that were finished after it. The answers come in pieces of this size."""
         steps: List[int] = []
         client = self.client()
         session = client.session()
         send, receive = session._sent, session._received
 
-        def sent(connection: Connection, fresh: List[InFlightRequest]) -> bool:
+        def sent(connection: Connection, fresh: Group) -> bool:
             steps.append(len(fresh))
             return send(connection, fresh)
 
-        def received(connection: Connection, window: Deque[InFlightRequest]) -> Tuple[List[InFlightRequest], bool]:
-            finished, troubled = receive(connection, window)
+        def received(connection: Connection, window: Window, lasts: bool) -> Tuple[List[InFlightRequest], bool]:
+            finished, troubled = receive(connection, window, lasts)
             steps.append(-len(finished))
             return finished, troubled
 
-        with self.direct(client), mock.patch.object(session, "_sent", sent), mock.patch.object(session, "_received", received):
-            self.assertEqual(len(list(client.run(creates(12)))), 12)
-        self.assertEqual([step for step in steps if step][:10], [2, 2, -2, 2, -2, 2, -2, 2, -2, 2])
+        with client, self.direct(client, answers), mock.patch.object(session, "_sent", sent), mock.patch.object(session, "_received", received):
+            self.assertEqual(len(list(client.run(operations))), len(operations))
+        return [step for step in steps if step]
+
+    def test_a_group_goes_out_while_another_is_under_way(self) -> None:
+        """So the server is at work while replies are kept: it never has to wait for all of both."""
+        self.assertEqual(self.groups(creates(150)), [32, 32, -32, 32, -32, 32, -32, 22, -32, -22])
+        removals = [Operation(p.Remove, (f"f{index}",), Moment(1)) for index in range(7)]
+        self.assertEqual(self.groups(removals, 10 + 6), [2, 2, -2, 2, -2, 1, -2, -1])
+
+    def test_groups_of_large_files(self) -> None:
+        """Four mebibytes of data, as four files of the greatest size are; whatever is larger than the rest of it waits."""
+        large = [Operation(p.Create, (f"g{index}",), Moment(1), bytes(p.limits.FILE)) for index in range(10)]
+        self.assertEqual(self.groups(large), [4, 4, -4, 2, -4, -2])
+        mixed = [Operation(p.Create, (f"h{index}",), Moment(1), bytes(p.limits.FILE - index % 2)) for index in range(5)] + creates(30)
+        self.assertEqual(self.groups(mixed), [4, 31, -4, -31])
 
     def test_another_volume_between_two_turns(self) -> None:
         """Nothing is sent to it: what was acknowledged before is not there."""
         client, first = self.client(), self.volume
 
         def before(payload: bytes) -> None:
-            if is_probe(payload) and payload[9:17] == b"\xff" * 8 and first.commits == 4:
+            if is_probe(payload) and payload[9:17] == b"\xff" * 8 and first.commits == 64:
                 self.server.volume = Volume()
 
         self.server.before = before
         done: List[p.Path] = []
         # Each turn is over at once, also by a clock that stands still.
-        with mock.patch("udfburn.wire.retrying.TURN", -1.0), self.assertRaisesRegex(e.EmptyVolume, "empty .*up to 2 .*--forget"):
-            done.extend(outcome.operation.path for outcome in client.run(creates(7)))
-        self.assertEqual(done, [("f0",), ("f1",)])
-        self.assertEqual((first.commits, self.volume.commits), (4, 0))
-
-
-class Foreseen(WithServer):
-    """Transactions that are begun before the answers come, and what comes in place of what was foreseen."""
-
-    def done(self, operations: List[Operation], most: int = SOCKET_PIECE) -> Tuple[List[p.Code], int]:
-        """The codes of operations, and how many transactions were as foreseen."""
-        client = self.client()
-        ends: List[bool] = []
-        ledger = client.session().ledger
-        real = ledger.record
-
-        def record(*words: object) -> None:
-            ends.append(ledger._foreseen is not None and ledger._foreseen == words)
-            real(*words)  # type: ignore[arg-type]
-
-        with self.direct(client, most), mock.patch.object(ledger, "record", record):
-            outcomes = list(client.run(operations))
-        self.assertFalse(ledger._base.in_transaction)
-        history = ledger.history(client.session().volume())[-len(outcomes) :]
-        self.assertEqual([(n, code, commit, True) for _, code, commit, n in outcomes], [(n, code, commit, sure) for n, _, code, commit, sure in history])
-        client.close()
-        return [outcome.code for outcome in outcomes], sum(ends)
-
-    def test_all_as_foreseen(self) -> None:
-        self.assertEqual(self.done(creates(40)), ([p.Code.DONE] * 40, 18))
-
-    def test_answers_in_pieces(self) -> None:
-        """Those to two requests with their questions have 66 bytes: what came of them in part is not taken for what was foreseen."""
-        for most, foreseen in ((1, 0), (10, 0), (33, 0), (65, 0), (66, 18), (99, 18)):
-            self.assertEqual(self.done(creates(40, self.volume.commits), most), ([p.Code.DONE] * 40, foreseen), most)
-
-    def test_over_a_socket(self) -> None:
-        client = self.client()
-        for together in (True, False):
-            self.server.together = together
-            self.assertEqual([outcome.code for outcome in client.run(creates(40, self.volume.commits))], [p.Code.DONE] * 40)
-
-    def test_a_refusal_in_place_of_what_was_foreseen(self) -> None:
-        other = self.client(os.path.join(self.room, "other.sqlite"))
-        other.create("/f9", b"")
-        other.create("/f30", b"")
-        codes, foreseen = self.done(creates(40))
-        self.assertEqual([index for index, code in enumerate(codes) if code is p.Code.EXISTS], [9, 30])
-        # Nor the first two, since they have other commits than a new ledger knows of.
-        self.assertEqual(foreseen, 15)
-
-    def test_other_commits_between(self) -> None:
-        self.volume.commits = 1000
-        self.assertEqual(self.done(creates(40)), ([p.Code.DONE] * 40, 17))
-
-    def test_nothing_of_it_is_kept_before_it_came(self) -> None:
-        with closing(Ledger(self.ledger)) as ledger:
-            volume = ledger.learn("way", 0)
-            first, second = Pending(1, b"one", "/one"), Pending(2, b"two", "/two")
-            ledger.record(volume, [], [first])
-            foreseen = volume, [Reply(1, 0, Commit(1), True)], [second]
-            others: List[Callable[..., object]] = [ledger.pending, ledger.latest, ledger.last_commit, ledger.history]
-            for other in others + [lambda _: ledger.volume("way"), lambda _: ledger.volumes()]:
-                known = other(volume)
-                ledger.foresee(*foreseen)
-                self.assertEqual(other(volume), known)
-            ledger.foresee(*foreseen)
-            ledger.record(volume, [Reply(1, 0, Commit(7), True)], [])
-            self.assertEqual(ledger.history(volume), [(1, "/one", 0, 7, True)])
-            ledger.foresee(volume, [], [second])
-        with closing(Ledger(self.ledger)) as ledger:
-            self.assertEqual(ledger.pending(volume), [])
-            ledger.foresee(volume, [], [second])
-            ledger.record(volume, [], [second])
-        with closing(Ledger(self.ledger)) as ledger:
-            self.assertEqual(ledger.pending(volume), [second])
+        with mock.patch("udfburn.wire.retrying.TURN", -1.0), self.assertRaisesRegex(e.EmptyVolume, "empty .*up to 64 .*--forget"):
+            done.extend(outcome.operation.path for outcome in client.run(creates(100)))
+        self.assertEqual(done, [(f"f{index}",) for index in range(64)])
+        self.assertEqual((first.commits, self.volume.commits), (64, 0))
 
 
 if __name__ == "__main__":

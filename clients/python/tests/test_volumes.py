@@ -19,7 +19,7 @@ from udfburn.wire.operations import Operation
 from udfburn.protocol import Create
 from udfburn.protocol.units import Moment
 from udfburn.session.recognition import see
-from udfburn.session.in_flight import InFlightRequest
+from udfburn.session.in_flight import Group, InFlightRequest
 from udfburn.session.session import Session
 
 from .programs import UDFBURN, Daemon, WithPrograms
@@ -249,7 +249,7 @@ class Which(WithPrograms):
     def crash_with_replies(self) -> object:
         real = Session._keep
 
-        def keep(session: Session, finished: List[InFlightRequest], fresh: List[InFlightRequest]) -> None:
+        def keep(session: Session, finished: List[InFlightRequest], fresh: Group) -> None:
             if finished:
                 raise Crash
             real(session, finished, fresh)

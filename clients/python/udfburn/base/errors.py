@@ -119,6 +119,15 @@ class Rejected(NotCommitted):
     """The program answered that the request is malformed."""
 
 
+class ReplyNotKept(UdfburnError):
+    """A request is committed, the volume does not keep its reply any more, and the tree does not have what it asked for: it was refused, or
+    somebody else changed that since. `replies` are those to the others that were under way, by number."""
+
+    def __init__(self, *words: object):
+        super().__init__(*words)
+        self.replies: "Dict[int, Committed]" = {}
+
+
 class DriveFailed(UdfburnError):
     """The drive failed again and again; what is pending is sent again by the next command or `resume`."""
 
@@ -235,6 +244,6 @@ __all__ = [
     "DiscFailed", "DiskFull", "DoesNotFit", "DriveFailed", "EmptyVolume", "Exists", "FileDiffers", "ForeignReply", "Full", "IntoItself", "InvalidName",
     "InvalidPath", "IsDirectory", "IsRoot", "LedgerBusy", "LedgerError", "MISSES", "MountFailed", "NoParent", "NotCommitted", "NotDirectory",
     "NotEmpty", "NotFound", "NumberUsedElsewhere", "OtherVolume", "OutOfMemory", "OutputFailed", "ProgramFailed", "REFUSALS",
-    "Refused", "Rejected", "SourceChanged", "SourceError", "TooDeep", "TooLarge", "TooMany", "UdfburnError",
+    "Refused", "Rejected", "ReplyNotKept", "SourceChanged", "SourceError", "TooDeep", "TooLarge", "TooMany", "UdfburnError",
     "UsageError", "VolumeBehind", "WrongVolume",
 ]

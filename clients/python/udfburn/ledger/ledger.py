@@ -2,7 +2,7 @@
 
 A number and its frame are in the ledger before the frame is sent, and the reply before anything is done because of
 it. So after a crash at any moment the frames without a reply are known, and are sent again under their numbers; the
-volume runs each at most once, and keeps the replies of the last four. One process has a ledger at a time.
+volume runs each at most once. One process has a ledger at a time.
 """
 
 from __future__ import annotations
@@ -15,13 +15,13 @@ from typing import Any, Dict, Iterable, Iterator, List, Mapping, Optional, Seque
 
 from ..base.durable import make_folder, sync_file, sync_folder
 from ..base.errors import LedgerError
-from ..protocol import Kind, limits
+from ..protocol import limits
 from ..protocol.units import Commit
 from .file import Lock, default_path, is_ledger, lengthen, open_private_base, remove_if_there
 from .records import (
-    FACTS, GIVEN_UP, ORIGIN, Identity, KnownVolume, Mark, Pending, Reply, Sent, facts_row, origin_row, row_facts, row_origin,
+    FACTS, GIVEN_UP, NOT_KEPT, ORIGIN, PLACES, Identity, KnownVolume, Mark, Pending, Reply, Sent, facts_row, origin_row, row_facts, row_origin,
 )
-from .schema import APPENDED, LEDGER_VERSION, SCHEMA, statements, upgrade
+from .schema import KEPT_FRAME, LEDGER_VERSION, SCHEMA, frame_place, statements, upgrade
 
 GREATEST_NUMBER = (1 << 63) - 1
 """The greatest number that the ledger's columns hold."""
@@ -43,24 +43,16 @@ UPDATE volume SET label = ?, formatted = ?, capacity = ?, mark_commit = ?, mark_
 """
 
 PENDING = f"""
-SELECT number, payload, path, {', '.join((*FACTS, *ORIGIN))} FROM request JOIN frame ON frame.id = volume * 4 + number % 4
-WHERE volume = ?1 AND number > (SELECT max(number) FROM request WHERE volume = ?1) - 4 AND code IS NULL ORDER BY number
+SELECT number, payload, path, {', '.join((*FACTS, *ORIGIN))} FROM request JOIN frame ON frame.id = volume * {PLACES} + number % {PLACES}
+WHERE volume = ?1 AND number > (SELECT max(number) FROM request WHERE volume = ?1) - {PLACES} AND code IS NULL ORDER BY number
 """
-"""Requests without a reply: they are among the last four. Four payloads are kept for a volume, each in the place of an older one."""
-
-KEPT_FRAME = f"""
-INSERT INTO frame (id, payload, {', '.join(ORIGIN)}) VALUES (?, ?{', ?' * len(ORIGIN)}) ON CONFLICT (id) DO UPDATE
-SET payload = excluded.payload, {', '.join(f'{name} = excluded.{name}' for name in ORIGIN)}
-"""
-"""Writes a payload over an older one, in the pages of that where both have one size."""
+"""Requests without a reply: a payload is kept for each, in the place of an older one."""
 
 NO_ORIGIN = f"UPDATE frame SET {', '.join(f'{name} = ?' for name in ORIGIN)} WHERE id = ?"
 
 INSERT_REQUEST = f"INSERT INTO request (volume, number, path, {', '.join(FACTS)}) VALUES (?, ?, ?{', ?' * len(FACTS)})"
 
 SENT_COLUMNS = ("number", "path", "code", "commit_number", "confirmed", *FACTS)
-
-NEWER = "UPDATE ledger SET version = ? WHERE version < ?"
 
 SELECT_SENT = f"SELECT {', '.join(SENT_COLUMNS)} FROM request"
 
@@ -69,8 +61,12 @@ SELECT max(coalesce((SELECT commit_number FROM request WHERE volume = ? AND code
     coalesce((SELECT commit_number FROM found WHERE volume = ? ORDER BY number DESC LIMIT 1), 0))
 """
 
-LOG_PAGES = 128
-"""Pages in the database's log before they are copied into the database, and the log is written from its beginning again."""
+LOG_PAGES = 512
+"""Pages in the database's log before they are copied into the database, and the log is written from its beginning again. That takes three
+synchronisations, and a transaction of 32 requests with files of 4 KiB some 70 pages."""
+
+LONG_LIST = 8
+"""Requests in one transaction from which on more are likely to follow, so that the log gets its length at once."""
 
 LOG_BYTES = 32 + (LOG_PAGES + 16) * (24 + 4096)
 """Bytes that such a log may take, with what the last transaction adds."""
@@ -88,10 +84,8 @@ class Ledger:
             if not is_ledger(self.path):
                 self._make(client)
             self._base, self.client = self._open(client)
-            # About the pages that the log has, and whether it has room for all that it gets.
-            self._logged = 0
+            # Whether the log has room for all that it gets.
             self._roomy = False
-            self._foreseen: Optional[Tuple[KnownVolume, Sequence[Reply], Sequence[Pending]]] = None
         except BaseException:
             # A ledger that was made is there, and one that is there has its lock.
             self._lock.close(needless=True)
@@ -138,8 +132,8 @@ class Ledger:
         if not base.execute("SELECT 1 FROM sqlite_master").fetchone():
             return None
         version, client = base.execute("SELECT version, client FROM ledger").fetchone()
-        if not 0 < version <= APPENDED:
-            raise LedgerError(f"{self.path}: has version {version}, and this program knows those up to {APPENDED}: use a newer program")
+        if not 0 < version <= LEDGER_VERSION:
+            raise LedgerError(f"{self.path}: has version {version}, and this program knows those up to {LEDGER_VERSION}: use a newer program")
         number = int(client)
         if wanted is not None and wanted != number:
             raise LedgerError(
@@ -196,7 +190,6 @@ class Ledger:
 
     def close(self) -> None:
         """Gives the ledger to others."""
-        self._foreseen = None
         self._base.close()
         self._lock.close()
 
@@ -216,7 +209,6 @@ class Ledger:
 
     def _rows(self, statement: str, *values: object) -> List[Any]:
         """The rows that a statement gives."""
-        self.set_back()
         try:
             return self._base.execute(statement, values).fetchall()
         except sqlite3.Error as error:
@@ -229,7 +221,7 @@ class Ledger:
     def learn(self, way: Union[str, bytes], latest: int, replies: Mapping[int, Tuple[int, Commit]] = {}) -> KnownVolume:
         """Keeps a volume that is met for the first time: the number that it knows of this client, and the codes and commits of the
         replies that it keeps, by their numbers."""
-        if latest >= GREATEST_NUMBER - limits.REPLIES:
+        if latest >= GREATEST_NUMBER - PLACES:
             raise LedgerError(f"client {self.client} has no numbers left: use a new ledger")
         with self._transaction():
             made = self._base.execute("INSERT INTO volume (way, latest, made) VALUES (?, ?, ?)", (way, latest, time.time())).lastrowid
@@ -291,32 +283,17 @@ class Ledger:
         """Keeps replies that came and requests that are to be sent, as one: durable when it returns."""
         if not replies and not requests:
             return
-        if self._foreseen == (volume, replies, requests) and self._base.in_transaction:
-            self._foreseen = None
-            with self._ending():
-                self._base.execute("COMMIT")
-            return
+        if len(requests) >= LONG_LIST:
+            self._make_room()
         with self._transaction():
-            self._write(volume, replies, requests)
+            self._base.executemany(
+                "UPDATE request SET code = ?, commit_number = ?, confirmed = ? WHERE volume = ? AND number = ?",
+                [(int(r.code), r.commit, r.confirmed, volume.id, r.number) for r in replies],
+            )
+            self._base.executemany(INSERT_REQUEST, [(volume.id, r.number, r.path, *facts_row(r.facts)) for r in requests])
+            self._base.executemany(KEPT_FRAME, [(frame_place(volume.id, r.number), r.payload, *origin_row(r.origin)) for r in requests])
 
-    def foresee(self, volume: KnownVolume, replies: Sequence[Reply], requests: Sequence[Pending]) -> None:
-        """Begins what `record` is likely to be given next, while there is time. Nothing of it is kept before `record` is given the
-        same; whatever else is done with the ledger first sets it back."""
-        self.set_back()
-        try:
-            self.make_room()
-            # Else the log would be taken over at the end of a transaction, after which the program waits for requests.
-            if self._logged > LOG_PAGES * 7 // 8:
-                self._base.execute("PRAGMA wal_checkpoint").fetchall()
-                self._logged = 0
-            self._foreseen = volume, replies, requests
-            self._base.execute("BEGIN IMMEDIATE")
-            self._write(volume, replies, requests)
-        except sqlite3.Error:
-            # `record` meets the same trouble, and reports it.
-            self.set_back()
-
-    def make_room(self) -> None:
+    def _make_room(self) -> None:
         """Lengthens the log once, where it would grow by each transaction. Zeros after its last page are none to SQLite."""
         if self._roomy:
             return
@@ -327,39 +304,14 @@ class Ledger:
             # It grows then, or reports it if that fails too.
             pass
 
-    def set_back(self) -> None:
-        """Undoes what was foreseen and did not come."""
-        if self._foreseen is not None:
-            self._foreseen = None
-            if self._base.in_transaction:
-                self._base.execute("ROLLBACK")
-
-    def _write(self, volume: KnownVolume, replies: Sequence[Reply], requests: Sequence[Pending]) -> None:
-        self._base.executemany(
-            "UPDATE request SET code = ?, commit_number = ?, confirmed = ? WHERE volume = ? AND number = ?",
-            [(int(r.code), r.commit, r.confirmed, volume.id, r.number) for r in replies],
-        )
-        self._base.executemany(INSERT_REQUEST, [(volume.id, r.number, r.path, *facts_row(r.facts)) for r in requests])
-        self._base.executemany(KEPT_FRAME, [(volume.id * 4 + r.number % 4, r.payload, *origin_row(r.origin)) for r in requests])
-        if any(r.facts is not None and r.facts.deed.kind is Kind.APPEND for r in requests):
-            self._base.execute(NEWER, (APPENDED, APPENDED))
-        self._logged += 2 + sum([len(r.payload) // 4000 for r in requests])
-
     @contextmanager
     def _transaction(self) -> Iterator[None]:
         """All that is done within is kept as one, or nothing of it."""
-        self.set_back()
-        with self._ending():
-            self._base.execute("BEGIN IMMEDIATE")
-            yield
-            self._base.execute("COMMIT")
-
-    @contextmanager
-    def _ending(self) -> Iterator[None]:
-        """No transaction is left open after what is done within."""
         try:
             try:
+                self._base.execute("BEGIN IMMEDIATE")
                 yield
+                self._base.execute("COMMIT")
             finally:
                 if self._base.in_transaction:
                     self._base.execute("ROLLBACK")
@@ -383,19 +335,15 @@ class Ledger:
     def give_up(self, volume: KnownVolume, waiting: Iterable[Pending]) -> None:
         """Records that the data of pending requests is no longer looked for, whatever is found at its place later."""
         with self._transaction():
-            self._base.executemany(NO_ORIGIN, [(*origin_row(GIVEN_UP), volume.id * 4 + pending.number % 4) for pending in waiting])
+            self._base.executemany(NO_ORIGIN, [(*origin_row(GIVEN_UP), frame_place(volume.id, pending.number)) for pending in waiting])
 
     def take(self, volume: KnownVolume, other: "MemoryLedger") -> None:
         """Keeps all that a ledger in memory has of a volume, as one: requests, their replies, and the commit that it is known by."""
         theirs, *_ = other.volumes()
         columns = ", ".join(SENT_COLUMNS)
         rows = other._base.execute(f"SELECT {columns} FROM request WHERE volume = ? AND code IS NOT NULL", (theirs.id,)).fetchall()
-        frames = other._base.execute(f"SELECT id % 4, payload, {', '.join(ORIGIN)} FROM frame").fetchall()
         with self._transaction():
             self._base.executemany(f"INSERT INTO request (volume, {columns}) VALUES (?{', ?' * len(SENT_COLUMNS)})", [(volume.id, *row) for row in rows])
-            self._base.executemany(KEPT_FRAME, [(volume.id * 4 + place, *kept) for place, *kept in frames])
-            version = max(version for (version,) in other._base.execute("SELECT version FROM ledger"))
-            self._base.execute(NEWER, (version, version))
             if theirs.identity is not None and theirs.mark is not None:
                 self._base.execute(IDENTIFIED, (*theirs.identity, *theirs.mark, volume.id))
 
@@ -406,7 +354,9 @@ class Ledger:
     def sent(self, volume: KnownVolume, after: int = 0) -> List[Sent]:
         """Each request that is kept above a number, in order of the numbers."""
         rows = self._rows(f"{SELECT_SENT} WHERE volume = ? AND number > ? ORDER BY number", volume.id, after)
-        return [Sent(n, path, row_facts(path, facts), code, commit, bool(ok)) for n, path, code, commit, ok, *facts in rows]
+        return [
+            Sent(n, path, row_facts(path, facts), None if code == NOT_KEPT else code, commit, bool(ok)) for n, path, code, commit, ok, *facts in rows
+        ]
 
 
 class MemoryLedger(Ledger):
@@ -419,9 +369,8 @@ class MemoryLedger(Ledger):
         for statement in statements(SCHEMA):
             self._base.execute(statement)
         self._base.execute("INSERT INTO ledger VALUES (?, ?)", (LEDGER_VERSION, str(client)))
-        # There is no log to make room in, or to take over.
-        self._logged, self._roomy = 0, True
-        self._foreseen = None
+        # There is no log to make room in.
+        self._roomy = True
 
     def files(self) -> Set[Tuple[int, int]]:
         """None."""

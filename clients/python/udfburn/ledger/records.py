@@ -84,7 +84,7 @@ class Reply(NamedTuple):
 class Sent(NamedTuple):
     """A request that is kept: its number, its path, what it asked for (None for one that an older program sent), and its reply.
 
-    `code` and `commit` are None while it has none. `confirmed` says that the tree agreed with it.
+    `code` is None where its reply is not known, `commit` while it has none. `confirmed` says that the tree agreed with it.
     """
 
     number: int
@@ -109,6 +109,12 @@ def digest(data: bytes) -> bytes:
 
     return sha256(data).digest()
 
+
+PLACES = 64
+"""Requests without a reply, at most. A payload is kept for each of them."""
+
+NOT_KEPT = 32
+"""In place of a code: the request is committed, and what its reply was is not known."""
 
 LARGE_DATA = 1 << 14
 """Bytes of data from which on a ledger keeps where the data can be read again, and its digest, in place of the data. To keep it would
@@ -168,6 +174,6 @@ def row_facts(path: str, row: "tuple[object, ...]") -> Optional[Facts]:
 
 
 __all__ = [
-    "FACTS", "Facts", "GIVEN_UP", "Identity", "KnownVolume", "LARGE_DATA", "Mark", "ORIGIN", "Pending", "Reply", "Sent", "digest", "facts_of", "facts_row",
-    "origin_row", "row_facts", "row_origin",
+    "FACTS", "Facts", "GIVEN_UP", "Identity", "KnownVolume", "LARGE_DATA", "Mark", "NOT_KEPT", "ORIGIN", "PLACES", "Pending", "Reply", "Sent", "digest", "facts_of",
+    "facts_row", "origin_row", "row_facts", "row_origin",
 ]

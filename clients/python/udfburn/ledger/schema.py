@@ -5,13 +5,11 @@ from __future__ import annotations
 import sqlite3
 
 from ..protocol import Fault, Request, decode_message, limits
-from .records import FACTS, facts_of, facts_row
+from .records import FACTS, ORIGIN, PLACES, facts_of, facts_row
 
-LEDGER_VERSION = 3
-"""The version of the tables that this program makes."""
-
-APPENDED = 4
-"""The version once an append is kept: the tables are those of version 3, and a program that knows no appends does not open them."""
+LEDGER_VERSION = 5
+"""The version of the tables that this program makes. Those of versions 3 and 4 are the same, with places for four frames of a volume; version
+4 has an append."""
 
 SCHEMA = """
 CREATE TABLE ledger (version INTEGER NOT NULL, client TEXT NOT NULL);
@@ -56,8 +54,14 @@ CREATE TABLE request (
 CREATE TABLE frame (id INTEGER PRIMARY KEY, payload BLOB NOT NULL, origin BLOB, start INTEGER, size_then INTEGER, modified INTEGER);
 """
 """`way` says which volume is at each way; several may lead to one. `found` has the replies that a volume kept when it was first met,
-of requests that this ledger did not send. The four frames of a volume are those of its last four requests. One with an `origin` has no
+of requests that this ledger did not send. The frames of a volume are those of its last `PLACES` requests. One with an `origin` has no
 data: that local file, of this size and time of modification, has it from its byte `start` on."""
+
+KEPT_FRAME = f"""
+INSERT INTO frame (id, payload, {', '.join(ORIGIN)}) VALUES (?, ?{', ?' * len(ORIGIN)}) ON CONFLICT (id) DO UPDATE
+SET payload = excluded.payload, {', '.join(f'{name} = excluded.{name}' for name in ORIGIN)}
+"""
+"""Writes a payload over an older one, in the pages of that where both have one size."""
 
 ORIGINS = """
 ALTER TABLE frame ADD COLUMN origin BLOB;
@@ -97,10 +101,16 @@ UPDATE volume SET unsettled = 1;
 """What makes version 2 of version 1. There a way was of the volume that was met on it last. Its two tables are in SCHEMA too: these are
 those of version 2, and stay as they are where a later version changes SCHEMA."""
 
-LAST_FRAMES = """
-SELECT volume, number, payload FROM request JOIN frame ON frame.id = volume * 4 + number % 4
-WHERE number > (SELECT max(number) FROM request AS other WHERE other.volume = request.volume) - ?
+LAST_FRAMES = f"""
+FROM request JOIN frame ON frame.id = volume * {limits.REPLIES} + number % {limits.REPLIES}
+WHERE number > (SELECT max(number) FROM request AS other WHERE other.volume = request.volume) - {limits.REPLIES}
 """
+"""The frames of the last four requests, where versions before 5 had them."""
+
+
+def frame_place(volume: int, number: int) -> int:
+    """Where the frame of a request is kept."""
+    return volume * PLACES + number % PLACES
 
 
 def statements(script: str) -> "list[str]":
@@ -117,8 +127,9 @@ def upgrade(base: sqlite3.Connection, version: int) -> None:
             for statement in statements(UPGRADE):
                 base.execute(statement)
             keep_facts(base)
-        for statement in statements(ORIGINS):
+        for statement in statements(ORIGINS) if version < 3 else []:
             base.execute(statement)
+        move_frames(base)
         base.execute("UPDATE ledger SET version = ?", (LEDGER_VERSION,))
         base.execute("COMMIT")
     finally:
@@ -129,7 +140,7 @@ def upgrade(base: sqlite3.Connection, version: int) -> None:
 def keep_facts(base: sqlite3.Connection) -> None:
     """Keeps beside each request what its frame says, where the frame is its own."""
     setting = ", ".join(f"{name} = ?" for name in FACTS)
-    for volume, number, payload in base.execute(LAST_FRAMES, (limits.REPLIES,)).fetchall():
+    for volume, number, payload in base.execute(f"SELECT volume, number, payload {LAST_FRAMES}").fetchall():
         try:
             message = decode_message(payload)
         except Fault:
@@ -138,4 +149,11 @@ def keep_facts(base: sqlite3.Connection) -> None:
             base.execute(f"UPDATE request SET {setting} WHERE volume = ? AND number = ?", (*facts_row(facts_of(message)), volume, number))
 
 
-__all__ = ["APPENDED", "LEDGER_VERSION", "SCHEMA", "statements", "upgrade"]
+def move_frames(base: sqlite3.Connection) -> None:
+    """Gives the frames of requests without a reply the places that they have from version 5 on. Nobody asks for the others."""
+    rows = base.execute(f"SELECT volume, number, payload, {', '.join(ORIGIN)} {LAST_FRAMES} AND code IS NULL").fetchall()
+    base.execute("DELETE FROM frame")
+    base.executemany(KEPT_FRAME, [(frame_place(volume, number), *frame) for volume, number, *frame in rows])
+
+
+__all__ = ["KEPT_FRAME", "LEDGER_VERSION", "SCHEMA", "frame_place", "statements", "upgrade"]

@@ -3,15 +3,26 @@
 from __future__ import annotations
 
 from collections import deque
-from typing import Deque, Iterable, Iterator, List, Optional
+from typing import Deque, Iterable, Iterator, List, Optional, Set
 
-from ..ledger.records import LARGE_DATA, Pending, Reply, facts_of
-from ..protocol import DAMAGED, FAULT, MEMORY, Code, Committed, Stat, decode_answer, encode_message, frame, limits, prefix, show
+from ..ledger.records import LARGE_DATA, PLACES, Pending, Reply, facts_of
+from ..protocol import (
+    DAMAGED, FAULT, MEMORY, Code, Committed, Create, MakeDir, Path, Replace, Stat, decode_answer, encode_message, frame, limits, prefix, show,
+)
 from ..wire.connection import Lost
 from ..wire.operations import Operation, Outcome, confirmed, paths_of, surely
 
-REQUESTS_TOGETHER = limits.REPLIES // 2
-"""Requests that are kept and sent as one. While their replies and the next ones are kept, the program works on the others."""
+GROUPS = 2
+"""Parts that are under way: while the replies to one and the next one are kept, the program works on the other."""
+
+GROUP_REQUESTS, GROUP_BYTES = PLACES // GROUPS, 4 * limits.FILE
+"""Requests that are kept and sent as one, and the bytes of their data."""
+
+FEW_REQUESTS = limits.REPLIES // GROUPS
+"""Requests in a group where the tree does not show what became of each."""
+
+SHOWN_BY_TREE = (Create, Replace, MakeDir)
+"""Requests of which the tree shows whether they were done, if no other one under way has the path."""
 
 
 class InFlightRequest:
@@ -58,6 +69,61 @@ class InFlightRequest:
         return confirmed(self.request, reply.code, answers)
 
 
+class Group:
+    """Requests that are kept and sent as one. It is `shown` while the tree shows of each whether it was done."""
+
+    def __init__(self) -> None:
+        self.requests: Deque[InFlightRequest] = deque()
+        self.paths: Set[Path] = set()
+        self.size = 0
+        self.shown = True
+
+    def __len__(self) -> int:
+        return len(self.requests)
+
+    def add(self, request: InFlightRequest, shown: bool) -> None:
+        self.requests.append(request)
+        self.paths.update(request.paths)
+        self.size += len(request.operation.data)
+        self.shown = self.shown and shown
+
+
+class Window:
+    """The groups that are under way, in order.
+
+    The volume keeps the replies to a client's last four requests. Where a conversation is lost, nothing else is known of an older one than
+    that it is committed: whether it was done is asked of the tree. So more than four are under way only where the tree shows that of each.
+    """
+
+    def __init__(self) -> None:
+        self.groups: Deque[Group] = deque()
+
+    def __len__(self) -> int:
+        return sum(map(len, self.groups))
+
+    def requests(self) -> List[InFlightRequest]:
+        return [request for group in self.groups for request in group.requests]
+
+    def take(self, group: Group, request: InFlightRequest) -> bool:
+        """Adds a request to a group that is to be sent, where there is room for it."""
+        together = [*self.groups, group]
+        shown = isinstance(request.request, SHOWN_BY_TREE) and not any([request.paths[0] in other.paths for other in together])
+        if shown and all([other.shown for other in together]):
+            fits = len(group) < GROUP_REQUESTS and group.size + len(request.operation.data) <= GROUP_BYTES
+        else:
+            fits = len(group) < FEW_REQUESTS and len(self) + len(group) < limits.REPLIES
+        if fits:
+            group.add(request, shown)
+        return fits
+
+    def pop(self) -> InFlightRequest:
+        """Takes out the first request, once all its answers came."""
+        request = self.groups[0].requests.popleft()
+        if not self.groups[0]:
+            self.groups.popleft()
+        return request
+
+
 class RequestQueue:
     """Operations as they come, of which the next are taken ahead, read and made requests, while the program is at work."""
 
@@ -67,21 +133,29 @@ class RequestQueue:
         self.ahead: Deque[InFlightRequest] = deque()
 
     def look_ahead(self, last: int) -> None:
-        """Makes ready what is sent next, after the request of this number."""
-        while len(self.ahead) < REQUESTS_TOGETHER and self._take(last + len(self.ahead) + 1):
+        """Makes ready what is sent next, after the request of this number. Few are taken where more would have to wait for replies: what
+        comes then may be other requests, such as those that rename files."""
+        while self._is_next_near() and self._take(last + len(self.ahead) + 1):
             pass
 
-    def next(self, number: int, count: int) -> List[InFlightRequest]:
-        """At most so many requests, from this number on."""
-        made: List[InFlightRequest] = []
-        while len(made) < count and (self.ahead or self._take(number)):
-            request = self.ahead.popleft()
+    def _is_next_near(self) -> bool:
+        if len(self.ahead) < FEW_REQUESTS:
+            return True
+        size = sum([len(request.operation.data) for request in self.ahead])
+        return len(self.ahead) < GROUP_REQUESTS and size < GROUP_BYTES and all([isinstance(request.request, SHOWN_BY_TREE) for request in self.ahead])
+
+    def next(self, number: int, window: Window) -> Group:
+        """The requests for which there is room, from this number on."""
+        group = Group()
+        while self.ahead or self._take(number):
             # After a conversation that was lost the next number may be another one.
-            if request.number() != number:
-                request = InFlightRequest(request.operation, self.client, number)
-            made.append(request)
+            if self.ahead[0].number() != number:
+                self.ahead[0] = InFlightRequest(self.ahead[0].operation, self.client, number)
+            if not window.take(group, self.ahead[0]):
+                break
+            self.ahead.popleft()
             number += 1
-        return made
+        return group
 
     def _take(self, number: int) -> bool:
         operation = next(self.operations, None)
@@ -91,9 +165,10 @@ class RequestQueue:
         return True
 
 
-def kept(requests: Iterable[InFlightRequest], replies: Iterable[Committed]) -> List[Reply]:
+def kept(requests: Iterable[InFlightRequest]) -> List[Reply]:
     """The replies to requests as the ledger keeps them: the tree agrees with each."""
-    return [Reply(request.number(), reply.code, reply.commit, True) for request, reply in zip(requests, replies)]
+    replies = [(request.number(), request.replied()) for request in requests]
+    return [Reply(number, reply.code, reply.commit, True) for number, reply in replies]
 
 
 def outcome(request: InFlightRequest) -> Outcome:
@@ -102,4 +177,4 @@ def outcome(request: InFlightRequest) -> Outcome:
     return Outcome(request.operation, reply.code, reply.commit, request.number())
 
 
-__all__ = ["REQUESTS_TOGETHER", "InFlightRequest", "RequestQueue", "kept", "outcome"]
+__all__ = ["InFlightRequest", "GROUPS", "Group", "RequestQueue", "Window", "kept", "outcome"]

@@ -1,12 +1,13 @@
-"""What the ledger has pending: sent again, one by one, until each request has its reply and the tree agrees with it."""
+"""What the ledger has pending: asked for, or sent again one by one, until it is known of each request what became of it, and the tree
+agrees."""
 
 from __future__ import annotations
 
-from typing import Dict, Iterable, List, Optional, Tuple
+from typing import Dict, Iterable, List, Optional, Set, Tuple
 
-from ..base.errors import DAMAGE, ClientsFull, Damaged, ForeignReply, Full, NotCommitted, NumberUsedElsewhere, Rejected
+from ..base.errors import DAMAGE, ClientsFull, Damaged, ForeignReply, Full, NotCommitted, NumberUsedElsewhere, Rejected, ReplyNotKept
 from ..ledger.ledger import Ledger
-from ..ledger.records import GIVEN_UP, KnownVolume, Pending, Reply, digest
+from ..ledger.records import GIVEN_UP, NOT_KEPT, KnownVolume, Pending, Reply, digest
 from ..local.sources import data_again
 from ..protocol import (
     CLIENTS_FULL, DAMAGED, FAULT, FULL, MEMORY, Answer, BadAnswer, Code, Committed, Gap, Malformed, Path, Remove, Stale, Stat, decode_message,
@@ -18,6 +19,8 @@ from ..wire.operations import Deed, after_all, deed_of
 from ..wire.retrying import RetryingConnection
 from .conversation import Conversation
 from .in_flight import InFlightRequest
+from .recognition import see
+from .shown import Shown
 
 Done = Dict[int, Tuple[Deed, Committed]]
 """What was done of pending requests, by their numbers."""
@@ -34,6 +37,9 @@ class Recovery:
         """The payloads of requests without a reply of which the ledger has no data, by their numbers."""
         self.not_stored: Dict[int, str] = {}
         """The paths of requests that were not committed before their data was gone, by their numbers."""
+        self._shown = Shown()
+        # The paths of which the tree has what replies say, so that a conversation that is lost meanwhile takes nothing of that away.
+        self._agreed: Set[Path] = set()
 
     def _volume(self) -> KnownVolume:
         return self.conversation.volume()
@@ -58,35 +64,86 @@ class Recovery:
         for request in requests:
             self.payloads.pop(request.number(), None)
 
+    def heard(self, requests: Iterable[InFlightRequest]) -> None:
+        """Keeps replies that came before a conversation was lost, and which the tree was not compared with yet."""
+        self._shown.heard.update({request.number(): request.reply for request in requests if request.reply is not None})
+
     def run(self) -> Dict[int, Committed]:
-        """Sends again what has no reply, one by one, and gives the replies by number. They are in the ledger then, and
-        the tree agrees with them."""
+        """Finishes what has no reply, and gives the replies by number. They are in the ledger then, and the tree agrees with them."""
         try:
             return self._run()
         except BaseException:
             # Whoever is interrupted has an answer to come, which is none to what is asked next.
             self.line.drop()
             raise
+        finally:
+            self._shown = Shown()
+            self._agreed = set()
 
     def _run(self) -> Dict[int, Committed]:
         known = self.ledger.volume(self.conversation.key)
         if known is None or not self.ledger.pending(known):
             return {}
         done: Done = {}
+        gone: List[str] = []
+        asked: Optional[Connection] = None
         while True:
             try:
                 connection = self.line.get()
                 waiting = self.ledger.pending(self._volume())
+                if len(waiting) > limits.REPLIES and asked is not connection:
+                    # The replies to some may not be kept: before others are sent, since these take the places of those that are.
+                    asked = connection
+                    self._settle(connection, waiting, done, gone)
+                    continue
                 if waiting:
                     self._repeat(connection, waiting[0], done)
                     continue
                 self._confirm(connection, done)
-                return {number: reply for number, (_, reply) in done.items()}
+                return self._all(done, gone)
             except Lost as lost:
                 self.line.lost(str(lost))
             except NotCommitted as error:
                 error.replies = self._confirmed_despite(done)
                 raise
+
+    def _all(self, done: Done, gone: List[str]) -> Dict[int, Committed]:
+        """The replies by number; raises where it is not known of some request that it was done."""
+        replies = {number: reply for number, (_, reply) in done.items()}
+        if gone:
+            error = ReplyNotKept(
+                f"{', '.join(gone)}: not known to be stored. The conversation was lost, the volume has the requests and not their replies any more, and"
+                " the tree does not have what they asked for: they were refused, or another client has changed it since. Nothing local was"
+                " deleted because of them. Run the same command again"
+            )
+            error.replies = replies
+            raise error
+        return replies
+
+    def _settle(self, connection: Connection, waiting: List[Pending], done: Done, gone: List[str]) -> None:
+        """Keeps what became of the requests that the volume has."""
+        seen = see(connection, self.ledger.client)
+        committed = [pending for pending in waiting if pending.number <= seen.latest]
+        if not committed:
+            return
+        found = self._shown.settled(connection, committed, seen, self.line.patience.progress)
+        kept: List[Reply] = []
+        for pending in committed:
+            reply = found.replies.get(pending.number)
+            if reply is not None:
+                self.conversation.check_commit(reply)
+                # Of what the tree was asked it has agreed.
+                kept.append(Reply(pending.number, reply.code, reply.commit, self._shown.there.get(pending.number, False)))
+                done[pending.number] = deed_in(pending), reply
+                if pending.origin == GIVEN_UP and reply.code is Code.ROOT:
+                    self.not_stored[pending.number] = pending.path
+            else:
+                kept.append(Reply(pending.number, NOT_KEPT, found.gone[pending.number], False))
+                gone.append(pending.path)
+        self.ledger.record(self._volume(), kept, [])
+        for pending in committed:
+            self.payloads.pop(pending.number, None)
+        self.line.patience.progress()
 
     def _repeat(self, connection: Connection, waiting: Pending, done: Done) -> None:
         """Sends a request again, and keeps its reply. One whose data is gone is never sent: a removal of the root takes its number, which
@@ -155,12 +212,16 @@ class Recovery:
         """Sees that the tree has what replies say that came after a lost conversation."""
         wanted = after_all([(deed, reply.code) for deed, reply in done.values()])
         for path, expected in wanted.items():
+            if path in self._agreed:
+                continue
             connection.send(frame(encode_message(Stat(path))))
             answer = connection.answer()
             if answer in (FAULT, MEMORY):
                 raise Lost("the program failed")
             if not expected.agrees(answer):
                 raise self.foreign(path, answer)
+            self._agreed.add(path)
+            self.line.patience.progress()
         self.ledger.confirm(self._volume(), done)
 
     def _confirmed_despite(self, done: Done) -> Dict[int, Committed]:

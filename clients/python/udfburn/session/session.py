@@ -1,25 +1,24 @@
 """Requests that act once: numbered, kept in the ledger, sent, repeated where their replies did not come, and confirmed.
 
-Never more than four requests are without a reply in the ledger, since the volume keeps the last four replies of a
-client: so each of them can be had again, whatever was lost. Trouble of any kind ends the conversation; what the ledger
-then has without a reply is sent again, one by one, by `recovery`. A new process begins in the same way.
+Requests go out as groups, each of which is one transaction of the ledger, with the replies to an earlier group. The requests of a group are
+sent without waiting for one another: since a request that is not the client's next one is not committed, none is that comes after one that
+is not. Trouble of any kind ends the conversation; what the ledger then has without a reply is finished by `recovery`. A new process begins
+in the same way.
 """
 
 from __future__ import annotations
 
-from collections import deque
-from typing import Deque, Dict, Iterable, Iterator, List, Optional, Tuple
+from typing import Dict, Iterable, Iterator, List, Optional, Tuple
 
-from ..base.errors import NotCommitted
+from ..base.errors import NotCommitted, ReplyNotKept
 from ..ledger.ledger import Ledger
 from ..ledger.records import KnownVolume, Reply
-from ..protocol import CLIENTS_FULL, DAMAGED, FAULT, FULL, MEMORY, Answer, BadAnswer, Committed, Gap, Malformed, Stale, decode_answer, limits
+from ..protocol import CLIENTS_FULL, DAMAGED, FAULT, FULL, MEMORY, Answer, BadAnswer, Committed, Gap, Malformed, Stale, decode_answer
 from ..wire.connection import Connection, Lost
 from ..wire.operations import Operation, Outcome
 from ..wire.retrying import RetryingConnection
 from .conversation import Conversation
-from .foresight import Foresight
-from .in_flight import REQUESTS_TOGETHER, InFlightRequest, RequestQueue, kept, outcome
+from .in_flight import GROUPS, InFlightRequest, Group, RequestQueue, Window, kept, outcome
 from .recovery import Recovery
 
 
@@ -31,7 +30,6 @@ class Session:
         self.ledger = ledger
         self.conversation = Conversation(line, ledger, shared)
         self.recovery = Recovery(line, ledger, self.conversation)
-        self._foresight = Foresight(ledger, self.conversation)
 
     def volume(self) -> KnownVolume:
         """The volume, once a connection was made."""
@@ -42,8 +40,7 @@ class Session:
         return self.recovery.forget()
 
     def recover(self) -> Dict[int, Committed]:
-        """Sends again what has no reply, one by one, and gives the replies by number. They are in the ledger then, and
-        the tree agrees with them."""
+        """Finishes what has no reply, and gives the replies by number. They are in the ledger then, and the tree agrees with them."""
         return self.recovery.run()
 
     def run(self, operations: Iterable[Operation]) -> Iterator[Outcome]:
@@ -53,70 +50,70 @@ class Session:
 
     def _run(self, queue: RequestQueue) -> Iterator[Outcome]:
         self.recover()
-        window: Deque[InFlightRequest] = deque()
+        window = Window()
         finished: List[InFlightRequest] = []
         try:
             while True:
-                connection = self._connected(window)
+                if not window and self.line.over():
+                    # Kept before the next conversation begins, since it may be the last one.
+                    self._keep(finished, Group())
+                    yield from map(outcome, finished)
+                    finished = []
+                    self.line.drop()
+                connection = self.line.get()
                 fresh = self._next(queue, window, finished)
                 self._keep(finished, fresh)
-                window.extend(fresh)
-                troubled = not self._sent(connection, fresh)
+                if fresh:
+                    window.groups.append(fresh)
+                sent = self._sent(connection, fresh)
                 yield from map(outcome, finished)
                 finished = []
                 if not window:
                     return
-                if fresh and len(window) < limits.REPLIES and not troubled:
+                if fresh and len(window.groups) < GROUPS and sent:
                     continue
-                if not troubled:
-                    queue.look_ahead(window[-1].number())
-                    self._foresight.look(window, queue)
-                    finished, troubled = self._received(connection, window)
+                if sent:
+                    queue.look_ahead(window.groups[-1].requests[-1].number())
+                finished, troubled = self._received(connection, window, sent)
                 if troubled:
                     yield from self._recovered(finished, window)
                     finished = []
         finally:
-            self._foresight.end()
             if window or finished:
                 self.line.drop()
 
-    def _connected(self, window: Deque[InFlightRequest]) -> Connection:
-        """The conversation; where its turn is over and nothing is under way, a new one."""
-        if not window and self.line.over():
-            self.line.drop()
-        return self.line.get()
-
-    def _next(self, queue: RequestQueue, window: Deque[InFlightRequest], finished: List[InFlightRequest]) -> List[InFlightRequest]:
+    def _next(self, queue: RequestQueue, window: Window, finished: List[InFlightRequest]) -> Group:
         """Requests that there is room for, under the next numbers. None where others are to get their turn."""
-        if window and self.line.over():
-            return []
-        last = window[-1] if window else finished[-1] if finished else None
+        if len(window.groups) == GROUPS or window and self.line.over():
+            return Group()
+        last = window.groups[-1].requests[-1] if window else finished[-1] if finished else None
         number = last.number() if last else self.ledger.latest(self.conversation.volume())
-        return queue.next(number + 1, min(REQUESTS_TOGETHER, limits.REPLIES - len(window)))
+        return queue.next(number + 1, window)
 
-    def _keep(self, finished: List[InFlightRequest], fresh: List[InFlightRequest]) -> None:
+    def _keep(self, finished: List[InFlightRequest], fresh: Group) -> None:
         """Makes replies and new requests durable, in one."""
-        replies = [request.replied() for request in finished]
-        self.ledger.record(self.conversation.volume(), kept(finished, replies), [request.pending for request in fresh])
+        self.ledger.record(self.conversation.volume(), kept(finished), [request.pending for request in fresh.requests])
         self.recovery.replied(finished)
-        self.recovery.sent(fresh)
+        self.recovery.sent(fresh.requests)
 
-    def _sent(self, connection: Connection, fresh: List[InFlightRequest]) -> bool:
+    def _sent(self, connection: Connection, fresh: Group) -> bool:
         """Sends requests with their questions. Whether the conversation lasted."""
         try:
-            connection.send(b"".join([piece for request in fresh for piece in request.frames]))
+            connection.send(b"".join([piece for request in fresh.requests for piece in request.frames]))
             return True
         except Lost:
+            connection.rest()
             return False
 
-    def _received(self, connection: Connection, window: Deque[InFlightRequest]) -> Tuple[List[InFlightRequest], bool]:
-        """Takes the requests out of the window whose answers came, at least one; and whether there was trouble."""
+    def _received(self, connection: Connection, window: Window, lasts: bool) -> Tuple[List[InFlightRequest], bool]:
+        """Takes the requests out of the window whose answers came, at least a group; and whether there was trouble. Of a conversation that
+        does not last there is only what came before."""
         finished: List[InFlightRequest] = []
+        wanted = len(window.groups[0])
         try:
-            finished = self._foresight.come(connection, window)
-            payload: Optional[bytes] = None if finished else connection.payload()
+            payload: Optional[bytes] = connection.payload() if lasts else connection.ready()
             while payload is not None:
-                request = window[0]
+                request = window.groups[0].requests[0]
                 if request.reply is None:
                     reply = decode_answer(payload)
                     if not isinstance(reply, Committed):
@@ -127,14 +124,14 @@ class Session:
                     request.said.append(payload)
                     if len(request.said) == len(request.paths):
                         self._check(request, request.reply, finished)
-                        finished.append(window.popleft())
+                        finished.append(window.pop())
+                        self.line.patience.progress()
                 payload = connection.ready() if window else None
-                if payload is None and not finished:
+                if payload is None and lasts and len(finished) < wanted:
                     payload = connection.payload()
         except Lost:
             return finished, True
-        self.line.patience.progress()
-        return finished, False
+        return finished, not lasts
 
     def _check_kind(self, answer: Answer) -> None:
         """Raises where an answer is none to a request."""
@@ -146,20 +143,22 @@ class Session:
         """Raises where the tree does not have what a reply says."""
         self.conversation.check_commit(reply)
         if not request.agrees(reply):
-            self._keep(finished, [])
+            self._keep(finished, Group())
             self.ledger.record(self.conversation.volume(), [Reply(request.number(), reply.code, reply.commit, False)], [])
             raise self.recovery.foreign(request.request.path, decode_answer(request.said[0]))
 
-    def _recovered(self, finished: List[InFlightRequest], window: Deque[InFlightRequest]) -> Iterator[Outcome]:
+    def _recovered(self, finished: List[InFlightRequest], window: Window) -> Iterator[Outcome]:
         """Finishes what was under way when trouble came, and gives the outcomes."""
         self.line.drop()
-        self._keep(finished, [])
+        self._keep(finished, Group())
         yield from map(outcome, finished)
-        requests, error = list(window), None
-        window.clear()
+        requests = window.requests()
+        error: "NotCommitted | ReplyNotKept | None" = None
+        window.groups.clear()
+        self.recovery.heard(requests[:1])
         try:
             replies = self.recover()
-        except NotCommitted as failed:
+        except (NotCommitted, ReplyNotKept) as failed:
             replies, error = failed.replies, failed
         for request in requests:
             reply = replies.get(request.number())

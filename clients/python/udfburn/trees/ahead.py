@@ -21,7 +21,7 @@ ASIDE = 1 << 16
 """From this many bytes on, the digests of a file are computed in the thread: they take longer than it takes the thread to wake."""
 
 PARTS_AHEAD = 2
-"""Parts that are read ahead: as many as are kept and sent as one."""
+"""Parts that are read ahead: while the digest of one is computed, the next one is read."""
 
 
 class PartRead(NamedTuple):

@@ -48,6 +48,7 @@ class Connection:
             view = view[gone:]
             if gone:
                 self.since = None
+                limit = time.monotonic() + self.timeout
             if view:
                 readable, writable = self._wait(limit, writing=True)
                 if readable:
@@ -71,17 +72,13 @@ class Connection:
         """The payload of the next answer if it is here already."""
         return self.frames.take()
 
-    def comes(self, expected: bytes) -> bool:
-        """Waits for what comes in next, and takes it where it is these frames. Else it is there for `payload`."""
-        if self.frames.rest():
-            return False
-        self._wait(time.monotonic() + self.timeout, writing=False)
-        piece = self._read(len(expected))
-        if piece == expected:
-            self.since = None
-            return True
-        self._take(piece)
-        return False
+    def rest(self) -> None:
+        """Takes what came before the conversation was lost, for `ready`."""
+        with suppress(Lost):
+            piece = self._read(SOCKET_PIECE)
+            while piece:
+                self.frames.feed(piece)
+                piece = self._read(SOCKET_PIECE)
 
     def close(self) -> None:
         """Ends the conversation."""
