@@ -3,7 +3,8 @@
    usage: loop PLAN BLOCKS IMAGE < FRAMES
 
    PLAN has 16 bytes a call, two numbers of 64 bits in this machine's order: where a write begins in the file, and how many bytes
-   it has; a sync has none. BLOCKS is the image that came out. Both are in memory before the loop begins; how long that took, and
+   it has; a sync has none, and -1 sets the file to that length. BLOCKS is the image that came out, and what is written behind it
+   and cut off. Both are in memory before the loop begins; how long that took, and
    to give the memory back, is printed in nanoseconds, of the clock and of the processor, so that it can be left out. */
 #define _GNU_SOURCE
 #include <fcntl.h>
@@ -83,7 +84,9 @@ static void carry_out(int image, struct bytes plan, struct bytes blocks) {
     for (size_t at = 0; at + sizeof(struct call) <= plan.length; at += sizeof(struct call)) {
         struct call call;
         memcpy(&call, plan.start + at, sizeof call);
-        if (call.length == 0) {
+        if (call.length < 0) {
+            if (ftruncate(image, call.offset)) end("ftruncate");
+        } else if (call.length == 0) {
             if (fsync(image)) end("fsync");
         } else if (pwrite(image, blocks.start + call.offset, (size_t)call.length, call.offset) != call.length) {
             end("pwrite");

@@ -19,7 +19,7 @@ sys.path.insert(0, str(REPOSITORY / "test"))
 from faults.log import read_log  # noqa: E402
 from faults.programs import compile_shim  # noqa: E402
 from protocol import answers_of, committed  # noqa: E402
-from plans import Plan, plan_of, two_sync_plan  # noqa: E402
+from plans import BEHIND, Plan, plan_of, two_sync_plan  # noqa: E402
 from streams import Stream, creations, history  # noqa: E402
 from timing import ENVIRONMENT, Ended, Taken, clocks, difference, least_ratio, load, median_of, processors, ratio, run, sync_time  # noqa: E402
 
@@ -147,7 +147,7 @@ def logged(tools: Tools, program: str, stream: Stream) -> Logged:
     put(tools.path("frames"), stream.frames)
     ended, made = shimmed(tools, [program, "apply", image], image)
     require_answers(ended, stream)
-    plan, blocks = put(tools.path("logged.plan"), made.plan.calls), put(tools.path("logged.blocks"), made.image)
+    plan, blocks = put(tools.path("logged.plan"), made.plan.calls), put(tools.path("logged.blocks"), made.image + BEHIND)
     _, again = shimmed(tools, [tools.loop, plan, blocks, image], image)
     tools.checks.hold("the loop makes other writes and syncs than %s" % program, again == made)
     os.unlink(plan)
@@ -168,7 +168,7 @@ def sides_of(tools: Tools, program: str, name: str, made: Logged, place: str) ->
     """The loop with two syncs a commit, the loop with the program's own calls, and the program, on images of their own."""
     least = put(tools.path(name + ".least"), least_plan(tools, made).calls)
     plan = put(tools.path(name + ".plan"), made.plan.calls)
-    blocks = put(tools.path(name + ".blocks"), made.image)
+    blocks = put(tools.path(name + ".blocks"), made.image + BEHIND)
     images = [os.path.join(place, "%s.%s.img" % (name, side)) for side in ("least", "loop", "apply")]
     return [Side([tools.loop, least, blocks, images[0]], images[0], made.image, True),
             Side([tools.loop, plan, blocks, images[1]], images[1], made.image, True),

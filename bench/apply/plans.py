@@ -4,10 +4,14 @@ from __future__ import annotations
 import struct
 from typing import NamedTuple, Sequence
 
+from faults.heads import HEAD_BYTES
 from faults.log import Record
+from protocol import BLOCK
 
-
-BLOCK = 2048
+# The length of a call that makes a file longer or shorter.
+TRUNCATES = -1
+# Behind the blocks of an image the head of its last group is written, and cut off. What its bytes are takes no time.
+BEHIND = bytes(HEAD_BYTES)
 
 
 class Plan(NamedTuple):
@@ -20,7 +24,7 @@ class Plan(NamedTuple):
     def opening_syncs(self) -> int:
         """The syncs before the first write."""
         lengths = [length for _, length in struct.iter_unpack("=qq", self.calls)]
-        return next((at for at, length in enumerate(lengths) if length), len(lengths))
+        return next((at for at, length in enumerate(lengths) if length > 0), len(lengths))
 
 
 def plan_of(records: Sequence[Record], before: bytes, image: bytes) -> Plan:
@@ -29,20 +33,27 @@ def plan_of(records: Sequence[Record], before: bytes, image: bytes) -> Plan:
     calls, writes, syncs = [], 0, 0
     for record in records:
         if record.kind == "pwrite":
-            if record.result != record.length or record.offset != len(made):
-                raise ValueError("a write of %d bytes at %d did %d, behind %d bytes"
-                                 % (record.length, record.offset, record.result, len(made)))
-            made += record.data
+            if record.result != record.length or record.offset < len(before):
+                raise ValueError("a write of %d bytes at %d did %d" % (record.length, record.offset, record.result))
+            put(made, record.offset, record.data)
             calls.append((record.offset, record.length))
             writes += 1
         elif record.kind == "fsync":
             calls.append((0, 0))
             syncs += 1
         elif record.kind == "ftruncate":
-            raise ValueError("the file was cut back")
+            put(made, record.offset, b"")
+            del made[record.offset:]
+            calls.append((record.offset, TRUNCATES))
     if made != image:
         raise ValueError("the writes of the log do not make the image")
     return Plan(packed(calls), writes, syncs)
+
+
+def put(made: bytearray, offset: int, data: bytes) -> None:
+    """Writes these bytes, with zeros before them where the file ends earlier."""
+    made.extend(bytes(max(0, offset - len(made))))
+    made[offset:offset + len(data)] = data
 
 
 def packed(calls: Sequence[tuple[int, int]]) -> bytes:
@@ -50,7 +61,8 @@ def packed(calls: Sequence[tuple[int, int]]) -> bytes:
 
 
 def two_sync_plan(length_before: int, entries: Sequence[int], opening_syncs: int) -> Plan:
-    """The fewest calls that keep the promise: of each commit all blocks but the last as one write, a sync, the last block, a sync.
+    """The fewest calls by which each commit is on the disk before the next: all its blocks but the last as one write, a sync, the last block,
+    a sync.
 
     `length_before` is the length of the image in bytes before the first commit, `entries` the addresses of the commits' last blocks
     in order. The syncs with which a program opens an image come first.

@@ -2,10 +2,11 @@
 
 usage: copies.py UDFBURN UDFBURND ROOM [SEED [REQUESTS]]
 
-A client sends requests one after another; the daemon is killed now and then, and started again. Meanwhile the image is copied
-by cp, dd and rsync, and by a follower that appends what is new. Each copy must be sound, and must be the state after one of
-the run's commits: none before the last answer that the client had when the copy began, none after what it had sent when the
-copy was done.
+A client sends many requests at once, so that the daemon answers them in groups; the daemon is killed now and then, and started
+again. Meanwhile the image is copied as docs/OPERATIONS.md says: up to the newest commit that `udfburn log` shows, by head, cp, dd,
+and a follower that appends what is new, of which rsync makes another copy. Each copy must end with that commit and be sound, and
+must be the state after one of the run's commits: none before the last answer that the client had when the copy began, none after
+what it had sent when the copy was done. A snapshot of one moment is made too, and not cut.
 """
 
 from __future__ import annotations
@@ -26,7 +27,7 @@ from typing import Callable, Dict, List, Optional, Tuple
 sys.path.insert(0, str(Path(__file__).resolve().parent.parent))
 
 from protocol import (  # noqa: E402
-    BLOCK, CREATE, GET, LIST, MAKE_DIRECTORY, REMOVE, RENAME, REPLACE, STAT,
+    BLOCK, CREATE, DONE, GET, KEPT_REPLIES, LIST, MAKE_DIRECTORY, REMOVE, RENAME, REPLACE, STALE, STAT,
     Answer, Directory, File, Names, Request, Tree, answers_of, committed, encode, path_of, query,
 )
 
@@ -38,8 +39,10 @@ PATIENCE = 300
 FORMAT_MOMENT = 77
 # Seconds without a word after which the client leaves before the daemon lets it go, which does so after 60.
 SILENCE = 20
-# As many replies as a volume keeps of a client: so many requests may be under way without one that gets lost.
-UNDER_WAY = 4
+# So many requests may be under way. The replies to most of them are lost if the daemon is killed: then they are stale.
+UNDER_WAY = 32
+# The bytes of a group's head.
+HEAD = 280
 # After so many the rest of the requests is sent without.
 MOST_COPIES = 80
 
@@ -54,7 +57,7 @@ def requests(die: random.Random, count: int) -> List[Request]:
         files = [path for path, node in nodes if isinstance(node, File)]
         empty = [path for path, node in nodes if isinstance(node, Directory) and not node.names]
         folders = [()] + [path for path, node in nodes if isinstance(node, Directory) and len(path) < 8]
-        words = die.choice((0, 1, 100, 234, 235, 700, 2000, 5000, 20_000, 131_072 if die.randrange(4) == 0 else 300))
+        words = die.choice((0, 1, 100, 234, 235, 700, 2000, 5000, 8000, 131_072 if die.randrange(16) == 0 else 300))
         data = die.getrandbits(64).to_bytes(8, "little") * words
         new = path_of(die.choice(folders) + ("n%d" % number,))
         moment = number * 1_000_001
@@ -89,19 +92,23 @@ class Writer(threading.Thread):
         self.kills = 0
         # It writes while this is set: while copies are made, and not while they are judged.
         self.busy = threading.Event()
+        # Whoever has it may stop the daemon, and no other one starts.
+        self.turn = threading.Lock()
         self.fault: Optional[str] = None
         self.process: Optional[subprocess.Popen[bytes]] = None
 
     def start_daemon(self) -> None:
         path = self.room / "socket"
         path.unlink(missing_ok=True)
-        with open(self.room / "daemon.errors", "ab") as errors:
+        with self.turn, open(self.room / "daemon.errors", "ab") as errors:
             self.process = subprocess.Popen([self.program, str(self.image), str(path)], stderr=errors)
 
     def stop_daemon(self) -> None:
-        if self.process is not None:
-            self.process.send_signal(signal.SIGKILL)
-            self.process.wait()
+        with self.turn:
+            if self.process is not None:
+                self.process.send_signal(signal.SIGKILL)
+                self.process.wait()
+                self.process = None
 
     def connect(self) -> socket.socket:
         until = time.monotonic() + PATIENCE
@@ -122,7 +129,7 @@ class Writer(threading.Thread):
         line = self.connect()
         held = b""
         begun = time.monotonic()
-        asked = self.answered
+        asked, known = self.answered, self.sent
         past = min(len(self.requests), asked + most)
         try:
             while self.answered < past:
@@ -130,23 +137,22 @@ class Writer(threading.Thread):
                 self.busy.wait()
                 if time.monotonic() - silent > SILENCE:
                     return
+                waiting = b""
                 while asked < past and asked - self.answered < UNDER_WAY:
                     asked += 1
-                    self.sent = max(self.sent, asked)
-                    line.sendall(encode(self.requests[asked - 1]))
+                    waiting += encode(self.requests[asked - 1])
+                self.sent = max(self.sent, asked)
+                line.sendall(waiting)
                 if asked == past and past < len(self.requests):
                     time.sleep(linger)
                     return
                 piece = line.recv(4096)
                 if not piece:
                     raise ConnectionError("the daemon closed")
-                held += piece
                 begun = time.monotonic()
-                while len(held) >= 10:
-                    if held[:10] != committed(0, self.answered + 1).framed():
-                        raise AssertionError("request %d is answered %r" % (self.answered + 1, held[:10]))
-                    held = held[10:]
-                    self.answered += 1
+                held = self.take(held + piece, known)
+                # So that there are many copies before the last request is sent.
+                time.sleep(self.die.uniform(0, 0.05))
         except OSError:
             # This process was kept waiting for so long that the daemon may have let go of it.
             if time.monotonic() - begun < SILENCE:
@@ -154,11 +160,25 @@ class Writer(threading.Thread):
         finally:
             line.close()
 
+    def take(self, held: bytes, known: int) -> bytes:
+        """Takes the answers that are whole, and gives what is left. Of requests that an earlier daemon got, up to number `known`, the
+        answer may be that the reply is no longer kept: that they were committed."""
+        while len(held) >= 4 and len(held) >= 4 + int.from_bytes(held[:4], "little"):
+            length = 4 + int.from_bytes(held[:4], "little")
+            number, told = self.answered + 1, answers_of(held[:length])[0]
+            if told != committed(DONE, number):
+                latest = int.from_bytes(told.rest, "little")
+                if told.code != STALE or not number + KEPT_REPLIES <= latest <= known:
+                    raise AssertionError("request %d is answered %r" % (number, told))
+            held = held[length:]
+            self.answered += 1
+        return held
+
     def run(self) -> None:
         try:
             self.start_daemon()
             while self.answered < len(self.requests):
-                self.converse(self.die.randrange(5, 60), self.die.uniform(0, 0.003))
+                self.converse(self.die.randrange(5, 150), self.die.uniform(0, 0.003))
                 if self.answered < len(self.requests):
                     self.stop_daemon()
                     self.kills += 1
@@ -176,27 +196,59 @@ def run(*words: str, given: bytes = b"") -> bytes:
     return done.stdout
 
 
-def by_cp(image: Path, copy: Path) -> None:
-    run("cp", str(image), str(copy))
+class Copier:
+    """The ways in which a live image is copied. Each takes the image and the path of the copy."""
 
+    def __init__(self, udfburn: str, writer: Writer) -> None:
+        self.udfburn = udfburn
+        self.writer = writer
 
-def by_cp_of_bytes(image: Path, copy: Path) -> None:
-    """Without a reflink, which would be a copy of one moment."""
-    run("cp", "--reflink=never", "--sparse=never", str(image), str(copy))
+    def end(self, image: Path) -> int:
+        """Where the newest commit of an image ends, in blocks."""
+        return int(run(self.udfburn, "log", str(image)).split(b"\n", 1)[0].split()[1]) + 1
 
+    def head(self, image: Path, copy: Path) -> None:
+        with open(copy, "wb") as out:
+            subprocess.run(["head", "-c", str(self.end(image) * BLOCK), str(image)], stdout=out, check=True, timeout=PATIENCE)
 
-def by_dd(image: Path, copy: Path) -> None:
-    run("dd", "if=%s" % image, "of=%s" % copy, "bs=%d" % random.choice((512, 2048, 3000, 65536)))
+    def cp(self, image: Path, copy: Path) -> None:
+        """Without a reflink, which would be a copy of one moment."""
+        end = self.end(image)
+        run("cp", "--reflink=never", "--sparse=never", str(image), str(copy))
+        run("truncate", "-s", str(end * BLOCK), str(copy))
 
+    def dd(self, image: Path, copy: Path) -> None:
+        end = self.end(image)
+        run("dd", "if=%s" % image, "of=%s" % copy, "bs=%d" % random.choice((512, 2048, 3000, 65536)))
+        run("truncate", "-s", str(end * BLOCK), str(copy))
 
-def by_rsync(image: Path, copy: Path) -> None:
-    run("rsync", "--append-verify", str(image), str(copy))
+    def follow(self, image: Path, copy: Path) -> None:
+        """Appends what is after the copy's last whole block."""
+        end = self.end(image)
+        have = copy.stat().st_size // BLOCK if copy.exists() else 0
+        blocks = ("bs=%d" % BLOCK, "skip=%d" % have, "seek=%d" % have, "count=%d" % (end - have))
+        run("dd", "if=%s" % image, "of=%s" % copy, *blocks, "conv=notrunc")
 
+    def rsync(self, image: Path, copy: Path) -> None:
+        """A copy on another machine, of a follower's copy."""
+        here = copy.with_suffix(".here")
+        self.follow(image, here)
+        run("rsync", "--append-verify", str(here), str(copy))
 
-def by_following(image: Path, copy: Path) -> None:
-    """Appends what is after the copy's last whole block."""
-    have = copy.stat().st_size // BLOCK if copy.exists() else 0
-    run("dd", "if=%s" % image, "of=%s" % copy, "bs=%d" % BLOCK, "skip=%d" % have, "seek=%d" % have, "conv=notrunc")
+    def snapshot(self, image: Path, copy: Path) -> None:
+        """What a snapshot of the file system has, since the daemon is stopped meanwhile."""
+        with self.writer.turn:
+            process = self.writer.process
+            if process is not None:
+                process.send_signal(signal.SIGSTOP)
+                # It is stopped, or has ended.
+                while Path("/proc/%d/stat" % process.pid).read_bytes().rsplit(b")", 1)[1].split()[0] not in (b"T", b"Z"):
+                    time.sleep(0.0001)
+            try:
+                run("cp", str(image), str(copy))
+            finally:
+                if process is not None:
+                    process.send_signal(signal.SIGCONT)
 
 
 class Replay:
@@ -238,7 +290,7 @@ class Copies:
         self.replay = Replay(sent)
         self.passed = 0
         self.failed = 0
-        self.within = 0
+        self.heads = 0
         # By the count of whole blocks, the sums of copies that had so many, and their names.
         self.sums: Dict[int, List[Tuple[bytes, str]]] = {}
 
@@ -264,8 +316,8 @@ class Copies:
                         self.failed += 1
                         print("copies: FAILED: %s is no prefix of the image" % name)
 
-    def judge(self, name: str, copy: Path, least: int, most: int) -> None:
-        """A copy is sound, is the state after one of these commits, and questions to it change nothing."""
+    def judge(self, name: str, copy: Path, least: int, most: int, is_cut: bool = False) -> None:
+        """A copy is sound, and is the state after one of these commits. One that is cut ends with that commit."""
         before = copy.stat().st_size
         try:
             told = run(self.udfburn, "check", str(copy)).split()
@@ -279,9 +331,9 @@ class Copies:
                 wrong.append("it has commit %d, not one from %d to %d" % (commit, least, most))
             if (files, folders) != tree.count() or len(log) != commit + 1:
                 wrong.append("its log prints %r" % log[0])
-            if copy.stat().st_size != before:
-                wrong.append("it was %d bytes long, and is %d" % (before, copy.stat().st_size))
-            self.within += before != (address + 1) * BLOCK
+            if is_cut and before != (address + 1) * BLOCK:
+                wrong.append("it was %d bytes long, and ends in block %d" % (before, address))
+            self.heads += before % BLOCK == HEAD
         except (RuntimeError, ValueError, IndexError) as fault:
             wrong = [str(fault)]
         if not wrong:
@@ -295,16 +347,17 @@ class Copies:
 
 Way = Callable[[Path, Path], None]
 """Makes a copy of an image at a path."""
+SNAPSHOT = "a snapshot"
 
 
-def ways_to_copy(copies: Copies, room: Path) -> List[Tuple[str, Way, Path]]:
+def ways_to_copy(copies: Copies, copier: Copier, room: Path) -> List[Tuple[str, Way, Path]]:
     """The ways in which copies are made, each with its name and the path of its copies."""
     ways: List[Tuple[str, Way, Path]] = [
-        ("cp", by_cp, room / "cp.img"), ("cp of bytes", by_cp_of_bytes, room / "bytes.img"), ("dd", by_dd, room / "dd.img"),
-        ("a follower", by_following, room / "followed.img"),
+        ("head", copier.head, room / "head.img"), ("cp", copier.cp, room / "cp.img"), ("dd", copier.dd, room / "dd.img"),
+        ("a follower", copier.follow, room / "followed.img"), (SNAPSHOT, copier.snapshot, room / "snapshot.img"),
     ]
     if shutil.which("rsync"):
-        return ways + [("rsync", by_rsync, room / "rsync.img")]
+        return ways + [("rsync", copier.rsync, room / "rsync.img")]
     print("copies: not tried: rsync is not there")
     if os.environ.get("CI") == "true":
         copies.failed += 1
@@ -321,7 +374,7 @@ def copy_while(writer: Writer, copies: Copies, ways: List[Tuple[str, Way, Path]]
             # It was killed while it wrote, or the copy was cut somewhere.
             os.truncate(copy, max(0, copy.stat().st_size - die.randrange(9000)))
         writer.busy.set()
-        time.sleep(die.uniform(0, 0.02))
+        time.sleep(die.uniform(0, 0.01))
         least = writer.answered
         try:
             way(writer.image, copy)
@@ -334,8 +387,9 @@ def copy_while(writer: Writer, copies: Copies, ways: List[Tuple[str, Way, Path]]
         # What is asked of a copy must not make it another one: questions go to one of their own.
         asked = writer.room / "asked.img"
         shutil.copyfile(copy, asked)
-        copies.remember("%s, copy %d" % (name, made), asked)
-        copies.judge("%s, copy %d" % (name, made), asked, least, most)
+        if name != SNAPSHOT:
+            copies.remember("%s, copy %d" % (name, made), asked)
+        copies.judge("%s, copy %d" % (name, made), asked, least, most, name != SNAPSHOT)
     return made
 
 
@@ -374,7 +428,7 @@ def main() -> int:
     udfburn, udfburnd = (os.path.abspath(word) for word in sys.argv[1:3])
     room = Path(sys.argv[3])
     seed = int(sys.argv[4]) if len(sys.argv) > 4 else SEED
-    count = int(sys.argv[5]) if len(sys.argv) > 5 else 2000
+    count = int(sys.argv[5]) if len(sys.argv) > 5 else 4000
     print("copies: seed %d, %d requests" % (seed, count), flush=True)
     die = random.Random(seed)
     random.seed(seed)
@@ -382,8 +436,8 @@ def main() -> int:
     copies = Copies(udfburn, sent)
     image = room / "disc.img"
     run(udfburn, "format", str(image), "COPIES", str(FORMAT_MOMENT), str(CAPACITY))
-    ways = ways_to_copy(copies, room)
     writer = Writer(udfburnd, room, image, sent, random.Random(seed + 1))
+    ways = ways_to_copy(copies, Copier(udfburn, writer), room)
     writer.start()
     try:
         made = copy_while(writer, copies, ways, die)
@@ -393,7 +447,7 @@ def main() -> int:
     if writer.fault is not None or writer.answered != count:
         copies.failed += 1
         print("copies: FAILED: the run: %s, %d answers" % (writer.fault, writer.answered))
-    print("copies: %d copies, %d of them inside a commit, %d kills" % (made, copies.within, writer.kills), flush=True)
+    print("copies: %d copies, %d of them with a head, %d kills" % (made, copies.heads, writer.kills), flush=True)
     copies.compare(image)
     judge_prefixes(copies, image, room, die)
     copy_whole(copies, image, ways)

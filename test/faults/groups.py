@@ -2,15 +2,17 @@
 
 A group is what is complete in a piece of the input, up to 64 commits or 64 KiB of answers. A request that appends to a file that has
 bytes is a group alone. The last block of each commit is a mark. All other blocks of a group go to the file, where the marks' places are
-zeros, and are synced. Then the marks go there, and are synced. Only then is the group answered.
+zeros, then its head goes behind them, and both are synced. Then the marks go there, and are synced, and the head is cut off, which is not
+synced. Only then is the group answered.
 """
 from __future__ import annotations
 
 from typing import Any, NamedTuple, Optional, Sequence, Union
 
-from faults.calls import is_entry
+from faults.calls import Discipline, is_entry
 from faults.case import Case, need_shim
-from faults.log import Record
+from faults.heads import head_of
+from faults.log import Record, read_log
 from faults.machine import leave_out
 from faults.pages import Disk
 from faults.programs import built
@@ -91,6 +93,12 @@ def commits_of(image: bytes) -> int:
     return len(marks_of(image, 0)) - 1
 
 
+def is_head(part: bytes, image: bytes, end: int) -> bool:
+    """Whether this is the head of a group that ends before the block `end`, with all marks that the image has in the group."""
+    begin = int.from_bytes(part[8:12], "little")
+    return part == head_of(begin, end, marks_of(image[:end * BLOCK], begin * BLOCK))
+
+
 class Told(NamedTuple):
     """The answers of a run, and the byte of its output with which each begins."""
 
@@ -115,88 +123,19 @@ def running(records: Sequence[Record]) -> Sequence[Record]:
     return records[next((index for index, record in enumerate(records) if record.kind == "stdin"), len(records)):]
 
 
-class Following:
-    """Follows the log of a run in which no call failed, and keeps what is wrong in it as `faults`. The image was `before`, and is
-    `final` in the end. `groups` are the marks of each group that was written."""
-
-    def __init__(self, before: bytes, final: bytes, answers: Sequence[Answer]) -> None:
-        self.final = final
-        self.told = Told.of(answers)
-        self.earlier = commits_of(before)
-        self.marks = set(marks_of(final, len(before)))
-        self.cache = bytearray(before)
-        # What is settled ends here, and what the first sync of a group has ends there.
-        self.begun = len(before)
-        self.end: Optional[int] = None
-        self.blocks: set[int] = set()
-        self.output = self.syncs = 0
-        self.groups: list[list[int]] = []
-        self.faults: list[str] = []
-
-    def wrong(self, index: int, what: str) -> None:
-        self.faults.append("record %d: %s" % (index, what))
-
-    def follow(self, records: Sequence[Record]) -> Following:
-        for index, record in enumerate(running(records)):
-            if record.error:
-                self.wrong(index, "%s failed" % record.kind)
-            if record.kind == "pwrite":
-                self.wrote(index, record)
-            elif record.kind == "ftruncate":
-                self.grew(index, record)
-            elif record.kind == "fsync":
-                self.synced(index)
-            elif record.kind == "stdout":
-                self.answered(index, record)
-        if self.end is not None or len(self.cache) != self.begun:
-            self.wrong(len(records), "the last group is not settled")
-        if bytes(self.cache) != self.final:
-            self.wrong(len(records), "the image is not what was written")
-        return self
-
-    def wrote(self, index: int, record: Record) -> None:
-        if record.offset % BLOCK or record.length % BLOCK or record.result != record.length:
-            self.wrong(index, "a write of %d bytes at %d" % (record.length, record.offset))
-        blocks = set(range(record.offset // BLOCK, (record.offset + record.length) // BLOCK))
-        if blocks & self.blocks or record.offset < self.begun:
-            self.wrong(index, "a block is written twice")
-        self.blocks |= blocks
-        if self.end is None and blocks & self.marks:
-            self.wrong(index, "a mark goes out before the first sync")
-        if self.end is not None and not (len(blocks) == 1 and blocks <= self.marks and record.offset < self.end):
-            self.wrong(index, "what is no mark of the group goes out behind the first sync")
-        self.cache.extend(bytes(max(0, record.offset - len(self.cache))))
-        self.cache[record.offset:record.offset + record.length] = record.data
-
-    def grew(self, index: int, record: Record) -> None:
-        if self.end is not None or record.offset < len(self.cache):
-            self.wrong(index, "the file is cut to %d" % record.offset)
-        self.cache.extend(bytes(max(0, record.offset - len(self.cache))))
-
-    def synced(self, index: int) -> None:
-        self.syncs += 1
-        end = len(self.cache)
-        wanted = bytearray(self.final[self.begun:end])
-        marks = sorted(at for at in self.marks if self.begun <= at * BLOCK < end)
-        if self.end is None:
-            for at in marks:
-                wanted[at * BLOCK - self.begun:(at + 1) * BLOCK - self.begun] = bytes(BLOCK)
-        if self.cache[self.begun:] != wanted:
-            self.wrong(index, "the %s sync has other blocks" % ("first" if self.end is None else "second"))
-        if not marks:
-            self.wrong(index, "a sync of nothing")
-        if self.end is None:
-            self.end = end
-        else:
-            self.groups.append(marks)
-            self.begun, self.end = end, None
-
-    def answered(self, index: int, record: Record) -> None:
-        self.output += len(record.data)
-        if self.end is not None or len(self.cache) != self.begun:
-            self.wrong(index, "an answer goes out within a group")
-        if self.told.promised(self.output) > self.earlier + sum(map(len, self.groups)):
-            self.wrong(index, "an answer goes out before its group is settled")
+def has_kept(disk: Disk, final: bytes) -> bool:
+    """Whether the disk has the blocks of the file, which are the first of `final`, whatever a power loss leaves of what is not synced.
+    Behind them may be the head of a group that has all its marks."""
+    end = len(disk.cache) // BLOCK
+    blocks = end * BLOCK
+    for content in (bytes(disk.cache), bytes(disk.disk)):
+        if content[:blocks] != final[:blocks] or content[blocks:] and not is_head(content[blocks:], final, end):
+            return False
+    for number, versions in disk.dirty.items():
+        start = number * disk.page
+        if any(held[:max(0, blocks - start)] != final[start:min(blocks, start + disk.page)] for held in versions):
+            return False
+    return disk.cut in (None, blocks)
 
 
 def not_kept(before: bytes, records: Sequence[Record], final: bytes, answers: Sequence[Answer]) -> list[str]:
@@ -207,13 +146,22 @@ def not_kept(before: bytes, records: Sequence[Record], final: bytes, answers: Se
         if record.kind != "stdout":
             continue
         output += len(record.data)
-        if not disk.is_clean() or bytes(disk.disk) != final[:len(disk.disk)]:
+        if not has_kept(disk, final):
             faults.append("record %d: an answer, and the disk has something else" % index)
         if told.promised(output) > commits_of(bytes(disk.disk)):
             faults.append("record %d: an answer, and the disk does not have its commit" % index)
-    if bytes(disk.disk) != final:
+    if not has_kept(disk, final) or len(disk.cache) // BLOCK * BLOCK != len(final):
         faults.append("in the end the disk has something else")
     return faults
+
+
+class Run(NamedTuple):
+    """A stream on a volume, in groups: the image before and after it, its answers, and the calls."""
+
+    before: bytes
+    final: bytes
+    answers: list[Answer]
+    records: list[Record]
 
 
 class Grouped(Case):
@@ -226,3 +174,14 @@ class Grouped(Case):
     def groups(self, frames: bytes, image: str = "d.img", **others: Any) -> Ran:
         """Answers a stream in groups."""
         return self.program([built().apply_groups, image], stdin=frames, image=image, **others)
+
+    def followed(self, run: Run) -> Discipline:
+        return Discipline(len(run.before), self.folder, commits=commits_of(run.before)).follow(read_log(self.log_path()))
+
+    def right(self, run: Run) -> Discipline:
+        """The order of calls was as it must be, and what was written is all that the image has behind what it had before."""
+        followed, begin, final = self.followed(run), len(run.before), run.final
+        self.assertEqual(followed.faults, [])
+        self.assertTrue(followed.content[begin:] == final[begin:], "the image is not what was written")
+        self.assertEqual(followed.group_syncs, 2 * len(followed.groups))
+        return followed

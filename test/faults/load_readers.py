@@ -177,13 +177,14 @@ class Beside(Reading):
                         if state_of(process) not in "TZX":
                             answer = client.answer()
                             if answer is not None:
-                                # There are fewer writes: the bytes, what is encoded after them, and the last block.
-                                self.assertGreater(write, 3)
+                                # There are fewer writes: the bytes, what is encoded after them, the last block of that, and the mark.
+                                self.assertGreater(write, 4)
                                 self.assertEqual(answer, committed(0, 1))
                                 continue
                             daemon.wait()
                         commits = log_lines(self.udfburn("log", "d.img"))[0][0]
-                        self.assertLessEqual(commits, int(action in ("k", "P100000K")))
+                        # Behind its first bytes a mark is zeros, as its place is before.
+                        self.assertLessEqual(commits, int(action in ("k", "P100000K") or write == 4))
                         expected = Ran(0, request.data, b"") if commits else Ran(1, b"", b"udfburn: 96 NotFound\n")
                         self.assertEqual(self.udfburn("get", "d.img", WATCHED), expected)
                         self.assertEqual(self.sound(), commits)
@@ -212,7 +213,7 @@ class Beside(Reading):
                     self.fresh(capacity=400000)
                     self.apply(b"".join(encode(each) for each in self.requests))
                     before = self.path("d.img").stat().st_size
-                    with Daemon(self.folder, rules="pwrite:1:P40960E28;ftruncate:1:H") as daemon, daemon.client() as client:
+                    with Daemon(self.folder, rules="pwrite:1:P40960E28;pwrite:2:E28;ftruncate:1:H") as daemon, daemon.client() as client:
                         client.send(encode(request))
                         self.assertTrue(await_true(lambda: state_of(daemon.process.pid) == "T"), "nothing was cut")
                         self.assertEqual(self.path("d.img").stat().st_size, before + 40960)
@@ -228,9 +229,9 @@ class Beside(Reading):
                         self.is_a_state(words, self.udfburn(*words), 20, 20)
 
     def test_beside_a_last_sync_that_fails(self) -> None:
-        """A commit is whole in the file, and its last sync failed: a reader shows it, though it is answered 36. One that goes on when it
-        was taken back, and another commit is after its other blocks, reports that state, or the one before, or that a block is not
-        what it was. The next one reports the state."""
+        """A commit is whole in the file, and its last sync failed: a reader shows it, though it is answered 36, since it fails again when it is
+        done anew. One that goes on when it was taken back, and another commit is after its other blocks, reports that state, or the one
+        before, or that a block is not what it was. The next one reports the state."""
         need_shim()
         self.begin(7026, 20)
         taken = Request("replace", 7, 1, WATCHED, b"t" * 20_000)
@@ -243,7 +244,7 @@ class Beside(Reading):
                 with during("%r, at %.2f of its reads" % (words, place)):
                     self.fresh(capacity=400000)
                     self.apply(b"".join(encode(each) for each in self.requests))
-                    with Daemon(self.folder, rules="fsync:3:E5;ftruncate:1:H") as daemon, daemon.client() as client:
+                    with Daemon(self.folder, rules="fsync:3:E5;pwrite:5:H;fsync:7:E5") as daemon, daemon.client() as client:
                         client.send(encode(taken))
                         self.assertTrue(await_true(lambda: state_of(daemon.process.pid) == "T"), "nothing was cut")
                         self.states[21:] = [whole]

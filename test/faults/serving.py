@@ -2,6 +2,7 @@
 from __future__ import annotations
 
 import errno
+import itertools
 from typing import Optional, Sequence
 
 from faults.calls import Discipline
@@ -9,7 +10,7 @@ from faults.case import Case, need_shim
 from faults.log import KINDS, Record, read_log
 from faults.pages import Disk
 from faults.running import Client, Daemon
-from protocol import FAULT, Answer, Model, Request, encode, paths_of
+from protocol import BLOCK, FAULT, Answer, Model, Request, encode, paths_of
 
 
 class Serving(Case):
@@ -58,6 +59,19 @@ class Serving(Case):
         self.assertEqual(faults, 0)
         return {kind: sum(record.kind == kind for record in records) for kind in kinds}
 
+    @staticmethod
+    def numbers(records: Sequence[Record], kind: str) -> list[list[int]]:
+        """The numbers of the calls of this kind before each answer of a daemon and behind the one before it."""
+        found: list[list[int]] = [[]]
+        calls = 0
+        for record in records:
+            if record.kind == kind:
+                calls += 1
+                found[-1].append(calls)
+            elif record.kind == "send":
+                found.append([])
+        return found[:-1]
+
     def opening(self) -> dict[str, int]:
         """How many calls the opening of an image takes, up to the daemon's first wait for a client."""
         self.fresh()
@@ -71,8 +85,23 @@ class Serving(Case):
         return {kind: sum(record.kind == kind for record in records[:upto]) for kind in KINDS}
 
     def cut_behind(self, records: Sequence[Record]) -> None:
-        """After the first failure the next call that changes or reads the file cuts it, and the one after that is a sync."""
+        """After the first failure the next call that changes or reads the file cuts it, and the one after that is a sync. Where the file may
+        have marks, zeros in their places come first, and their sync. The place of a mark whose write failed is looked at before that."""
         failed = next(index for index, record in enumerate(records)
                       if record.kind in ("pwrite", "fsync") and record.error not in (0, errno.EINTR))
         after = [record for record in records[failed + 1:] if record.kind in ("pread", "pwrite", "ftruncate", "fsync")]
-        self.assertEqual([record.kind for record in after[:2]], ["ftruncate", "fsync"])
+        place = records[failed].offset // BLOCK * BLOCK
+        if records[failed].kind == "pwrite" and after and (after[0].kind, after[0].offset, after[0].length) == ("pread", place, BLOCK):
+            del after[0]
+        zeros = list(itertools.takewhile(lambda record: record.kind == "pwrite" and record.length == BLOCK and not any(record.data), after))
+        wanted = [*["pwrite"] * len(zeros), *["fsync"] * bool(zeros), "ftruncate", "fsync"]
+        self.assertEqual([record.kind for record in after[:len(wanted)]], wanted)
+
+    def cuts(self, records: Sequence[Record], length: int) -> int:
+        """How many truncations behind the first sync did not make a file longer, which had this length before."""
+        disk, found, is_synced = Disk(bytes(length), 4096), 0, False
+        for record in records:
+            is_synced = is_synced or record.kind == "fsync"
+            found += is_synced and record.kind == "ftruncate" and record.offset <= len(disk.cache)
+            disk.call(record)
+        return found

@@ -5,11 +5,11 @@ from __future__ import annotations
 import random
 import subprocess
 import time
-from typing import Iterator, NamedTuple, Optional, Sequence
+from typing import Iterator, Optional, Sequence
 
-from faults.groups import (
-    Following, Grouped, Item, commits_of, filled, grouped, marks_of, need_groups, not_kept, replayed, running, stream_of,
-)
+from faults.calls import Discipline
+from faults.groups import Grouped, Item, Run, commits_of, filled, grouped, is_head, marks_of, need_groups, not_kept, replayed, running, stream_of
+from faults.heads import HEAD_BYTES, head_of
 from faults.log import Record, read_log
 from faults.programs import built
 from faults.running import environment
@@ -130,15 +130,6 @@ def mixed(seed: int, count: int) -> Iterator[Item]:
             yield request
 
 
-class Run(NamedTuple):
-    """A stream on a volume, in groups: the image before and after it, its answers, and the calls."""
-
-    before: bytes
-    final: bytes
-    answers: list[Answer]
-    records: list[Record]
-
-
 class Both(Grouped):
     def both(self, items: Sequence[Item], capacity: int = CAPACITY, before: Optional[bytes] = None) -> Run:
         """The stream by `udfburn apply` and in groups, on a new volume or on this image: the same answers and bytes."""
@@ -156,16 +147,15 @@ class Both(Grouped):
         self.assertTrue(final == self.path("one.img").read_bytes(), "the images differ")
         return Run(before, final, answers_of(ran.output), read_log(self.log_path()))
 
-    def settled(self, items: Sequence[Item], run: Run) -> Following:
-        """Each group is what it must be, in two syncs, and the order of calls is as it must be."""
-        followed = Following(run.before, run.final, run.answers).follow(run.records)
-        self.assertEqual(followed.faults, [])
+    def settled(self, items: Sequence[Item], run: Run, waits: int = 0) -> Discipline:
+        """Each group is what it must be, in two syncs, and the order of calls is as it must be. So often a cut is waited for."""
+        followed = self.right(run)
         marks = iter(marks_of(run.final, len(run.before)))
         wanted = [[next(marks) for _ in group] for group in grouped(items, run.answers) if group]
         self.assertEqual(followed.groups, wanted)
         self.assertEqual(list(marks), [])
-        self.assertEqual(followed.syncs, 2 * len(wanted))
-        self.assertEqual(sum(record.kind == "fsync" for record in running(run.records)), 2 * len(wanted))
+        self.assertEqual(followed.waits, waits)
+        self.assertEqual(sum(record.kind == "fsync" for record in running(run.records)), 2 * len(wanted) + waits)
         return followed
 
     def tried(self, items: Sequence[Item], capacity: int = CAPACITY) -> list[int]:
@@ -236,6 +226,18 @@ class SameBytes(Both):
             with self.subTest(at=at):
                 self.assertEqual(self.tried(items), [4])
 
+    def test_data_that_imitates_a_head(self) -> None:
+        """Where the disk may still have the length with a head, it is made to know of the cut before such a block goes there."""
+        first = filled(creates([10, 20]))
+        end = len(self.both(first).final) // BLOCK
+        like = head_of(end - 3, end, [end - 1])
+        items = [*first, Request("create", 2, 1, "/a", like + data_of(5000))]
+        self.settled(items, self.both(items), 1)
+        # In the middle of a group, and behind a group of one commit, no head was.
+        for first in (creates([10]), filled(creates([10]))):
+            items = [*first, Request("create", 2, 1, "/a", like + data_of(5000))]
+            self.settled(items, self.both(items))
+
     def test_a_part_of_a_block(self) -> None:
         """What an earlier loss left behind the last whole block."""
         before = self.fresh(capacity=CAPACITY).read_bytes()
@@ -274,8 +276,7 @@ class SameBytes(Both):
             with self.subTest(seed=seed):
                 self.assertEqual((process.returncode, answers_of(output) == run.answers), (0, True))
                 self.assertTrue(self.path("d.img").read_bytes() == run.final)
-                followed = Following(run.before, run.final, run.answers).follow(read_log(self.log_path()))
-                self.assertEqual((followed.faults, followed.syncs), ([], 2 * len(followed.groups)))
+                self.assertEqual(self.right(run).waits, 0)
 
     def test_at_random(self) -> None:
         codes: set[int] = set()
@@ -332,11 +333,25 @@ class Failures(Both):
             step = max(1, -(-len(numbers) // MOST_CALLS[kind]))
             for place, number in enumerate(numbers[::-step]):
                 yield "%s:%d:%s" % (kind, number, actions[place % len(actions)])
+        writes = [record for record in records if record.kind == "pwrite"]
+        for number in [number for number, record in enumerate(writes, 1) if record.length == HEAD_BYTES]:
+            yield from ("pwrite:%d:%s" % (number, action) for action in ("E5", "P100E28", "A5"))
 
     def undisturbed(self) -> Run:
         run = self.both(THREE)
         self.assertEqual([len(marks) for marks in self.settled(THREE, run).groups], [3, 4, 3])
         return run
+
+    def has_head(self, run: Run, records: Sequence[Record]) -> bool:
+        """The image has the bytes of a run in which no call failed. Only where one fails behind the last sync, so that the head of the last
+        group is not cut off, is that head there too."""
+        image, last = self.path("d.img").read_bytes(), len(run.final)
+        late = records[max(index for index, record in enumerate(records) if record.kind == "fsync"):]
+        is_left = any(record.error for record in late) and not any(record.kind == "ftruncate" and not record.result for record in late)
+        self.assertTrue(image[:last] == run.final, "the image has other bytes")
+        self.assertEqual(len(image), last + HEAD_BYTES * is_left)
+        self.assertTrue(not is_left or is_head(image[last:], run.final, last // BLOCK))
+        return is_left
 
     def served(self, rules: str = "", begin: Optional[Model] = None) -> tuple[list[Answer], Model]:
         """Answers the stream under rules by which calls fail: each message is answered, and the tree is what the answers tell."""
@@ -350,9 +365,9 @@ class Failures(Both):
 
     def test_each_call(self) -> None:
         """One call fails: the same answers and the same bytes, and nothing is answered that the disk does not have."""
-        run = self.undisturbed()
+        run, heads = self.undisturbed(), 0
         cases = list(self.cases(run.records))
-        self.assertLessEqual(len(cases), 45)
+        self.assertLessEqual(len(cases), 50)
         for rule in cases:
             with self.subTest(rule):
                 self.path("d.img").write_bytes(run.before)
@@ -360,27 +375,33 @@ class Failures(Both):
                 records = read_log(self.log_path())
                 self.assertTrue(any(record.error or record.kind == "pwrite" and not record.result for record in running(records)))
                 self.assertEqual(answers, run.answers)
-                self.assertTrue(self.path("d.img").read_bytes() == run.final, "the image has other bytes")
+                heads += self.has_head(run, records)
                 self.assertEqual(not_kept(run.before, records, run.final, answers), [])
-        print("groups: %d calls failed" % len(cases))
+        print("groups: %d calls failed, %d of them so that a head is left" % (len(cases), heads))
+        self.assertGreater(heads, 0)
 
     def test_several(self) -> None:
         """The cut fails too, or what is done one by one behind it: what is answered is what is there, and the rest can be sent again."""
         run, faults = self.undisturbed(), 0
+        # The first group has seven writes of blocks, its head and three marks.
         for rules in (
-            "fsync:2:E5;ftruncate:2:E5",
-            "fsync:3:A5;ftruncate:2-3:E5",
+            "fsync:2:E5;ftruncate:1:E5",
+            "fsync:3:A5;ftruncate:1-2:E5",
+            "fsync:3:A5;pwrite:12:E5",
+            "fsync:3:A5;pwrite:13-14:P1000E28",
+            "fsync:3-4:A5",
             "pwrite:4:P1000E28;ftruncate:1:E5",
             "pwrite:4:E5;ftruncate:1-3:E5",
+            "pwrite:8:P100E28;ftruncate:1:E5",
             "fsync:4:E5;fsync:5:E5",
             "fsync:4-7:A5",
-            "pwrite:9-14:E28",
+            "pwrite:10-15:E28",
             "fstat:6-12:E5",
-            "fstat:20:E5;ftruncate:2:E5",
-            "ftruncate:2-4:E5",
+            "fstat:20:E5;ftruncate:1:E5",
+            "ftruncate:1-4:E5",
             "pwrite:3+:E28",
             "fsync:4+:E5",
-            "pwrite:12+:P100E28",
+            "pwrite:13+:P100E28",
             "pread:300+:E5",
         ):
             with self.subTest(rules):
@@ -393,16 +414,26 @@ class Failures(Both):
         self.assertGreater(faults, 10)
 
     def test_a_cut_that_never_works(self) -> None:
-        """The last group cannot be taken back: its requests are answered 36, and the next process finds each of them done or not."""
+        """The last group cannot be taken back: its requests are answered 36, and the next process finds all of them done if all their marks are
+        there, and otherwise none."""
         run = self.undisturbed()
-        for rules in ("fsync:7:A5;ftruncate:4+:E5", "fsync:6:E5;ftruncate:4+:E5", "pwrite:30+:E28;ftruncate:3+:E5"):
+        writes = sum(record.kind == "pwrite" for record in run.records)
+        for rules, commits in (
+            ("fsync:6:E5;ftruncate:3+:E5", 7),
+            ("pwrite:%d+:E28;ftruncate:3+:E5" % (writes - 6), 7),
+            # The disk has the marks. They become zeros before the cut, all, none or the first of them.
+            ("fsync:7:A5;ftruncate:3+:E5", 7),
+            ("fsync:7+:A5", 7),
+            ("fsync:7:A5;pwrite:%d+:E5" % (writes + 1), 10),
+            ("fsync:7:A5;pwrite:%d+:E5" % (writes + 2), 7),
+        ):
             with self.subTest(rules):
                 self.path("d.img").write_bytes(run.before)
                 ran = self.groups(stream_of(THREE), rules=rules)
                 answers = answers_of(ran.output)
                 self.assertEqual(sum(answer == Answer(FAULT) for answer in answers), 3)
-                commits = self.sound()
-                self.assertGreaterEqual(commits, 7)
+                self.groups(b"")
+                self.assertEqual(self.sound(), commits)
                 there, _ = replayed(REQUESTS[:commits], [answer for answer in run.answers if answer.is_commit][:commits])
                 self.assertEqual(there.commits, commits)
                 _, model = self.served(begin=there)
@@ -427,16 +458,22 @@ class Itself(Both):
         run = self.both(THREE)
         self.path("d.img").write_bytes(run.before)
         self.groups(stream_of(THREE), rules=rules, log=self.new_log())
-        return Following(run.before, run.final, run.answers).follow(read_log(self.log_path())).faults
+        return self.followed(run).faults
 
-    def test_a_sync_that_lies(self) -> None:
+    def test_a_call_that_lies(self) -> None:
         self.assertEqual(self.faults(""), [])
-        self.assertTrue(any("a mark goes out before the first sync" in fault for fault in self.faults("fsync:2:L")))
-        self.assertTrue(any("within a group" in fault for fault in self.faults("fsync:3:L")))
-        self.assertTrue(any("before its group is settled" in fault for fault in self.faults("fsync:*:L")))
-
-    def test_a_write_that_lies(self) -> None:
-        self.assertTrue(any("the first sync has other blocks" in fault for fault in self.faults("pwrite:1:L")))
+        for rules, what in (
+            ("fsync:2:L", "goes out before all else was synced"),
+            ("fsync:3:L", "within a group"),
+            ("fsync:*:L", "before its group is settled"),
+            ("pwrite:1:L", "the first sync has other blocks"),
+            # The head.
+            ("pwrite:8:L", "the first sync has other blocks"),
+            ("pwrite:9:L", "a second sync without all marks"),
+            ("ftruncate:1:L", "before the head is cut off"),
+        ):
+            with self.subTest(rules):
+                self.assertTrue(any(what in fault for fault in self.faults(rules)))
 
     def test_what_is_not_kept(self) -> None:
         run = self.both(THREE)

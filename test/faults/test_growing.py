@@ -112,25 +112,38 @@ class Failures(Pieces, Serving):
     capacity = CAPACITY
 
     def test_each_write(self) -> None:
+        """One that fails is no fault; one of what is then done again is."""
         requests = [*FIRST, *TWO]
-        calls = self.calls(requests, ["pwrite"])["pwrite"]
+        calls = self.numbers(self.run_with("", requests)[0], "pwrite")
+        whole = self.path("d.img").read_bytes()
         # The first file's own writes are those of any file.
-        for number in range(calls - 10, calls + 1):
-            for action in ("E5", "P1000E28", "P3000E5", "A5"):
-                with self.subTest(number=number, action=action):
-                    records, faults = self.run_with("pwrite:%d:%s" % (number, action), requests)
-                    self.assertEqual(faults, 1)
-                    self.cut_behind(records)
+        for place, numbers in list(enumerate(calls))[1:]:
+            again = "pwrite:%d:E5;pwrite:%d:" % (numbers[0], numbers[1])
+            for rule in [*("pwrite:%d:" % number for number in numbers), again]:
+                for action in ("E5", "P1000E28", "P3000E5", "A5"):
+                    with self.subTest(place=place, rule=rule, action=action):
+                        records, faults = self.run_with(rule + action, requests)
+                        self.assertEqual(faults, rule == again)
+                        self.cut_behind(records)
+                        self.assertTrue(rule == again or self.path("d.img").read_bytes() == whole)
 
     def test_each_sync(self) -> None:
-        first = self.opening()["fsync"]
+        """One that fails is no fault; one of what is then done again is."""
         requests = [*FIRST, *THREE]
-        for number in range(first + 1, self.calls(requests, ["fsync"])["fsync"] + 1):
-            for action in ("E5", "A5"):
-                with self.subTest(number=number, action=action):
-                    records, faults = self.run_with("fsync:%d:%s" % (number, action), requests)
-                    self.assertEqual(faults, 1)
-                    self.cut_behind(records)
+        calls = self.numbers(self.run_with("", requests)[0], "fsync")
+        whole = self.path("d.img").read_bytes()
+        self.assertEqual([len(numbers) for numbers in calls], [3, 2, 2, 2, 2])
+        for place, numbers in enumerate(calls):
+            first, second = numbers[-2:]
+            # The cut takes a sync too.
+            again = "fsync:%d:E5;fsync:%d:" % (first, first + 3)
+            for rule in ("fsync:%d:" % first, "fsync:%d:" % second, again):
+                for action in ("E5", "A5"):
+                    with self.subTest(place=place, rule=rule, action=action):
+                        records, faults = self.run_with(rule + action, requests)
+                        self.assertEqual(faults, rule == again)
+                        self.cut_behind(records)
+                        self.assertTrue(rule == again or self.path("d.img").read_bytes() == whole)
 
     def test_reads_of_a_file(self) -> None:
         """A read that fails ends `get`, which has printed the pieces before the one that it was of, and no byte of that one."""

@@ -118,6 +118,23 @@ class Order(Case):
                 self.assertEqual((followed.answers, followed.seen_entries), (len(stream), len(stream)))
                 self.tree_is(model, paths_of(stream))
 
+    def test_two_syncs_for_what_came_together(self) -> None:
+        """By `apply`, and by the daemon where frames are sent at once. Three that come one after another take six."""
+        frames = b"".join(map(encode, BEFORE))
+        length = self.fresh(capacity=3000).stat().st_size
+        self.apply(frames, log=self.new_log())
+        followed = self.disciplined(read_log(self.log_path()), length)
+        self.assertEqual((list(map(len, followed.groups)), followed.group_syncs), ([4], 2))
+        for sent, groups in (([frames], [4]), ([encode(request) for request in BEFORE[:3]], [1, 1, 1])):
+            self.fresh(capacity=3000)
+            with Daemon(self.folder, log=self.new_log()) as daemon, daemon.client() as client:
+                for piece in sent:
+                    client.send(piece)
+                    for _ in range(len(BEFORE) if piece == frames else 1):
+                        self.assertIsNotNone(client.answer())
+            followed = self.disciplined(read_log(self.log_path()), length, daemon=True)
+            self.assertEqual((list(map(len, followed.groups)), followed.group_syncs), (groups, 2 * len(groups)))
+
     def test_a_commit_over_a_gap(self) -> None:
         """Data that would be a VAT ICB where it would be goes one block further, and a block of zeros is before it."""
         image = self.fresh()

@@ -1,13 +1,13 @@
 """Files that go out as one run of blocks: the order of calls, power that is lost, and calls that fail inside of the run.
 
-All blocks of a commit but the last go out as one run, in at most two writes: the whole blocks of the file's data as they lie in the
-request, and up to 32 encoded blocks. One sync ends it. The last block goes out alone, and a second sync ends that. Where there are more
-encoded blocks, each further 32 are a run of their own (docs/DECISIONS.md).
+All blocks of a commit but the last go out as one run: the whole blocks of the file's data as they lie in the request, and up to 32 encoded
+blocks in each further write, of which the last waits until it is known to be no mark, and goes out alone. One sync ends the run. The last
+block goes out alone, and a second sync ends that (docs/DECISIONS.md).
 """
 from __future__ import annotations
 
 import random
-from typing import NamedTuple, Optional, Sequence
+from typing import List, NamedTuple, Optional, Sequence
 
 from faults.calls import Discipline, is_entry, told_by
 from faults.case import Case, need_shim
@@ -66,15 +66,13 @@ def wrong_in(runs: Sequence[Run], begin: int, end: int, lent: int) -> Optional[s
         return "the writes end at %d, and the commit at %d" % (at, end)
     if runs[-1].lengths() != [BLOCK] or not is_entry(writes[-1].data, end // BLOCK - 1):
         return "the last block is not alone in the last run"
-    encoded = (end - begin) // BLOCK - lent - 1
-    wanted = max(1, -(-encoded // PACKET))
-    if len(runs) - 1 != wanted:
-        return "%d runs before the last block, and %d encoded blocks take %d" % (len(runs) - 1, encoded, wanted)
-    first = [lent * BLOCK, min(encoded, PACKET) * BLOCK]
-    if runs[0].lengths() != [length for length in first if length]:
-        return "the first run has writes of %s bytes, and not %s" % (runs[0].lengths(), first)
-    if any(len(run.writes) > 1 for run in runs[1:]):
-        return "a further run has more than one write"
+    if len(runs) != 2:
+        return "%d runs" % len(runs)
+    encoded, wanted = (end - begin) // BLOCK - lent - 1, [lent]
+    for first in range(0, encoded, PACKET):
+        wanted += [min(encoded - first, PACKET) - 1, 1]
+    if runs[0].lengths() != [blocks * BLOCK for blocks in wanted if blocks]:
+        return "the first run has writes of %s bytes, and not of %s blocks" % (runs[0].lengths(), wanted)
     return None
 
 
@@ -116,7 +114,7 @@ class Order(Case):
         return syncs
 
     def test_two_syncs_a_commit(self) -> None:
-        """Of any size: two syncs, and three writes."""
+        """Of any size: two syncs, and at most four writes."""
         requests = [Request("create", 1, number, "/f%d" % number, data_of(size)) for number, size in enumerate(SIZES, 1)]
         requests += [Request("replace", 1, len(SIZES) + number, "/f%d" % number, data_of(size + 1)) for number, size in enumerate(SIZES[:-1], 1)]
         length = self.fresh(capacity=9000).stat().st_size
@@ -146,9 +144,9 @@ class Itself(Case):
         self.apply(encode(Request("create", 1, 1, "/a", data_of(33 * BLOCK))), log=self.log_path())
         self.records = read_log(self.log_path())
         self.end = self.path("d.img").stat().st_size
-        # The lent blocks, the encoded ones, and the last.
+        # The lent blocks, the encoded ones, the last of these, and the mark.
         self.writes = [index for index, record in enumerate(self.records) if record.kind == "pwrite"]
-        self.assertEqual(len(self.writes), 3)
+        self.assertEqual(len(self.writes), 4)
 
     def wrong(self, records: Sequence[Record]) -> Optional[str]:
         return wrong_in(runs_of(records), self.length, self.end, 33)
@@ -157,7 +155,7 @@ class Itself(Case):
         self.assertIsNone(self.wrong(self.records))
 
     def test_a_run_without_its_sync(self) -> None:
-        first = next(index for index in range(self.writes[1], self.writes[2]) if self.records[index].kind == "fsync")
+        first = next(index for index in range(self.writes[2], self.writes[3]) if self.records[index].kind == "fsync")
         records = self.records[:first] + self.records[first + 1:]
         self.assertIsNotNone(self.wrong(records))
         self.assertTrue(any("before all else was synced" in fault for fault in Discipline(self.length, self.folder).follow(records).faults))
@@ -174,10 +172,10 @@ class Itself(Case):
 
     def test_the_last_block_in_the_run(self) -> None:
         records = list(self.records)
-        second, last = records[self.writes[1]], records[self.writes[2]]
+        second, last = records[self.writes[2]], records[self.writes[3]]
         grown = second.length + last.length
-        records[self.writes[1]] = second._replace(length=grown, result=grown, data=second.data + last.data)
-        del records[self.writes[2]]
+        records[self.writes[2]] = second._replace(length=grown, result=grown, data=second.data + last.data)
+        del records[self.writes[3]]
         self.assertIsNotNone(self.wrong(records))
         self.assertTrue(any("a table's entry goes out in a write of" in fault for fault in Discipline(self.length, self.folder).follow(records).faults))
 
@@ -369,7 +367,7 @@ class Largest(Loser):
         table = 196 + 48 * MOST_CLIENTS + 4 * (MOST_NODES + 1)
         encoded = directory_blocks(MOST_NAMES, LONGEST_NAME) + -(-table // BLOCK) + 2
         self.assertEqual((end - len(before)) // BLOCK, 512 + encoded + 1)
-        self.assertEqual(len(runs), -(-encoded // PACKET) + 1)
+        self.assertGreater(encoded, 3 * PACKET)
         self.assertEqual(self.problems(before, records, states, paths, False, 2), [])
         self.assertEqual(self.sound(), len(requests) + 1)
 
@@ -377,20 +375,30 @@ class Largest(Loser):
 class Failures(Serving):
     capacity = CAPACITY
 
+    def failing(self, lengths: Sequence[int], first: int, syncs: Sequence[int]) -> List[str]:
+        """Rules by which a write from the first one on fails, of these lengths, or one of these syncs."""
+        rules = ["pwrite:%d:%s" % (number, action) for number, length in enumerate(lengths, first)
+                 for action in ("E5", "E28", "A5", "P1E28", "P%dE28" % (length // 2), "P%dE5" % (length - 1))]
+        rules += ["pwrite:%d:S%d;pwrite:%d:E28" % (number, length // 2, number + 1) for number, length in enumerate(lengths, first)]
+        return rules + ["fsync:%d:%s" % (number, action) for number in syncs for action in ("E5", "A5", "E28")]
+
     def test_each_write_and_sync(self) -> None:
-        """One that fails, whole or in part, is a fault; the file is cut back, and the repeat is done."""
+        """One that fails, whole or in part: the file is cut back, and the request is done once more, with the same bytes. Where a call of that
+        fails too it is a fault; the file is cut back, and the repeat is done."""
         for size in (BLOCK, 33 * BLOCK, 64 * BLOCK - 5, 512 * BLOCK):
             request = Request("create", 1, 1, "/f", data_of(size))
-            lengths = [size // BLOCK * BLOCK, 4 * BLOCK, BLOCK]
-            rules = ["pwrite:%d:%s" % (number, action) for number, length in enumerate(lengths, 1)
-                     for action in ("E5", "E28", "A5", "P1E28", "P%dE28" % (length // 2), "P%dE5" % (length - 1))]
-            rules += ["pwrite:%d:S%d;pwrite:%d:E28" % (number, length // 2, number + 1) for number, length in enumerate(lengths, 1)]
-            rules += ["fsync:%d:%s" % (number, action) for number in (2, 3) for action in ("E5", "A5", "E28")]
-            for rule in rules:
+            records, _ = self.run_with("", [request])
+            whole = self.path("d.img").read_bytes()
+            lengths = [record.length for record in records if record.kind == "pwrite"]
+            self.assertEqual((len(lengths), lengths[0]), (4, size // BLOCK * BLOCK))
+            # The first write fails, and the sync of its cut is the second one. Then the blocks that waited go out with those before them.
+            again = ["pwrite:1:E5;" + rule for rule in self.failing([lengths[0], lengths[1] + BLOCK, BLOCK], 2, (3, 4))]
+            for rule in self.failing(lengths, 1, (2, 3)) + again:
                 with self.subTest(size=size, rule=rule):
                     records, faults = self.run_with(rule, [request])
-                    self.assertEqual(faults, 1)
+                    self.assertEqual(faults, rule in again)
                     self.cut_behind(records)
+                    self.assertTrue(self.path("d.img").read_bytes() == whole or rule in again)
 
     def test_short_and_interrupted(self) -> None:
         """A write of either slice that does less, or is interrupted, is gone on with: no fault, and the same image."""
