@@ -76,7 +76,7 @@ class Discipline:
         # The file as far as it was written since; before that it counts as zeros. And its blocks that are not synced.
         self.content = bytearray(length)
         self.dirty: set[int] = set()
-        # Whether its length is not synced, as behind a cut. That a settled group's head is cut off need not be.
+        # Whether its length is not synced, as after a cut. That a settled group's head is cut off need not be.
         self.is_cut_short = False
         self.folder = os.path.realpath(folder)
         self.folder_synced = folder_synced
@@ -94,7 +94,7 @@ class Discipline:
         self.is_taken_back = False
         # Whether the cut is that of an opening, which may read before it.
         self.is_opening = False
-        # A call failed behind the last sync, and what came of that counts as a failure of what was synced.
+        # A call failed after the last sync, and what came of that counts as a failure of what was synced.
         self.may_cut = False
         # The file was cut where no block is lost, and the disk must know before a block goes there.
         self.is_waiting = False
@@ -194,7 +194,7 @@ class Discipline:
             self.wrong(index, "the file is read from what the system kept of it")
         is_mark = record.length == BLOCK and record.offset // BLOCK in self.group.wanted
         if self.must_cut is not None and not self.is_opening and not is_mark:
-            self.wrong(index, "a read behind a failure, before the file was cut back and synced")
+            self.wrong(index, "a read after a failure, before the file was cut back and synced")
 
     def fails(self) -> None:
         """What is not settled must be taken back."""
@@ -227,7 +227,7 @@ class Discipline:
             self.put(record, done)
         else:
             if self.must_cut is not None:
-                self.wrong(index, "a write behind a failure, before the file was cut back and synced")
+                self.wrong(index, "a write after a failure, before the file was cut back and synced")
             if not self.is_read_synced and not self.is_format:
                 self.wrong(index, "a write before the file was synced")
             if self.is_waiting:
@@ -261,7 +261,7 @@ class Discipline:
         numbers = self.put(record, done)
         if group.is_second:
             if not (len(numbers) < 2 and record.length <= BLOCK and numbers <= set(group.wanted)):
-                self.wrong(index, "what is no mark of the group goes out behind the first sync")
+                self.wrong(index, "what is no mark of the group goes out after the first sync")
             group.touched |= numbers
         elif record.offset < group.reached:
             self.wrong(index, "a block is written twice")
@@ -292,7 +292,7 @@ class Discipline:
         if group.is_second or group.head not in (None, at) or group.place is not None:
             self.wrong(index, "a head goes out late or twice")
         if self.must_be_alone:
-            self.wrong(index, "a head goes out behind a group that was taken back")
+            self.wrong(index, "a head goes out after a group that was taken back")
         group.head = at
 
     def cut(self, index: int, record: Record) -> None:
@@ -379,11 +379,11 @@ class Discipline:
             self.must_cut, self.is_taken_back, self.is_opening = begin * BLOCK, True, True
 
     def mended(self, index: int) -> None:
-        """A sync behind a failure: of the zeros in place of marks, and then of the cut."""
+        """A sync after a failure: of the zeros in place of marks, and then of the cut."""
         group = self.group
         if self.cut_to is None:
             if not group.wanted or not all(is_blank(self.content, at) for at in group.touched):
-                self.wrong(index, "a sync behind a failure, before the file was cut back")
+                self.wrong(index, "a sync after a failure, before the file was cut back")
             group.touched = set()
         elif self.cut_to == self.must_cut:
             self.before = self.cut_to
@@ -455,7 +455,7 @@ class Discipline:
         if self.dirty or self.is_cut_short or self.is_waiting:
             self.wrong(index, "%s, and not all is synced" % what)
         if self.must_cut is not None:
-            self.wrong(index, "%s behind a failure, before the file was cut back and synced" % what)
+            self.wrong(index, "%s after a failure, before the file was cut back and synced" % what)
         if self.group.is_begun():
             self.wrong(index, "%s within a group" % what)
         if self.owes_head:

@@ -2,7 +2,7 @@
 
 A group is what is complete in a piece of the input, up to 64 commits or 64 KiB of answers. A request that appends to a file that has
 bytes is a group alone. The last block of each commit is a mark. All other blocks of a group go to the file, where the marks' places are
-zeros, then its head goes behind them, and both are synced. Then the marks go there, and are synced, and the head is cut off, which is not
+zeros, then its head goes after them, and both are synced. Then the marks go there, and are synced, and the head is cut off, which is not
 synced. Only then is the group answered.
 """
 from __future__ import annotations
@@ -44,7 +44,7 @@ def stream_of(items: Sequence[Item]) -> bytes:
 
 
 def filled(items: Sequence[Item]) -> list[Item]:
-    """These items, and behind them a frame that is no message and ends with a piece of the input."""
+    """These items, and after them a frame that is no message and ends with a piece of the input."""
     left = -len(stream_of(items)) % INPUT_BYTES
     if left < 5:
         left += INPUT_BYTES
@@ -119,7 +119,7 @@ class Told(NamedTuple):
 
 
 def running(records: Sequence[Record]) -> Sequence[Record]:
-    """The calls of a run behind its opening: from the first look at its input on."""
+    """The calls of a run after its opening: from the first look at its input on."""
     return records[next((index for index, record in enumerate(records) if record.kind == "stdin"), len(records)):]
 
 
@@ -179,7 +179,7 @@ class Grouped(Case):
         return Discipline(len(run.before), self.folder, commits=commits_of(run.before)).follow(read_log(self.log_path()))
 
     def right(self, run: Run) -> Discipline:
-        """The order of calls was as it must be, and what was written is all that the image has behind what it had before."""
+        """The order of calls was as it must be, and what was written is all that the image has after what it had before."""
         followed, begin, final = self.followed(run), len(run.before), run.final
         self.assertEqual(followed.faults, [])
         self.assertTrue(followed.content[begin:] == final[begin:], "the image is not what was written")

@@ -1,4 +1,4 @@
-"""The head of a group of commits: what lies behind the blocks of an image while a group is settled, and what then counts of it."""
+"""The head of a group of commits: what lies after the blocks of an image while a group is settled, and what then counts of it."""
 from __future__ import annotations
 
 from typing import Sequence

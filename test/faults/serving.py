@@ -61,7 +61,7 @@ class Serving(Case):
 
     @staticmethod
     def numbers(records: Sequence[Record], kind: str) -> list[list[int]]:
-        """The numbers of the calls of this kind before each answer of a daemon and behind the one before it."""
+        """The numbers of the calls of this kind before each answer of a daemon and after the one before it."""
         found: list[list[int]] = [[]]
         calls = 0
         for record in records:
@@ -98,7 +98,7 @@ class Serving(Case):
         self.assertEqual([record.kind for record in after[:len(wanted)]], wanted)
 
     def cuts(self, records: Sequence[Record], length: int) -> int:
-        """How many truncations behind the first sync did not make a file longer, which had this length before."""
+        """How many truncations after the first sync did not make a file longer, which had this length before."""
         disk, found, is_synced = Disk(bytes(length), 4096), 0, False
         for record in records:
             is_synced = is_synced or record.kind == "fsync"

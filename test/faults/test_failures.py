@@ -260,7 +260,7 @@ class Failures(Serving):
         """The same in one stream, where each frame comes three times: one failure is no fault. Of a second one a fault is answered, and then
         the reply twice."""
         frames = b"".join(encode(request) * 3 for request in STREAM)
-        # What is done one by one behind the first sync begins with write 13 and sync 4.
+        # What is done one by one after the first sync begins with write 13 and sync 4.
         for rule, faults in (("pwrite:4:E28", 0), ("pwrite:12:P100E28", 0), ("fsync:2:E5", 0), ("pwrite:14:P1000E5", 0), ("fsync:3:A5", 0),
                              ("fstat:6:E5", 0), ("fsync:2:E5;pwrite:14:E28", 1), ("fsync:2:E5;pwrite:18:P2048E28", 1),
                              ("fsync:2:E5;fsync:5:A5", 1), ("fsync:2:E5;fsync:8:E5", 1)):

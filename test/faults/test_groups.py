@@ -55,7 +55,7 @@ TREE: list[Item] = [
     Request("remove", 1, 13, "/"),
 ]
 
-# Frames that are no messages, behind which the next ones are read.
+# Frames that are no messages, after which the next ones are read.
 NO_MESSAGES = [
     frame(b""),
     frame(bytes([99])),
@@ -205,7 +205,7 @@ class SameBytes(Both):
         self.assertEqual(answers_of(self.apply(stream_of(items)).output)[-1], Answer(CLIENTS_FULL))
 
     def test_a_frame_that_is_too_long(self) -> None:
-        """What is before it is a group with it, and nothing is read behind it."""
+        """What is before it is a group with it, and nothing is read after it."""
         self.assertEqual(self.tried([*creates([10, 20]), b"\0\0\0\x80"]), [2])
         run = self.both([*creates([10, 20]), b"\0\0\0\x80" + stream_of(creates([30], 2))])
         self.assertEqual([answer.code for answer in run.answers], [0, 0, MALFORMED])
@@ -233,13 +233,13 @@ class SameBytes(Both):
         like = head_of(end - 3, end, [end - 1])
         items = [*first, Request("create", 2, 1, "/a", like + data_of(5000))]
         self.settled(items, self.both(items), 1)
-        # In the middle of a group, and behind a group of one commit, no head was.
+        # In the middle of a group, and after a group of one commit, no head was.
         for first in (creates([10]), filled(creates([10]))):
             items = [*first, Request("create", 2, 1, "/a", like + data_of(5000))]
             self.settled(items, self.both(items))
 
     def test_a_part_of_a_block(self) -> None:
-        """What an earlier loss left behind the last whole block."""
+        """What an earlier loss left after the last whole block."""
         before = self.fresh(capacity=CAPACITY).read_bytes()
         for left in (1, 700, 2047):
             with self.subTest(left=left):
@@ -324,7 +324,7 @@ MOST_CALLS = {"pwrite": 20, "fsync": 6, "ftruncate": 6, "fstat": 12, "pread": 3}
 
 class Failures(Both):
     def cases(self, records: Sequence[Record]) -> Iterator[str]:
-        """The rules by which one call fails, of those behind the opening."""
+        """The rules by which one call fails, of those after the opening."""
         for kind, actions in ACTIONS.items():
             calls = sum(record.kind == kind for record in records)
             first = calls - sum(record.kind == kind for record in running(records)) + 1
@@ -343,7 +343,7 @@ class Failures(Both):
         return run
 
     def has_head(self, run: Run, records: Sequence[Record]) -> bool:
-        """The image has the bytes of a run in which no call failed. Only where one fails behind the last sync, so that the head of the last
+        """The image has the bytes of a run in which no call failed. Only where one fails after the last sync, so that the head of the last
         group is not cut off, is that head there too."""
         image, last = self.path("d.img").read_bytes(), len(run.final)
         late = records[max(index for index, record in enumerate(records) if record.kind == "fsync"):]
@@ -381,7 +381,7 @@ class Failures(Both):
         self.assertGreater(heads, 0)
 
     def test_several(self) -> None:
-        """The cut fails too, or what is done one by one behind it: what is answered is what is there, and the rest can be sent again."""
+        """The cut fails too, or what is done one by one after it: what is answered is what is there, and the rest can be sent again."""
         run, faults = self.undisturbed(), 0
         # The first group has seven writes of blocks, its head and three marks.
         for rules in (

@@ -81,6 +81,28 @@ class Heads(Grouped):
                 self.counts(image + self.head, self.begin, 2)
                 self.assertEqual(self.sound(), 2)
 
+    def test_a_call_that_fails_in_an_opening(self) -> None:
+        """An image whose marks cannot be zeroed, or whose blocks cannot be cut off, is refused, or every question gets answer 36. Once no
+        call fails the group is left out."""
+        image = self.lacking + self.head
+        self.path("d.img").write_bytes(image)
+        self.apply(questions(PATHS), log=self.new_log())
+        calls = [record.kind for record in read_log(self.log_path())]
+        for kind, least in (("pwrite", 2), ("fsync", 3), ("ftruncate", 1)):
+            self.assertGreaterEqual(calls.count(kind), least)
+            for number in range(1, calls.count(kind) + 1):
+                with self.subTest(kind=kind, number=number):
+                    self.path("d.img").write_bytes(image)
+                    ran = self.apply(questions(PATHS), rules="%s:%d:E5" % (kind, number))
+                    self.assertIn((ran.status, ran.errors), ((0, b""), (1, b"udfburn: 64 Device\n")))
+                    wanted = state(2).told(PATHS)
+                    for answer, right in zip(answers_of(ran.output), wanted):
+                        self.assertIn(answer, (right, Answer(36)))
+                    self.assertEqual(len(answers_of(ran.output)), len(wanted) if ran.status == 0 else 0)
+                    self.apply(questions(PATHS))
+                    self.assertTrue(self.path("d.img").read_bytes() == image[:self.begin * BLOCK])
+                    self.assertEqual(self.sound(), 2)
+
     def test_each_byte(self) -> None:
         """A head in which one byte is another is none."""
         for place in range(HEAD_BYTES):
@@ -95,9 +117,9 @@ class Heads(Grouped):
         for how, tail in (
             ("it begins as another", with_sum(b"UDFGROUp" + told[8:])),
             ("the lowest byte is last", with_sum(told)[:-4] + with_sum(told)[:-5:-1]),
-            ("it begins behind the end", head_of(self.end + 1, self.end, [])),
-            ("it begins far behind the end", head_of((1 << 32) - 1, self.end, [])),
-            ("a mark is far behind the end", head_of(self.begin, self.end, [self.marks[3], (1 << 32) - 1])),
+            ("it begins after the end", head_of(self.end + 1, self.end, [])),
+            ("it begins far after the end", head_of((1 << 32) - 1, self.end, [])),
+            ("a mark is far after the end", head_of(self.begin, self.end, [self.marks[3], (1 << 32) - 1])),
             ("marks in another order", head_of(self.begin, self.end, self.marks[4:1:-1])),
             ("a mark twice", head_of(self.begin, self.end, [self.marks[3], *self.marks[3:]])),
             ("the last block is no mark", head_of(self.begin, self.end, self.marks[2:4])),
@@ -108,9 +130,9 @@ class Heads(Grouped):
             ("all numbers are 2^32 - 1", with_sum(HEAD_MAGIC + b"\xff" * 268)),
             ("zeros are before it", bytes(HEAD_BYTES) + self.head),
             ("it is there twice", self.head + self.head),
-            ("zeros are behind it", self.head + bytes(1000)),
+            ("zeros are after it", self.head + bytes(1000)),
             ("a block begins with it", self.head.ljust(BLOCK, b"\0")),
-            ("it is behind a block", bytes(BLOCK) + self.head),
+            ("it is after a block", bytes(BLOCK) + self.head),
         ):
             with self.subTest(how):
                 self.all_count(tail)

@@ -72,7 +72,7 @@ class Cut(Grouped):
         self.images = self.holes = self.cuts = 0
 
     def run_of(self, items: Sequence[Item], rules: str = "", capacity: int = 1000) -> tuple[bytes, list[Record], list[Answer]]:
-        """Answers a stream: the image before, the calls behind the opening, and the answers."""
+        """Answers a stream: the image before, the calls after the opening, and the answers."""
         before = self.fresh(capacity=capacity).read_bytes()
         ran = self.groups(stream_of(items), rules=rules, log=self.new_log())
         self.assertEqual((ran.status, ran.errors), (0, b""))
@@ -214,7 +214,7 @@ class Power(Cut):
         self.assertGreater(self.cuts, self.holes)
 
     def test_a_failed_sync(self) -> None:
-        """Each sync of a group fails, and its pages are lost or not. What is done one by one behind it is lost or kept as ever."""
+        """Each sync of a group fails, and its pages are lost or not. What is done one by one after it is lost or kept as ever."""
         before, _, _ = self.run_of(THREE)
         final = self.path("d.img").read_bytes()
         self.prepared(THREE, final)
@@ -227,7 +227,7 @@ class Power(Cut):
 
     def test_a_cut_behind_marks(self) -> None:
         """The second sync of a group fails, though the disk has the marks, and the power goes while the group is taken back: the disk has the
-        page in which the file was cut, with zeros behind the cut, but not yet the new length. What the marks lead to is there, or no mark is."""
+        page in which the file was cut, with zeros after the cut, but not yet the new length. What the marks lead to is there, or no mark is."""
         before, _, _ = self.run_of(THREE)
         self.prepared(THREE, self.path("d.img").read_bytes())
         _, records, answers = self.run_of(THREE, "fsync:5:A5")
@@ -241,7 +241,7 @@ class Power(Cut):
         self.counted(0)
 
     def test_a_loss_behind_a_loss(self) -> None:
-        """The stream goes on behind blocks of a group that was cut, and is cut again."""
+        """The stream goes on after blocks of a group that was cut, and is cut again."""
         before, records, answers = self.run_of(THREE)
         self.prepared(THREE, self.path("d.img").read_bytes())
         cut = [left for left in self.lose(before, records, answers, 4096, 1.0)
@@ -276,7 +276,7 @@ class Power(Cut):
         self.assertGreater(self.cuts, 20)
 
     def with_its_old_length(self, content: bytes, records: Sequence[Record]) -> bytes:
-        """What is left where the disk has the page in which the file is cut, with zeros behind the cut, but not yet the new length: after the
+        """What is left where the disk has the page in which the file is cut, with zeros after the cut, but not yet the new length: after the
         first cut of these calls."""
         disk = Disk(content, 16384)
         for record in records[:next(index for index, record in enumerate(records) if record.kind == "ftruncate") + 1]:
@@ -316,7 +316,7 @@ KILLS = 30
 
 class Kills(Cut):
     def killed(self, rules: str, seconds: Optional[float]) -> tuple[int, list[Answer]]:
-        """Kills a run so many seconds behind its begin, if the rules do not: its status, and what it had answered whole."""
+        """Kills a run so many seconds after its begin, if the rules do not: its status, and what it had answered whole."""
         with tempfile.TemporaryFile(dir=built().room) as given:
             given.write(stream_of(MANY))
             given.seek(0)

@@ -29,7 +29,7 @@ class Kills(Case):
     def setUp(self) -> None:
         super().setUp()
         need_shim()
-        # For each write and sync of the stream, how many syncs and (behind the first sync) truncations are before it, and whether it is one of
+        # For each write and sync of the stream, how many syncs and (after the first sync) truncations are before it, and whether it is one of
         # marks.
         self.before: dict[tuple[str, int], tuple[int, int, bool]] = {}
 
@@ -60,7 +60,7 @@ class Kills(Case):
         answers = answers_of(ran.output)
         for request, answer, want in zip(STREAM, answers, wanted):
             if answer.code == STALE:
-                # Its reply fell behind four later ones, so that it was committed.
+                # Its reply fell after four later ones, so that it was committed.
                 self.assertLessEqual(request.number, model.latest[request.client] - 4)
             else:
                 self.assertEqual(answer, want)

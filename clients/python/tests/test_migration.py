@@ -81,6 +81,13 @@ class Migration(WithServer):
         self.addCleanup(made.close)
         return made
 
+    def with_six_requests(self) -> None:
+        """The volume that version 2's ledger knows: a folder with five files."""
+        self.one.volume = Volume()
+        self.one.volume.answer(p.MakeDir(CLIENT, 1, Moment(10), ("d",)))
+        for index in range(5):
+            self.one.volume.answer(p.Create(CLIENT, 2 + index, Moment(100 + index), ("d", f"f{index}"), b"x" * index))
+
     def test_nothing_is_lost(self) -> None:
         rows, frames = self.asked(ROWS), self.frames()
         with closing(Ledger(self.ledger)) as ledger:
@@ -105,10 +112,7 @@ class Migration(WithServer):
         Ledger(self.ledger).close()
         self.assertEqual(self.asked("SELECT version FROM ledger"), [(5,)])
         self.assertEqual((self.asked(everything), self.asked(FRAMES)), (rows, [(64 + 7, frames[4 + 7 % 4]), (64 + 8, frames[4 + 8 % 4])]))
-        self.one.volume = Volume()
-        self.one.volume.answer(p.MakeDir(CLIENT, 1, Moment(10), ("d",)))
-        for index in range(5):
-            self.one.volume.answer(p.Create(CLIENT, 2 + index, Moment(100 + index), ("d", f"f{index}"), b"x" * index))
+        self.with_six_requests()
         with self.by(self.one.path) as client:
             self.assertEqual(client.resume(), [(7, "/first", p.Code.DONE, 7), (8, "/second", p.Code.DONE, 8)])
             self.assertEqual(client.create("/next", b""), 9)
@@ -134,10 +138,7 @@ class Migration(WithServer):
                 first, second = ledger.pending(ledger.volumes()[0])
             self.assertEqual((first.number, first.payload, first.origin), (7, head, (source, 0, 64, modified)))
             self.assertEqual((second.number, second.payload, second.origin), (8, frames[4 + 8 % 4], None))
-            self.one.volume = Volume()
-            self.one.volume.answer(p.MakeDir(CLIENT, 1, Moment(10), ("d",)))
-            for index in range(5):
-                self.one.volume.answer(p.Create(CLIENT, 2 + index, Moment(100 + index), ("d", f"f{index}"), b"x" * index))
+            self.with_six_requests()
             with self.by(self.one.path) as client:
                 self.assertEqual(client.resume(), [(7, "/first", p.Code.DONE, 7), (8, "/second", p.Code.DONE, 8)])
             self.assertEqual(self.one.volume.files()[("first",)], bytes(range(64)))
