@@ -1,9 +1,8 @@
 """Streams that are answered in groups: what comes into each group, and what the log of calls must show of it.
 
-A group is what is complete in a piece of the input, up to 64 commits or 64 KiB of answers. A request that appends to a file that has
-bytes is a group alone. The last block of each commit is a mark. All other blocks of a group go to the file, where the marks' places are
-zeros, then its head goes after them, and both are synced. Then the marks go there, and are synced, and the head is cut off, which is not
-synced. Only then is the group answered.
+A group is what is complete in a piece of the input, up to 64 commits or 64 KiB of answers. The last block of each commit is a mark. All
+other blocks of a group go to the file, where the marks' places are zeros, then its head goes after them, and both are synced. Then the
+marks go there, and are synced, and the head is cut off, which is not synced. Only then is the group answered.
 """
 from __future__ import annotations
 
@@ -17,7 +16,7 @@ from faults.machine import leave_out
 from faults.pages import Disk
 from faults.programs import built
 from faults.running import Ran
-from protocol import APPEND, BLOCK, FAULT, MALFORMED, Answer, Model, Request, encode, frame
+from protocol import BLOCK, FAULT, MALFORMED, Answer, Model, Request, encode, frame
 
 # So many bytes of the input are read at once.
 INPUT_BYTES = 65_536
@@ -58,15 +57,14 @@ def grouped(items: Sequence[Item], answers: Sequence[Answer], begin: int = 0) ->
     for item, answer in zip(items, answers):
         read += len(framed(item))
         before, piece = piece, (read - 1) // INPUT_BYTES
-        is_alone = isinstance(item, Request) and item.kind == APPEND and item.offset > 0
-        if is_full or is_alone or piece != before:
+        if is_full or piece != before:
             groups.append([])
             said = 0
         if answer.is_commit and answer.commit > latest:
             latest = answer.commit
             groups[-1].append(latest)
         said += len(answer.framed())
-        is_full = is_alone or len(groups[-1]) >= GROUP_COMMITS or said >= GROUP_BYTES
+        is_full = len(groups[-1]) >= GROUP_COMMITS or said >= GROUP_BYTES
     return groups
 
 

@@ -173,16 +173,19 @@ class Rude(Serving):
         self.with_daemon(rude, 0)
 
     def test_a_flood_of_malformed_frames(self) -> None:
-        """Each gets its answer, in memory that does not grow."""
+        """Each gets its answer, in memory that ends long before the flood: 4 MiB are read at once, and a group keeps as many."""
         count = 200_000
+        malformed = frame(bytes(100))
+        bound = 9 << 10
+        self.assertGreater(count * len(malformed) >> 10, 2 * bound)
 
         def rude(daemon: Daemon) -> None:
             with daemon.client() as client:
                 # Once with less, so that what is kept for answers is there.
                 for rounds in (20_000, count):
-                    sender = threading.Thread(target=client.send, args=(frame(b"") * rounds,))
+                    sender = threading.Thread(target=client.send, args=(malformed * rounds,))
                     sender.start()
-                    expected = frame(struct.pack("<HH", 38, 53))
+                    expected = frame(struct.pack("<HH", 38, 52))
                     left = len(expected) * rounds
                     seen = bytearray()
                     while left:
@@ -194,7 +197,7 @@ class Rude(Serving):
                     self.assertEqual(bytes(seen), expected * rounds)
                     if rounds < count:
                         before = memory_of(daemon.process.pid)
-                self.assertLess(memory_of(daemon.process.pid)["VmHWM"] - before["VmHWM"], 512)
+                self.assertLess(memory_of(daemon.process.pid)["VmHWM"] - before["VmHWM"], bound)
         self.with_daemon(rude, 0)
 
 

@@ -187,8 +187,8 @@ class SameBytes(Both):
         self.assertEqual(self.tried([]), [])
 
     def test_appends(self) -> None:
-        """One to a file that has bytes is a group alone."""
-        self.assertEqual(self.tried(APPENDS)[-5:], [1, 1, 1, 1, 3])
+        """They are in groups with other requests."""
+        self.assertEqual(self.tried(APPENDS), [2, 9])
 
     def test_long_groups(self) -> None:
         """A group ends with the 64th commit, or where its answers are long."""

@@ -95,7 +95,7 @@ class PowerLost(Pieces, Losing):
         self.begun()
         self.apply(b"".join(map(encode, TWO)), log=self.new_log())
         calls = sum(record.kind == "fsync" for record in read_log(self.log_path()))
-        self.assertGreater(calls, 4)
+        self.assertEqual(calls, 3)
         for number in range(2, calls + 1):
             for action in ("E5", "A5"):
                 with self.subTest(number=number, action=action):

@@ -3,7 +3,7 @@
 #![tactic(auto)]
 
 use drive::FileDrive;
-use engine::{CountedReader, Engine};
+use engine::{CountedReader, Engine, PIECE_BYTES};
 use grouping::serve_groups;
 use limits::GREATEST_CAPACITY;
 use settling::GatheringFileDrive;
@@ -23,7 +23,14 @@ fn apply(rt: &HostRuntime, path: &str) -> io::Result<bool> {
     let mut engine = Engine::new();
     let mut input = CountedReader::new(rt.stdin());
     let mut output = BufWriter::new(rt.alloc(), rt.stdout())?;
-    let served = serve_groups(rt.alloc(), &mut input, &mut output, &mut engine, &mut drive);
+    let served = serve_groups(
+        rt.alloc(),
+        &mut input,
+        PIECE_BYTES,
+        &mut output,
+        &mut engine,
+        &mut drive,
+    );
     output.flush()?;
     Ok(served.is_ok())
 }

@@ -88,22 +88,22 @@ module _ (formats : Formats) (spelled : Name → ℕ) (short : AreShort formats 
   new_most : (kept : ℕ) (bytes : List ℕ) → kept ≡ 0 → most_for_append kept (length bytes - kept) ≡ most_for_file bytes
   new_most kept bytes new = ap (λ (k : ℕ). most_for_append k (length bytes - k)) new ∙ ap (most_for_append 0) (let all : length bytes - 0 ≡ length bytes = omega arith in all)
 
-  file_short : (medium : Medium) (kept : ℕ) (bytes : List ℕ) (from : ℕ) (before : List Block) (place : _) → PlacesFile formats medium kept bytes from before place → length before + 1 ≤ most_for_append kept (length bytes - kept)
-  file_short medium kept bytes from before place (nowhere new size blocks at) = omega (arith, new_most kept bytes new, ap (λ (bs : List Block). length bs) blocks)
-  file_short medium kept bytes from before place (inside new some few blocks at) = omega (arith, new_most kept bytes new, ap (λ (bs : List Block). length bs) blocks)
-  file_short medium kept bytes from before place (outside new many first placed at) =
+  file_short : (medium : Medium) (kept : ℕ) (firsts : List ℕ) (bytes : List ℕ) (from : ℕ) (before : List Block) (place : _) → PlacesFile formats medium kept firsts bytes from before place → length before + 1 ≤ most_for_append kept (length bytes - kept)
+  file_short medium kept firsts bytes from before place (nowhere new size blocks at) = omega (arith, new_most kept bytes new, ap (λ (bs : List Block). length bs) blocks)
+  file_short medium kept firsts bytes from before place (inside new some few blocks at) = omega (arith, new_most kept bytes new, ap (λ (bs : List Block). length bs) blocks)
+  file_short medium kept firsts bytes from before place (outside new many first placed at) =
       let count : file_blocks (length bytes) ≡ blocks_for (length bytes) = ap (λ b. cond b (blocks_for (length bytes)) 0) (lt-ltb most_inside (length bytes) many) in
       omega (arith, new_most kept bytes new, count, placed_short formats bytes from first before placed)
-  file_short medium kept bytes from before place (appended front more firsts whole is some-front count within holds some few first placed descriptors names at) =
+  file_short medium kept firsts bytes from before place (appended front more whole is some-front count within holds some few first placed descriptors names at) =
       let size : length bytes - kept ≡ length more = omega (arith, ap (λ (xs : List ℕ). length xs) whole, length-append front more, is) in
       let other : kept ≡ 0 → ⊥ = λ none. omega (arith, none, some-front) in
       let most : most_for_append kept (length bytes - kept) ≡ 2 * blocks_for (length more) + 1 =
       ap (λ (b : Bool). 2 * (if b then file_blocks (length bytes - kept) else blocks_for (length bytes - kept)) + 1) (ne_eqb kept 0 other) ∙ ap (λ (n : ℕ). 2 * blocks_for n + 1) size in
       omega (arith, most, placed_short formats more from first before placed)
 
-  body_short : (medium : Medium) (kept : ℕ) (body : Body) (from : ℕ) (before : List Block) (place : _) (size : ℕ) → PlacesBody formats medium kept body from before place size → length before + 1 ≤ most_for_kept kept body
-  body_short medium kept (Bytes bytes) from before place size (count, places) = file_short medium kept bytes from before place places
-  body_short medium kept (Entries parent entries) from before place size (at, count, holds) = omega (arith, short parent from size entries before holds)
+  body_short : (medium : Medium) (kept : ℕ) (firsts : List ℕ) (body : Body) (from : ℕ) (before : List Block) (place : _) (size : ℕ) → PlacesBody formats medium kept firsts body from before place size → length before + 1 ≤ most_for_kept kept body
+  body_short medium kept firsts (Bytes bytes) from before place size (count, places) = file_short medium kept firsts bytes from before place places
+  body_short medium kept firsts (Entries parent entries) from before place size (at, count, holds) = omega (arith, short parent from size entries before holds)
 
   nodes_short : (medium : Medium) (nodes : List Writing) (from : ℕ) (blocks : List Block) (written : List Written) → WritesNodes formats medium nodes from blocks written → length blocks ≤ most_for_all nodes
   nodes_short medium [] from blocks written (blocks_are, written_is) = omega (arith, ap (λ (bs : List Block). length bs) blocks_are)
@@ -114,7 +114,7 @@ module _ (formats : Formats) (spelled : Name → ℕ) (short : AreShort formats 
         length-append first others,
         ap (λ (bs : List Block). length bs) one.blocks_are,
         length-append one.before (one.entry ∷ []),
-        body_short medium node.kept node.stored.body from one.before one.place one.size one.body,
+        body_short medium node.kept node.firsts node.stored.body from one.before one.place one.size one.body,
         nodes_short (medium ++ first) nodes (from + length first) others rest all,
       )
 
@@ -227,12 +227,12 @@ module _ (formats : Formats) (spelled : Name → ℕ) (short : AreShort formats 
         gainer = gains_short (parent_of to) plan.beyond (last_of to) (renamed plan.name plan.moved) plan.to_last (may_rename from to S.tree e).directory (names_at tree' (parent_of to)) (lists.gets plan.elsewhere)
 
         abbrev turn : Writing
-        turn = record { address = plan.moved.address; kept = 0; stored = as_stored plan.stored.identity plan.stored.moment (with_parent plan.beyond.address plan.stored.body) }
+        turn = record { address = plan.moved.address; kept = 0; firsts = []; stored = as_stored plan.stored.identity plan.stored.moment (with_parent plan.beyond.address plan.stored.body) }
 
         abbrev both : List Writing
         both =
-            record { address = plan.above.address; kept = 0; stored = as_stored plan.above.stored.identity r.moment (with_entries (without from) plan.above.stored.body) }
-            ∷ record { address = plan.beyond.address; kept = 0; stored = as_stored plan.beyond.stored.identity r.moment (with_entries (λ entries. entries ++ renamed plan.name plan.moved ∷ []) plan.beyond.stored.body) }
+            record { address = plan.above.address; kept = 0; firsts = []; stored = as_stored plan.above.stored.identity r.moment (with_entries (without from) plan.above.stored.body) }
+            ∷ record { address = plan.beyond.address; kept = 0; firsts = []; stored = as_stored plan.beyond.stored.identity r.moment (with_entries (λ entries. entries ++ renamed plan.name plan.moved ∷ []) plan.beyond.stored.body) }
             ∷ []
 
         abbrev picked : Bool → List Writing

@@ -80,12 +80,12 @@ pub record Laid (graph graph' : Graph) (nodes : List Writing) (gone : List ℕ) 
 -- what a move writes, by whether a directory is moved
 module _ (graph : Graph) (from to : Path) (moment : ℕ) (nodes : List Writing) (p : PlansMove graph from to moment nodes) where
   abbrev turned_node : Writing
-  turned_node = record { address = p.moved.address; kept = 0; stored = as_stored p.stored.identity p.stored.moment (with_parent p.beyond.address p.stored.body) }
+  turned_node = record { address = p.moved.address; kept = 0; firsts = []; stored = as_stored p.stored.identity p.stored.moment (with_parent p.beyond.address p.stored.body) }
 
   abbrev pair : List Writing
   pair =
-      record { address = p.above.address; kept = 0; stored = as_stored p.above.stored.identity moment (with_entries (without from) p.above.stored.body) }
-      ∷ record { address = p.beyond.address; kept = 0; stored = as_stored p.beyond.stored.identity moment (with_entries (λ entries. entries ++ renamed p.name p.moved ∷ []) p.beyond.stored.body) }
+      record { address = p.above.address; kept = 0; firsts = []; stored = as_stored p.above.stored.identity moment (with_entries (without from) p.above.stored.body) }
+      ∷ record { address = p.beyond.address; kept = 0; firsts = []; stored = as_stored p.beyond.stored.identity moment (with_entries (λ entries. entries ++ renamed p.name p.moved ∷ []) p.beyond.stored.body) }
       ∷ []
 
   abbrev chosen : Bool → List Writing

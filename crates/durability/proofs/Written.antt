@@ -47,18 +47,18 @@ module _ (formats : Formats) where
         ap (λ (M : Medium). take (blocks_for (length bytes)) (drop (first + partition_start) M)) whole ∙ part_at (first + partition_start) (blocks_for (length bytes)) (B ++ gap) (packed bytes) more front (sym size),
       )
 
-  file_held : (B : Medium) (kept : ℕ) (bytes : List ℕ) (from : ℕ) (before : List Block) (place : NodePlace) (more : List Block) → partition_start ≤ length B → from ≡ length B - partition_start
-      → PlacesFile formats B kept bytes from before place → HoldsFile formats (B ++ (before ++ more)) (length bytes) place bytes
-  file_held B kept bytes from before place more low is (nowhere new size blocks at) = subst (λ p. HoldsFile formats (B ++ (before ++ more)) (length bytes) p bytes) (sym at) (empty bytes size)
+  file_held : (B : Medium) (kept : ℕ) (firsts : List ℕ) (bytes : List ℕ) (from : ℕ) (before : List Block) (place : NodePlace) (more : List Block) → partition_start ≤ length B → from ≡ length B - partition_start
+      → PlacesFile formats B kept firsts bytes from before place → HoldsFile formats (B ++ (before ++ more)) (length bytes) place bytes
+  file_held B kept firsts bytes from before place more low is (nowhere new size blocks at) = subst (λ p. HoldsFile formats (B ++ (before ++ more)) (length bytes) p bytes) (sym at) (empty bytes size)
     where
       empty : (xs : List ℕ) → length xs ≡ 0 → xs ≡ []
       empty [] e = refl
       empty (x ∷ xs) e = absurd (omega arith)
-  file_held B kept bytes from before place more low is (inside new some few blocks at) = subst (λ p. HoldsFile formats (B ++ (before ++ more)) (length bytes) p bytes) (sym at) refl
-  file_held B kept bytes from before place more low is (outside new many first placed at) =
+  file_held B kept firsts bytes from before place more low is (inside new some few blocks at) = subst (λ p. HoldsFile formats (B ++ (before ++ more)) (length bytes) p bytes) (sym at) refl
+  file_held B kept firsts bytes from before place more low is (outside new many first placed at) =
       let held = placed_extent B bytes from first before more low is placed in
       subst (λ p. HoldsFile formats (B ++ (before ++ more)) (length bytes) p bytes) (sym at) (held.0, sym (ap (λ (xs : List Block). bytes_in_blocks (length bytes) xs) held.1 ∙ bytes-packed bytes))
-  file_held B kept bytes from before place more low is (appended front new firsts whole size some-front count within holds some few first placed descriptors names at) =
+  file_held B kept firsts bytes from before place more low is (appended front new whole size some-front count within holds some few first placed descriptors names at) =
       let M : Medium = B ++ (before ++ more) in
       let held = placed_extent B new from first before more low is placed in
       let stay = extents_stay B (before ++ more) kept firsts within in
@@ -77,12 +77,12 @@ module _ (formats : Formats) where
       subst (λ p. HoldsDirectory formats (B ++ (before ++ more)) size p parent entries) (sym at)
       (omega (arith, length-append B (before ++ more), length-append before more), subst (λ (xs : List Block). formats.IsDirectory parent entries from size xs) (sym same) holds)
 
-  body_held : (B : Medium) (kept : ℕ) (body : Body) (from : ℕ) (before : List Block) (place : NodePlace) (size : ℕ) (more : List Block) (moment links identity : ℕ) → partition_start ≤ length B → from ≡ length B - partition_start
-      → PlacesBody formats B kept body from before place size
+  body_held : (B : Medium) (kept : ℕ) (firsts : List ℕ) (body : Body) (from : ℕ) (before : List Block) (place : NodePlace) (size : ℕ) (more : List Block) (moment links identity : ℕ) → partition_start ≤ length B → from ≡ length B - partition_start
+      → PlacesBody formats B kept firsts body from before place size
       → HoldsBody formats (B ++ (before ++ more)) (record { kind = kind_of_body body; moment = moment; links = links; identity = identity; size = size; place = place }) body
-  body_held B kept (Bytes bytes) from before place size more moment links identity low is (count, places) =
-      (refl, subst (λ n. HoldsFile formats (B ++ (before ++ more)) n place bytes) (sym count) (file_held B kept bytes from before place more low is places))
-  body_held B kept (Entries parent entries) from before place size more moment links identity low is places = (refl, directory_held B parent entries from before place size more low is places)
+  body_held B kept firsts (Bytes bytes) from before place size more moment links identity low is (count, places) =
+      (refl, subst (λ n. HoldsFile formats (B ++ (before ++ more)) n place bytes) (sym count) (file_held B kept firsts bytes from before place more low is places))
+  body_held B kept firsts (Entries parent entries) from before place size more moment links identity low is places = (refl, directory_held B parent entries from before place size more low is places)
 
   -- a node that was written is stored where its entry leads
   node_stored : (B : Medium) (node : Writing) (from : ℕ) (blocks : List Block) (number : ℕ) (table : List (Option ℕ)) → partition_start ≤ length B → from ≡ length B - partition_start
@@ -100,7 +100,7 @@ module _ (formats : Formats) where
         moment = refl;
         identity = refl;
         links = refl;
-        body = body_held B node.kept node.stored.body from w.before w.place w.size (w.entry ∷ []) node.stored.moment node.stored.links node.stored.identity low is w.body;
+        body = body_held B node.kept node.firsts node.stored.body from w.before w.place w.size (w.entry ∷ []) node.stored.moment node.stored.links node.stored.identity low is w.body;
       })
 
   -- nodes that were written one after the other are stored
@@ -145,22 +145,22 @@ module _ (formats : Formats) where
     none_all [] at h = tt
     none_all (b ∷ blocks) at h = ((λ (low, fields, table, is). h b 0 refl (at - partition_start) fields is), none_all blocks (suc at) (λ block k e. h block (suc k) e))
 
-    none_file : (medium : Medium) (kept : ℕ) (bytes : List ℕ) (from : ℕ) (blocks : List Block) (place : NodePlace) (at : ℕ) → at ≡ from + partition_start → PlacesFile formats medium kept bytes from blocks place → NoneImitates formats at blocks
-    none_file medium kept bytes from blocks place at is (nowhere new size blocks_are p) = subst (λ (xs : List Block). NoneImitates formats at xs) (sym blocks_are) tt
-    none_file medium kept bytes from blocks place at is (inside new some few blocks_are p) = subst (λ (xs : List Block). NoneImitates formats at xs) (sym blocks_are) tt
-    none_file medium kept bytes from blocks place at is (outside new many first placed p) = none_placed bytes from first blocks at is placed
-    none_file medium kept bytes from blocks place at is (appended front more firsts whole size some-front count within holds some few first placed descriptors names p) = none_placed more from first blocks at is placed
+    none_file : (medium : Medium) (kept : ℕ) (firsts : List ℕ) (bytes : List ℕ) (from : ℕ) (blocks : List Block) (place : NodePlace) (at : ℕ) → at ≡ from + partition_start → PlacesFile formats medium kept firsts bytes from blocks place → NoneImitates formats at blocks
+    none_file medium kept firsts bytes from blocks place at is (nowhere new size blocks_are p) = subst (λ (xs : List Block). NoneImitates formats at xs) (sym blocks_are) tt
+    none_file medium kept firsts bytes from blocks place at is (inside new some few blocks_are p) = subst (λ (xs : List Block). NoneImitates formats at xs) (sym blocks_are) tt
+    none_file medium kept firsts bytes from blocks place at is (outside new many first placed p) = none_placed bytes from first blocks at is placed
+    none_file medium kept firsts bytes from blocks place at is (appended front more whole size some-front count within holds some few first placed descriptors names p) = none_placed more from first blocks at is placed
 
-    none_body : (medium : Medium) (kept : ℕ) (body : Body) (from : ℕ) (blocks : List Block) (place : NodePlace) (size at : ℕ) → at ≡ from + partition_start → PlacesBody formats medium kept body from blocks place size → NoneImitates formats at blocks
-    none_body medium kept (Bytes bytes) from blocks place size at is (count, places) = none_file medium kept bytes from blocks place at is places
-    none_body medium kept (Entries parent entries) from blocks place size at is (p, count, holds) =
+    none_body : (medium : Medium) (kept : ℕ) (firsts : List ℕ) (body : Body) (from : ℕ) (blocks : List Block) (place : NodePlace) (size at : ℕ) → at ≡ from + partition_start → PlacesBody formats medium kept firsts body from blocks place size → NoneImitates formats at blocks
+    none_body medium kept firsts (Bytes bytes) from blocks place size at is (count, places) = none_file medium kept firsts bytes from blocks place at is places
+    none_body medium kept firsts (Entries parent entries) from blocks place size at is (p, count, holds) =
         none_all blocks at (λ block k e location fields entry. distinct.directory parent from size entries blocks holds block (found blocks k block e) location fields entry)
 
     -- none of a node's blocks imitates
     none_node : (medium : Medium) (node : Writing) (from : ℕ) (blocks : List Block) (number at : ℕ) → at ≡ from + partition_start → WritesNode formats medium node from blocks number → NoneImitates formats at blocks
     none_node medium node from blocks number at is w =
         subst (λ (xs : List Block). NoneImitates formats at xs) (sym w.blocks_are)
-        (none-append formats at w.before (w.entry ∷ []) (none_body medium node.kept node.stored.body from w.before w.place w.size at is w.body)
+        (none-append formats at w.before (w.entry ∷ []) (none_body medium node.kept node.firsts node.stored.body from w.before w.place w.size at is w.body)
         ((λ t. plain_entry node.stored.body _ w.entry node.address (at + length w.before) refl w.is t), tt))
 
     pub none_nodes : (medium : Medium) (nodes : List Writing) (from : ℕ) (blocks : List Block) (written : List Written) (at : ℕ) → at ≡ from + partition_start → WritesNodes formats medium nodes from blocks written → NoneImitates formats at blocks

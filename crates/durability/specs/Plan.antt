@@ -28,10 +28,11 @@ blocks_from (suc n) bytes = (take BLOCK_BYTES bytes ++ replicate (BLOCK_BYTES - 
 abbrev pub packed : List ℕ → List Block
 packed bytes = blocks_from (blocks_for (length bytes)) bytes
 
--- a node to be written under a virtual address; so many of a file's bytes stay where they are
+-- a node to be written under a virtual address; so many of a file's bytes stay where they are, in extents from these block numbers on
 pub record Writing : Type 0 where
   pub address : ℕ
   pub kept : ℕ
+  pub firsts : List ℕ
   pub stored : Stored
 
 -- the block number of the entry that was written for a virtual address
@@ -65,10 +66,11 @@ pub record PlansAddition (graph : Graph) (free : ℕ) (path : Path) (content : C
   pub name : Name
   pub last : last_of path ≡ name ∷ []
   pub nodes_are : nodes ≡
-      record { address = free; kept = 0; stored = as_stored identity moment (new_body above.address content) }
+      record { address = free; kept = 0; firsts = []; stored = as_stored identity moment (new_body above.address content) }
       ∷ record {
         address = above.address;
         kept = 0;
+        firsts = [];
         stored = as_stored above.stored.identity moment
             (with_entries (λ entries. entries ++ record { name = name; is_directory = has_names content; address = free; identity = identity } ∷ []) above.stored.body);
       }
@@ -77,7 +79,7 @@ pub record PlansAddition (graph : Graph) (free : ℕ) (path : Path) (content : C
 -- a file's bytes; no directory is written
 pub record PlansReplacement (graph : Graph) (path : Path) (bytes : List ℕ) (moment : ℕ) (nodes : List Writing) : Type 0 where
   pub file : Found graph path
-  pub nodes_are : nodes ≡ record { address = file.address; kept = 0; stored = as_stored file.stored.identity moment (Bytes bytes) } ∷ []
+  pub nodes_are : nodes ≡ record { address = file.address; kept = 0; firsts = []; stored = as_stored file.stored.identity moment (Bytes bytes) } ∷ []
 
 -- bytes after those that the file has; no directory is written
 pub record PlansAppend (graph : Graph) (path : Path) (offset : ℕ) (bytes : List ℕ) (moment : ℕ) (nodes : List Writing) : Type 0 where
@@ -85,14 +87,15 @@ pub record PlansAppend (graph : Graph) (path : Path) (offset : ℕ) (bytes : Lis
   pub front : List ℕ
   pub holds : file.stored.body ≡ Bytes front
   pub size : length front ≡ offset
-  pub nodes_are : nodes ≡ record { address = file.address; kept = offset; stored = as_stored file.stored.identity moment (Bytes (front ++ bytes)) } ∷ []
+  pub firsts : List ℕ
+  pub nodes_are : nodes ≡ record { address = file.address; kept = offset; firsts = firsts; stored = as_stored file.stored.identity moment (Bytes (front ++ bytes)) } ∷ []
 
 -- the directory above, without the name; what was there is unused from now on
 pub record PlansRemoval (graph : Graph) (path : Path) (moment : ℕ) (nodes : List Writing) (gone : List ℕ) : Type 0 where
   pub above : Found graph (parent_of path)
   pub node : Found graph path
   pub gone_is : gone ≡ node.address ∷ []
-  pub nodes_are : nodes ≡ record { address = above.address; kept = 0; stored = as_stored above.stored.identity moment (with_entries (without path) above.stored.body) } ∷ []
+  pub nodes_are : nodes ≡ record { address = above.address; kept = 0; firsts = []; stored = as_stored above.stored.identity moment (with_entries (without path) above.stored.body) } ∷ []
 
 -- another name within one directory
 pub record PlansRenaming (graph : Graph) (from to : Path) (moment : ℕ) (nodes : List Writing) : Type 0 where
@@ -106,6 +109,7 @@ pub record PlansRenaming (graph : Graph) (from to : Path) (moment : ℕ) (nodes 
   pub nodes_are : nodes ≡ record {
     address = above.address;
     kept = 0;
+    firsts = [];
     stored = as_stored above.stored.identity moment
         (with_entries (λ entries. without from entries ++ renamed name moved ∷ []) above.stored.body);
   } ∷ []
@@ -113,7 +117,7 @@ pub record PlansRenaming (graph : Graph) (from to : Path) (moment : ℕ) (nodes 
 -- a directory that is moved names the directory above it anew; a file is not written
 abbrev pub turned : Entry → Stored → ℕ → List Writing
 turned moved stored above =
-    if is_directory stored then record { address = moved.address; kept = 0; stored = as_stored stored.identity stored.moment (with_parent above stored.body) } ∷ [] else []
+    if is_directory stored then record { address = moved.address; kept = 0; firsts = []; stored = as_stored stored.identity stored.moment (with_parent above stored.body) } ∷ [] else []
 
 -- to another directory: what is moved, the directory that loses the name, the directory that gets one
 pub record PlansMove (graph : Graph) (from to : Path) (moment : ℕ) (nodes : List Writing) : Type 0 where
@@ -129,8 +133,8 @@ pub record PlansMove (graph : Graph) (from to : Path) (moment : ℕ) (nodes : Li
   pub to_last : last_of to ≡ name ∷ []
   pub nodes_are : nodes ≡
       turned moved stored beyond.address
-      ++ record { address = above.address; kept = 0; stored = as_stored above.stored.identity moment (with_entries (without from) above.stored.body) }
-      ∷ record { address = beyond.address; kept = 0; stored = as_stored beyond.stored.identity moment (with_entries (λ entries. entries ++ renamed name moved ∷ []) beyond.stored.body) }
+      ++ record { address = above.address; kept = 0; firsts = []; stored = as_stored above.stored.identity moment (with_entries (without from) above.stored.body) }
+      ∷ record { address = beyond.address; kept = 0; firsts = []; stored = as_stored beyond.stored.identity moment (with_entries (λ entries. entries ++ renamed name moved ∷ []) beyond.stored.body) }
       ∷ []
 
 -- the nodes that an operation answered 0 writes, in their order, and the virtual addresses that are unused after it
@@ -156,20 +160,20 @@ module _ (formats : Formats) where
     pub whole : blocks ≡ replicate (first - from) zeros ++ packed bytes
 
   -- the blocks before a file's entry, and where the entry says that its bytes are
-  pub data PlacesFile (medium : Medium) (kept : ℕ) (bytes : List ℕ) (from : ℕ) (blocks : List Block) (place : NodePlace) : Type 0 where
-    nowhere : kept ≡ 0 → length bytes ≡ 0 → blocks ≡ [] → place ≡ Nowhere → PlacesFile medium kept bytes from blocks place
-    inside : kept ≡ 0 → 1 ≤ length bytes → length bytes ≤ most_inside → blocks ≡ [] → place ≡ Inside bytes → PlacesFile medium kept bytes from blocks place
-    outside : kept ≡ 0 → most_inside < length bytes → (first : ℕ) → IsPlaced bytes from first blocks → place ≡ Extent first → PlacesFile medium kept bytes from blocks place
+  pub data PlacesFile (medium : Medium) (kept : ℕ) (firsts : List ℕ) (bytes : List ℕ) (from : ℕ) (blocks : List Block) (place : NodePlace) : Type 0 where
+    nowhere : kept ≡ 0 → length bytes ≡ 0 → blocks ≡ [] → place ≡ Nowhere → PlacesFile medium kept firsts bytes from blocks place
+    inside : kept ≡ 0 → 1 ≤ length bytes → length bytes ≤ most_inside → blocks ≡ [] → place ≡ Inside bytes → PlacesFile medium kept firsts bytes from blocks place
+    outside : kept ≡ 0 → most_inside < length bytes → (first : ℕ) → IsPlaced bytes from first blocks → place ≡ Extent first → PlacesFile medium kept firsts bytes from blocks place
     -- one extent more: those before it are on the medium, and full
-    appended : (front more firsts : List ℕ) → bytes ≡ front ++ more → length front ≡ kept → 0 < kept → kept ≡ FILE_BYTES * length firsts
+    appended : (front more : List ℕ) → bytes ≡ front ++ more → length front ≡ kept → 0 < kept → kept ≡ FILE_BYTES * length firsts
         → AreWithin medium kept firsts → front ≡ bytes_in_extents medium kept firsts → 0 < length more → length more ≤ FILE_BYTES
         → (first : ℕ) → IsPlaced more from first blocks → (descriptors : List ℕ) → formats.firsts descriptors ≡ firsts ++ first ∷ [] → place ≡ Extents descriptors
-        → PlacesFile medium kept bytes from blocks place
+        → PlacesFile medium kept firsts bytes from blocks place
 
   -- the blocks before a node's entry, from a block number on, and what the entry says of them
-  abbrev pub PlacesBody : Medium → ℕ → Body → ℕ → List Block → NodePlace → ℕ → Type 0
-  PlacesBody medium kept (Bytes bytes) from blocks place size = (size ≡ length bytes) × PlacesFile medium kept bytes from blocks place
-  PlacesBody medium kept (Entries parent entries) from blocks place size = (place ≡ Extent from) × (length blocks ≡ blocks_for size) × formats.IsDirectory parent entries from size blocks
+  abbrev pub PlacesBody : Medium → ℕ → List ℕ → Body → ℕ → List Block → NodePlace → ℕ → Type 0
+  PlacesBody medium kept firsts (Bytes bytes) from blocks place size = (size ≡ length bytes) × PlacesFile medium kept firsts bytes from blocks place
+  PlacesBody medium kept firsts (Entries parent entries) from blocks place size = (place ≡ Extent from) × (length blocks ≡ blocks_for size) × formats.IsDirectory parent entries from size blocks
 
   -- the blocks of a node from a block number on: its data, and then its entry, which has this number
   pub record WritesNode (medium : Medium) (node : Writing) (from : ℕ) (blocks : List Block) (number : ℕ) : Type 0 where
@@ -179,7 +183,7 @@ module _ (formats : Formats) where
     pub number_is : number ≡ from + length before
     pub place : NodePlace
     pub size : ℕ
-    pub body : PlacesBody medium node.kept node.stored.body from before place size
+    pub body : PlacesBody medium node.kept node.firsts node.stored.body from before place size
     pub is : formats.IsEntry (record { kind = kind_of_body node.stored.body; moment = node.stored.moment; links = node.stored.links; identity = node.stored.identity; size = size; place = place }) entry node.address
 
   -- the blocks of these nodes after the medium, one after the other, and where their entries are
@@ -190,12 +194,30 @@ module _ (formats : Formats) where
       × (blocks ≡ first ++ others) × (written ≡ record { address = node.address; number = number } ∷ rest)
       × WritesNode medium node from first number × WritesNodes (medium ++ first) nodes (from + length first) others rest
 
+  -- the block numbers at which the extents of a file begin
+  abbrev pub firsts_of : NodePlace → List ℕ
+  firsts_of Nowhere = []
+  firsts_of (Inside bytes) = []
+  firsts_of (Extent first) = first ∷ []
+  firsts_of (Extents descriptors) = formats.firsts descriptors
+
+  -- A file that keeps bytes is there already: it has as many, where its entry says.
+  abbrev pub KeepsPlace : Medium → List (Option ℕ) → Writing → Type 0
+  KeepsPlace medium table node = 0 < node.kept
+      → (path : Path) × (file : Found (graph_of formats medium table) path) × (bytes : List ℕ)
+      × (file.address ≡ node.address) × (file.stored.body ≡ Bytes bytes) × (file.is.fields.size ≡ node.kept) × (node.firsts ≡ firsts_of file.is.fields.place)
+
+  abbrev pub KeepPlaces : Medium → List (Option ℕ) → List Writing → Type 0
+  KeepPlaces medium table [] = Unit {0}
+  KeepPlaces medium table (node ∷ nodes) = KeepsPlace medium table node × KeepPlaces medium table nodes
+
   -- The planned blocks of a request at the recovered state, and its table entry after them.
   pub record IsPlanned (capacity volume : ℕ) (medium : Medium) (S : State) (stands : RecoversTo formats capacity volume medium S) (request : Request) (blocks : List Block) (mark : Block) : Type 0 where
     pub nodes : List Writing
     pub gone : List ℕ
     pub done : code_of request.operation S.tree ≡ 0 → Plans (graph_of formats (take stands.at medium) stands.tells.table.entries) (free_address stands.tells.table.entries) request.operation request.moment S.next_identity nodes gone
     pub refused : (code_of request.operation S.tree ≡ 0 → ⊥) → (nodes ≡ []) × (gone ≡ [])
+    pub keep : KeepPlaces (take stands.at medium) stands.tells.table.entries nodes
     pub node_blocks : List Block
     pub written : List Written
     pub writes : WritesNodes medium nodes (length medium - partition_start) node_blocks written

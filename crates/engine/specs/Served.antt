@@ -120,17 +120,20 @@ pub record Serving (reader : Option (List ℕ)) (before afterwards : Situation) 
   pub answered : AllAnswered messages before answers afterwards
   pub told : Appends output written (frames_of answers)
 
--- A frame was too long: in the last piece that was read, and in none before it.
-pub record IsCutOff (bytes : List ℕ) (reader : Option (List ℕ)) : Type 0 where
+-- A frame was too long: in the last piece that was read, of so many bytes at most, and in none before it.
+pub record IsCutOffWithin (most : ℕ) (bytes : List ℕ) (reader : Option (List ℕ)) : Type 0 where
   pub over : reader ≡ None
   pub earlier : List ℕ
   pub piece : List ℕ
   pub bytes_are : bytes ≡ earlier ++ piece
-  pub short : length piece ≤ 65536
+  pub short : length piece ≤ most
   pub messages : List Message
   pub waiting : List ℕ
   pub messages_are : MessagesAre earlier messages (Some waiting)
   pub partial : IsPartial waiting
+
+abbrev pub IsCutOff : List ℕ → Option (List ℕ) → Type 0
+IsCutOff = IsCutOffWithin 65536
 
 -- All messages of the bytes that were read were answered in turn, and each answer's frame was written. The stream is at its end, or a frame was too long.
 pub record ServesAll (before afterwards : Situation) (input left output written : Option (List ℕ)) : Type 0 where

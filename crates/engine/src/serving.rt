@@ -1,6 +1,6 @@
 //! Messages from a stream, and answers to one.
 
-ghost use Rattle.std.specs.Prelude.{◌≡◌, ◌≤◌, [], OnOk, IfOk, IfErr};
+ghost use Rattle.std.specs.Prelude.{◌≡◌, ◌<◌, ◌≤◌, [], OnOk, IfOk, IfErr};
 ghost use Rattle.std.specs.Io.KnownBytes.{Appends};
 ghost use Rattle.drive.specs.Journal.{counted};
 ghost use Rattle.drive.specs.Reads.{ReadsAndWrites};
@@ -60,7 +60,7 @@ pub fn serve<R: Read, W: Write, D: Drive>(
     let mut frames = Frames::new(alloc);
     let mut answers = Vec::new(alloc);
     for _ in 0..u64::MAX {
-        let count = read_on(reader, &mut frames)?;
+        let count = read_on(reader, &mut frames, PIECE_BYTES)?;
         if count == 0 {
             return Ok(());
         }
@@ -72,18 +72,20 @@ pub fn serve<R: Read, W: Write, D: Drive>(
     Err(ServeFault::Memory)
 }
 
-/// Reads the next bytes of a stream into the reader of frames, at most 65,536. Returns how many: 0 only at the end of the
+/// Reads the next bytes of a stream into the reader of frames, at most `most`. Returns how many: 0 only at the end of the
 /// stream.
 pub fn read_on<R: Read>(
     reader: &mut CountedReader<R>,
     frames: &mut Frames,
+    most: usize,
 ) -> Result<usize, ServeFault>
-    ensures bound { IfOk result (λ count. count ≤ PIECE_BYTES) }
+    requires { 0 < most }
+    ensures bound { IfOk result (λ count. count ≤ most) }
     ensures ok { IfOk result (λ count. ReadsPiece count (R.remaining reader.old.stream) (R.remaining reader.new.stream) frames.old frames.new) }
     ensures err { IfErr result (λ fault. LeavesBy fault (R.remaining reader.old.stream) (R.remaining reader.new.stream)) }
     ensures failures { reader.new.failures ≡ counted (is_read_fault result) reader.old.failures }
 {
-    match reader.read_into(frames, PIECE_BYTES) {
+    match reader.read_into(frames, most) {
         Ok(count) => Ok(count),
         Err(FeedFault::Read) => Err(ServeFault::Read),
         Err(FeedFault::Memory) => end_of(reader),

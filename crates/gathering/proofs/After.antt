@@ -18,7 +18,6 @@ use Rattle.durability.proofs.Stored.{stored_one, stored_more, stored_same}
 use Rattle.durability.proofs.Tables.{unused_least}
 use Rattle.durability.proofs.Trees.{Made, made_after, makes_kept, few_after}
 use Rattle.durability.proofs.Written.{placed_extent}
-use Rattle.gathering.specs.Appends.{AllGoOn}
 use Rattle.gathering.proofs.Beside.{part_same, AreBeside, beside_itself, beside_size, beside_append, beside_take, stays_there}
 use Rattle.gathering.proofs.Entries.{used_after}
 use Rattle.gathering.proofs.Nodes.{nodes_beside}
@@ -53,8 +52,7 @@ module _ (formats : Formats) where
   follows_itself capacity volume M S = record { beside = beside_itself formats 0 M; keeps = λ stands address reached s there. there }
 
   module _ (exact : AreExact formats) (bounded : AreBounded formats) (distinct : AreDistinct formats) (capacity volume : ℕ) (M N : Medium) (S : State) (both : Follows capacity volume M N S)
-      (stands : RecoversTo formats capacity volume M S) (r : Request) (blocks : List Block) (mark : Block) (p : IsPlanned formats capacity volume M S stands r blocks mark)
-      (goes : AllGoOn formats (take stands.at M) stands.tells.table.entries p.nodes M (length M - partition_start) p.node_blocks p.written p.writes) where
+      (stands : RecoversTo formats capacity volume M S) (r : Request) (blocks : List Block) (mark : Block) (p : IsPlanned formats capacity volume M S stands r blocks mark) where
     abbrev V : List (Option ℕ)
     V = stands.tells.table.entries
 
@@ -97,7 +95,7 @@ module _ (formats : Formats) where
         ]
         | inr there ↦ stays_written (subst (λ (bs : List Block). (t : Stored) × IsStoredAt formats (M ++ bs) W address t × IsStoredAt formats (N ++ bs) W address t) (sym p.blocks_are)
             (nodes_beside formats exact distinct (take stands.at M) (take stands.at N) below V (both.keeps stands) p.nodes M N (drop stands.at M) (drop stands.at N)
-            (sym (take-append-drop stands.at M)) (sym (take-append-drop stands.at N)) size low (length M - partition_start) p.node_blocks p.written refl p.writes goes p.table_blocks W address st.number st.used there))
+            (sym (take-append-drop stands.at M)) (sym (take-append-drop stands.at N)) size low (length M - partition_start) p.node_blocks p.written refl p.writes p.keep p.table_blocks W address st.number st.used there))
       ]
 
     pub kept_after : Keeps (M ++ blocks) (N ++ blocks) W

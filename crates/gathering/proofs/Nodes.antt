@@ -1,4 +1,4 @@
--- Nodes that are written after a medium are stored after one beside it too, where appends go on from the extents that are there.
+-- Nodes that are written after a medium are stored after one beside it too.
 use Rattle.std.proofs.Common.{◌≡◌, ◌⊎◌, inl, inr, ℕ, ◌+◌, ◌*◌, ◌-◌, ◌≤◌, ◌<◌, min, List, [], ◌∷◌, ◌++◌, length, take, slice_get, Option, Some, refl, sym, ◌∙◌, ap, subst, arith, append_assoc, append-nil, length-append}
 use Rattle.std.proofs.Math.Nat.{min-eq_left}
 use Rattle.std.proofs.lemmas.List.{take_at}
@@ -9,18 +9,12 @@ use Rattle.model.specs.Change.{IsReached, IsKeptUnder}
 use Rattle.durability.specs.Formats.{Block, NodePlace, NodeFields, Formats, AreExact, AreDistinct}
 use Rattle.durability.specs.Formats.NodePlace.{Nowhere, Extent, Extents, Inside}
 use Rattle.durability.specs.Volume.{Medium, partition_start, IsWithin, extent, bytes_in_blocks, AreWithin, bytes_in_extents, HoldsFile, HoldsBody, IsStoredAt, graph_of}
-use Rattle.durability.specs.Plan.{Writing, Written, PlacesFile, PlacesBody, WritesNode, WritesNodes}
+use Rattle.durability.specs.Plan.{Writing, Written, PlacesFile, PlacesBody, WritesNode, WritesNodes, firsts_of, KeepsPlace, KeepPlaces}
 use Rattle.durability.specs.Plan.PlacesFile.{nowhere, inside, outside, appended}
 use Rattle.durability.proofs.Extents.{extents_stay}
 use Rattle.durability.proofs.Written.{nodes_stored}
-use Rattle.gathering.specs.Appends.{firsts_of, GoesOn, AllGoOn}
 use Rattle.gathering.proofs.Beside.{AreBeside, same_body}
 use Rattle.gathering.proofs.Entries.{IsWritten}
-
-same_front : (xs ys : List ℕ) (x y : ℕ) → xs ++ x ∷ [] ≡ ys ++ y ∷ [] → xs ≡ ys
-same_front xs ys x y e =
-    let size : length xs ≡ length ys = omega (arith, ap (λ (zs : List ℕ). length zs) e, length-append xs (x ∷ []), length-append ys (y ∷ [])) in
-    sym (take_at xs (x ∷ []) (length xs) refl) ∙ ap (λ (zs : List ℕ). take (length xs) zs) e ∙ take_at ys (y ∷ []) (length xs) (sym size)
 
 module _ (formats : Formats) where
   -- the bytes of a file of full extents
@@ -46,46 +40,44 @@ module _ (formats : Formats) where
     file_of : (M : Medium) (fields : NodeFields) (body : Body) (bytes : List ℕ) → body ≡ Bytes bytes → HoldsBody formats M fields body → HoldsFile formats M fields.size fields.place bytes
     file_of M fields body bytes is holds = (subst (λ (b : Body). HoldsBody formats M fields b) is holds).1
 
-    left_extents : (node : Writing) (place : NodePlace) (descriptors : List ℕ) (firsts : List ℕ) (first : ℕ) → GoesOn formats below V node place → place ≡ Extents descriptors
-        → formats.firsts descriptors ≡ firsts ++ first ∷ [] → 0 < node.kept → node.kept ≡ FILE_BYTES * length firsts → Left node.kept firsts
-    left_extents node place descriptors firsts first goes at names some count =
-        let (path, file, bytes, last, address, body, size, old_names) = goes descriptors at in
-        let same : firsts ≡ firsts_of formats file.is.fields.place = same_front firsts (firsts_of formats file.is.fields.place) first last (sym names ∙ old_names) in
+    left_extents : (node : Writing) → KeepsPlace formats below V node → 0 < node.kept → node.kept ≡ FILE_BYTES * length node.firsts → Left node.kept node.firsts
+    left_extents node keep some count =
+        let (path, file, bytes, address, body, size, same) = keep some in
         let many : file.is.fields.size ≡ FILE_BYTES * length (firsts_of formats file.is.fields.place) = size ∙ count ∙ ap (λ (fs : List ℕ). FILE_BYTES * length fs) same in
         let kept = keeps file.address (path, file.reach) file.stored file.is in
         let here = in_extents below file.is.fields.size file.is.fields.place bytes (file_of below file.is.fields file.stored.body bytes body file.is.body) (omega (arith, size, some)) many in
         let there = in_extents other file.is.fields.size file.is.fields.place bytes
         (file_of other file.is.fields file.stored.body bytes body (same_body formats distinct exact below other all V file.address file.stored file.is kept)) (omega (arith, size, some)) many in
-        subst (λ (n : ℕ). Left n firsts) size (subst (λ (fs : List ℕ). Left file.is.fields.size fs) (sym same) (record { within = here.0; within_other = there.0; same = sym there.1 ∙ here.1 }))
+        subst (λ (n : ℕ). Left n node.firsts) size (subst (λ (fs : List ℕ). Left file.is.fields.size fs) (sym same) (record { within = here.0; within_other = there.0; same = sym there.1 ∙ here.1 }))
 
     module _ (B C rest rest' : Medium) (goes_on : B ≡ below ++ rest) (other_goes_on : C ≡ other ++ rest') where
-      file_beside : (node : Writing) (bytes : List ℕ) (from : ℕ) (blocks : List Block) (place : NodePlace) → GoesOn formats below V node place
-          → PlacesFile formats B node.kept bytes from blocks place → PlacesFile formats C node.kept bytes from blocks place
-      file_beside node bytes from blocks place goes (nowhere new size blocks_are at) = nowhere new size blocks_are at
-      file_beside node bytes from blocks place goes (inside new some few blocks_are at) = inside new some few blocks_are at
-      file_beside node bytes from blocks place goes (outside new many first placed at) = outside new many first placed at
-      file_beside node bytes from blocks place goes (appended front new firsts whole size some-front count within holds some few first placed descriptors names at) =
-          let left = left_extents node place descriptors firsts first goes at names some-front count in
-          let here = extents_stay below rest node.kept firsts left.within in
-          let there = extents_stay other rest' node.kept firsts left.within_other in
-          let same : bytes_in_extents C node.kept firsts ≡ bytes_in_extents B node.kept firsts =
-          ap (λ (M : Medium). bytes_in_extents M node.kept firsts) other_goes_on ∙ there.1 ∙ left.same ∙ sym here.1 ∙ ap (λ (M : Medium). bytes_in_extents M node.kept firsts) (sym goes_on) in
-          appended front new firsts whole size some-front count (subst (λ (M : Medium). AreWithin M node.kept firsts) (sym other_goes_on) there.0) (holds ∙ sym same) some few first placed descriptors names at
+      file_beside : (node : Writing) (bytes : List ℕ) (from : ℕ) (blocks : List Block) (place : NodePlace) → KeepsPlace formats below V node
+          → PlacesFile formats B node.kept node.firsts bytes from blocks place → PlacesFile formats C node.kept node.firsts bytes from blocks place
+      file_beside node bytes from blocks place keep (nowhere new size blocks_are at) = nowhere new size blocks_are at
+      file_beside node bytes from blocks place keep (inside new some few blocks_are at) = inside new some few blocks_are at
+      file_beside node bytes from blocks place keep (outside new many first placed at) = outside new many first placed at
+      file_beside node bytes from blocks place keep (appended front new whole size some-front count within holds some few first placed descriptors names at) =
+          let left = left_extents node keep some-front count in
+          let here = extents_stay below rest node.kept node.firsts left.within in
+          let there = extents_stay other rest' node.kept node.firsts left.within_other in
+          let same : bytes_in_extents C node.kept node.firsts ≡ bytes_in_extents B node.kept node.firsts =
+          ap (λ (M : Medium). bytes_in_extents M node.kept node.firsts) other_goes_on ∙ there.1 ∙ left.same ∙ sym here.1 ∙ ap (λ (M : Medium). bytes_in_extents M node.kept node.firsts) (sym goes_on) in
+          appended front new whole size some-front count (subst (λ (M : Medium). AreWithin M node.kept node.firsts) (sym other_goes_on) there.0) (holds ∙ sym same) some few first placed descriptors names at
 
-      body_beside : (node : Writing) (body : Body) (from : ℕ) (blocks : List Block) (place : NodePlace) (size : ℕ) → GoesOn formats below V node place
-          → PlacesBody formats B node.kept body from blocks place size → PlacesBody formats C node.kept body from blocks place size
-      body_beside node (Bytes bytes) from blocks place size goes (count, places) = (count, file_beside node bytes from blocks place goes places)
-      body_beside node (Entries parent entries) from blocks place size goes places = places
+      body_beside : (node : Writing) (body : Body) (from : ℕ) (blocks : List Block) (place : NodePlace) (size : ℕ) → KeepsPlace formats below V node
+          → PlacesBody formats B node.kept node.firsts body from blocks place size → PlacesBody formats C node.kept node.firsts body from blocks place size
+      body_beside node (Bytes bytes) from blocks place size keep (count, places) = (count, file_beside node bytes from blocks place keep places)
+      body_beside node (Entries parent entries) from blocks place size keep places = places
 
-      node_beside : (node : Writing) (from : ℕ) (blocks : List Block) (number : ℕ) (w : WritesNode formats B node from blocks number) → GoesOn formats below V node w.place → WritesNode formats C node from blocks number
-      node_beside node from blocks number w goes = record {
+      node_beside : (node : Writing) (from : ℕ) (blocks : List Block) (number : ℕ) (w : WritesNode formats B node from blocks number) → KeepsPlace formats below V node → WritesNode formats C node from blocks number
+      node_beside node from blocks number w keep = record {
         before = w.before;
         entry = w.entry;
         blocks_are = w.blocks_are;
         number_is = w.number_is;
         place = w.place;
         size = w.size;
-        body = body_beside node node.stored.body from w.before w.place w.size goes w.body;
+        body = body_beside node node.stored.body from w.before w.place w.size keep w.body;
         is = w.is;
       }
 
@@ -100,17 +92,17 @@ module _ (formats : Formats) where
         (blocks, [], number, [], sym (append-nil blocks), refl, one, (refl, refl)) (used, tt)).0
 
     pub nodes_beside : (nodes : List Writing) (B C rest rest' : Medium) → B ≡ below ++ rest → C ≡ other ++ rest' → length C ≡ length B → partition_start ≤ length B
-        → (from : ℕ) (blocks : List Block) (written : List Written) → from ≡ length B - partition_start → (w : WritesNodes formats B nodes from blocks written) → AllGoOn formats below V nodes B from blocks written w
+        → (from : ℕ) (blocks : List Block) (written : List Written) → from ≡ length B - partition_start → WritesNodes formats B nodes from blocks written → KeepPlaces formats below V nodes
         → (more : List Block) (W : List (Option ℕ)) (address number : ℕ) → slice_get W address ≡ Some (Some number) → IsWritten address number written → OnBoth (B ++ (blocks ++ more)) (C ++ (blocks ++ more)) W address
-    nodes_beside [] B C rest rest' e e' size low from blocks written is (blocks_are, written_is) goes more W address number used there =
+    nodes_beside [] B C rest rest' e e' size low from blocks written is (blocks_are, written_is) keep more W address number used there =
         absurd (subst (λ (ws : List Written). IsWritten address number ws) written_is there)
-    nodes_beside (node ∷ nodes) B C rest rest' e e' size low from blocks written is (first, others, n, left, blocks_are, written_is, one, all_others) goes more W address number used there =
+    nodes_beside (node ∷ nodes) B C rest rest' e e' size low from blocks written is (first, others, n, left, blocks_are, written_is, one, all_others) keep more W address number used there =
         let longer : (M : Medium) → (M ++ first) ++ (others ++ more) ≡ M ++ (blocks ++ more) = λ M. append_assoc M first (others ++ more) ∙ sym (split M) in
         go (subst (λ (ws : List Written). IsWritten address number ws) written_is there) (λ later.
         let found = nodes_beside nodes (B ++ first) (C ++ first) (rest ++ first) (rest' ++ first)
         (ap (λ (M : Medium). M ++ first) e ∙ append_assoc below rest first) (ap (λ (M : Medium). M ++ first) e' ∙ append_assoc other rest' first)
         (omega (arith, size, length-append B first, length-append C first)) (omega (arith, low, length-append B first))
-        (from + length first) others left (omega (arith, is, low, length-append B first)) all_others goes.1 more W address number used later in (
+        (from + length first) others left (omega (arith, is, low, length-append B first)) all_others keep.1 more W address number used later in (
           found.0,
           subst (λ (M : Medium). IsStoredAt formats M W address found.0) (longer B) found.1,
           subst (λ (M : Medium). IsStoredAt formats M W address found.0) (longer C) found.2,
@@ -127,6 +119,6 @@ module _ (formats : Formats) where
               node.stored,
               subst (λ (M : Medium). IsStoredAt formats M W node.address node.stored) (sym (split B)) (one_stored B node from first n (others ++ more) W low is one used_here),
               subst (λ (M : Medium). IsStoredAt formats M W node.address node.stored) (sym (split C))
-                  (one_stored C node from first n (others ++ more) W (omega (arith, size, low)) (omega (arith, is, size)) (node_beside B C rest rest' e e' node from first n one goes.0) used_here),
+                  (one_stored C node from first n (others ++ more) W (omega (arith, size, low)) (omega (arith, is, size)) (node_beside B C rest rest' e e' node from first n one keep.0) used_here),
             )
         go (inr is_later) later = later is_later

@@ -13,7 +13,6 @@ use Rattle.durability.proofs.History.{past_now}
 use Rattle.durability.proofs.Lists.{get-drop}
 use Rattle.durability.proofs.Mediums.{Before, none_from, none-append, within, past_both}
 use Rattle.durability.proofs.One.{stands_one}
-use Rattle.gathering.specs.Appends.{AllGoOn}
 use Rattle.gathering.proofs.Phases.{zeros_none}
 use Rattle.gathering.proofs.Beside.{beside_size, beside_get}
 use Rattle.gathering.proofs.Reached.{carries}
@@ -64,29 +63,28 @@ module _ (formats : Formats) (exact : AreExact formats) (bounded : AreBounded fo
               | inr vat ↦ stands.last.no_later i c (omega arith) old (subst (λ n. IsVatIcbAt formats c n) (let k : 0 + i ≡ i = omega arith in k) vat)
             ]
 
-    module _ (goes : AllGoOn formats (take stands.at M) stands.tells.table.entries p.nodes M (length M - partition_start) p.node_blocks p.written p.writes) where
-      last_is : (t : LastTable formats (N ++ (blocks ++ mark ∷ []))) → t.table ≡ out.table
-      last_is t = table_other formats exact bounded distinct capacity volume M N S both stands r blocks mark p goes t
+    last_is : (t : LastTable formats (N ++ (blocks ++ mark ∷ []))) → t.table ≡ out.table
+    last_is t = table_other formats exact bounded distinct capacity volume M N S both stands r blocks mark p t
 
-      back : (k steps : ℕ) (T : State) (last : LastTable formats (N ++ (blocks ++ mark ∷ []))) → k + steps ≡ last.table.commits → RecoveredBefore formats steps capacity volume (N ++ (blocks ++ mark ∷ [])) T
-          → RecoveredTo formats capacity volume (M ++ (blocks ++ mark ∷ [])) k T
-      back k zero T last count stood =
-          let same = stands_one formats exact capacity volume capacity volume (N ++ (blocks ++ mark ∷ [])) T (after_one S r) stood
-          (stands_other formats exact bounded distinct capacity volume M N S both stands r blocks mark p goes) in
-          let commits : (after_one S r).commits ≡ k = omega (arith, count, ap (λ (t : Table_). t.commits) (last_is last), out.commits) in
-          subst (λ (U : State). RecoveredTo formats capacity volume (M ++ (blocks ++ mark ∷ [])) k U) (sym same)
-          (subst (λ n. RecoveredTo formats capacity volume (M ++ (blocks ++ mark ∷ [])) n (after_one S r)) commits (past_now formats capacity volume (M ++ (blocks ++ mark ∷ [])) (after_one S r) moves.ends))
-      back k (suc steps) T last count (newer, previous, is_previous, before, at, commits, stood) =
-          let whole = N ++ (blocks ++ mark ∷ []) in
-          let inside = within formats M stands.at stands.block stands.last in
-          let is : previous ≡ stands.at - partition_start = same_Some previous (stands.at - partition_start) (sym is_previous ∙ ap (λ (t : Table_). t.previous) (last_is newer) ∙ out.previous) in
-          let reach : previous + 258 ≡ stands.at + 1 = omega (arith, is, stands.last.is.0) in
-          let cut : take (previous + 258) whole ≡ take (stands.at + 1) N = ap (λ n. take n whole) reach ∙ take-append-le (stands.at + 1) N (blocks ++ mark ∷ []) (omega (arith, inside, size)) in
-          let (old, old_at, old_commits, old_stood) = subst (Before formats steps capacity volume T (previous + partition_start) newer.table.commits) cut (before, at, commits, stood) in
-          let number : k + steps ≡ old.table.commits = omega (arith, count, old_commits, ap (λ (t : Table_). t.commits) (last_is last), ap (λ (t : Table_). t.commits) (last_is newer)) in
-          let on = (past_both formats capacity volume T (take (stands.at + 1) N) (drop (stands.at + 1) N) none_after k).0 (old, steps, number, old_stood) in
-          moves.past k T (past k T (subst (λ (X : Medium). RecoveredTo formats capacity volume X k T) (take-append-drop (stands.at + 1) N) on))
+    back : (k steps : ℕ) (T : State) (last : LastTable formats (N ++ (blocks ++ mark ∷ []))) → k + steps ≡ last.table.commits → RecoveredBefore formats steps capacity volume (N ++ (blocks ++ mark ∷ [])) T
+        → RecoveredTo formats capacity volume (M ++ (blocks ++ mark ∷ [])) k T
+    back k zero T last count stood =
+        let same = stands_one formats exact capacity volume capacity volume (N ++ (blocks ++ mark ∷ [])) T (after_one S r) stood
+        (stands_other formats exact bounded distinct capacity volume M N S both stands r blocks mark p) in
+        let commits : (after_one S r).commits ≡ k = omega (arith, count, ap (λ (t : Table_). t.commits) (last_is last), out.commits) in
+        subst (λ (U : State). RecoveredTo formats capacity volume (M ++ (blocks ++ mark ∷ [])) k U) (sym same)
+        (subst (λ n. RecoveredTo formats capacity volume (M ++ (blocks ++ mark ∷ [])) n (after_one S r)) commits (past_now formats capacity volume (M ++ (blocks ++ mark ∷ [])) (after_one S r) moves.ends))
+    back k (suc steps) T last count (newer, previous, is_previous, before, at, commits, stood) =
+        let whole = N ++ (blocks ++ mark ∷ []) in
+        let inside = within formats M stands.at stands.block stands.last in
+        let is : previous ≡ stands.at - partition_start = same_Some previous (stands.at - partition_start) (sym is_previous ∙ ap (λ (t : Table_). t.previous) (last_is newer) ∙ out.previous) in
+        let reach : previous + 258 ≡ stands.at + 1 = omega (arith, is, stands.last.is.0) in
+        let cut : take (previous + 258) whole ≡ take (stands.at + 1) N = ap (λ n. take n whole) reach ∙ take-append-le (stands.at + 1) N (blocks ++ mark ∷ []) (omega (arith, inside, size)) in
+        let (old, old_at, old_commits, old_stood) = subst (Before formats steps capacity volume T (previous + partition_start) newer.table.commits) cut (before, at, commits, stood) in
+        let number : k + steps ≡ old.table.commits = omega (arith, count, old_commits, ap (λ (t : Table_). t.commits) (last_is last), ap (λ (t : Table_). t.commits) (last_is newer)) in
+        let on = (past_both formats capacity volume T (take (stands.at + 1) N) (drop (stands.at + 1) N) none_after k).0 (old, steps, number, old_stood) in
+        moves.past k T (past k T (subst (λ (X : Medium). RecoveredTo formats capacity volume X k T) (take-append-drop (stands.at + 1) N) on))
 
-      -- with it
-      pub past_with : HasPast (M ++ (blocks ++ mark ∷ [])) (N ++ (blocks ++ mark ∷ []))
-      past_with k T (last, steps, count, stood) = back k steps T last count stood
+    -- with it
+    pub past_with : HasPast (M ++ (blocks ++ mark ∷ [])) (N ++ (blocks ++ mark ∷ []))
+    past_with k T (last, steps, count, stood) = back k steps T last count stood

@@ -6,7 +6,6 @@ use Rattle.durability.specs.Formats.{Block, Formats}
 use Rattle.durability.specs.Volume.{Medium, RecoversTo, RecoveredTo}
 use Rattle.durability.specs.Torn.{AreAlike, Endures, AreCommitted}
 use Rattle.gathering.specs.Groups.{Commit, with_marks, none_there, first_there, HasMarks, newest, one_by_one, AreInTurn}
-use Rattle.gathering.specs.Appends.{AppendsGoOn}
 
 module _ (formats : Formats) where
   -- Before the first sync has returned, nothing of the group is recovered, whichever of the blocks the disk has.
@@ -38,6 +37,6 @@ module _ (formats : Formats) where
   abbrev pub AnyMarks : Type 0
   AnyMarks =
       (capacity volume : ℕ) (medium : Medium) (S : State) (requests : List Request) (group : List Commit) → RecoversTo formats capacity volume medium S
-      → (turn : AreInTurn formats capacity volume medium S requests group) → AppendsGoOn formats capacity volume medium S requests group turn
+      → AreInTurn formats capacity volume medium S requests group
       → (there : ℕ → Bool) (left : List Block) → HasMarks there group left
       → EndsWith capacity volume S (take (newest there group) requests) (medium ++ with_marks (first_there (length requests)) group) (medium ++ left)

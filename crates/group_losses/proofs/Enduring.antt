@@ -19,7 +19,6 @@ use Rattle.gathering.proofs.Phases.{first_phase, second_phase, together}
 use Rattle.engine.specs.Losses.{Survives}
 use Rattle.group_losses.specs.Laws.{EndsAfter, GroupEndures, GroupSurvivesPowerLoss}
 use Rattle.group_losses.proofs.Gathering.{gathered}
-use Rattle.group_losses.proofs.Growing.{none_grows}
 
 -- the first of new requests are new
 new_front : (n : ℕ) (S : State) (requests : List Request) → AllNew S requests → AllNew S (take n requests)
@@ -89,10 +88,9 @@ endures capacity volume S before requests group afterwards once stands turn new 
   first = λ left lost torn is. survives_alike capacity volume S before once stands left lost is (first_phase udf exact bounded distinct capacity volume (held before) S requests group turn left torn);
   second = λ n left lost few has is.
       survives capacity volume S before once stands left lost is (take n requests) (new_front n S requests new) (second_phase udf exact bounded distinct capacity volume (held before) S requests group stands turn n few left has);
-  any = λ goes there left lost has is.
+  any = λ there left lost has is.
       ends_after capacity volume S before once stands left lost is (take (newest there group) requests) afterwards (with_marks (first_there (length requests)) group) journal
-      (any_marks udf exact bounded distinct capacity volume (held before) S requests group stands turn goes there left has);
-  goes_on = none_grows udf capacity volume (held before) S requests group turn;
+      (any_marks udf exact bounded distinct capacity volume (held before) S requests group stands turn there left has);
 }
 
 pub group_survives : GroupSurvivesPowerLoss

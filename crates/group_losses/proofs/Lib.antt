@@ -1,4 +1,2 @@
 pub mod Gathering
-pub mod Growing
-pub mod Alone
 pub mod Enduring

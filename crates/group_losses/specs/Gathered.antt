@@ -1,8 +1,6 @@
 -- The commits that messages made which were answered one after another.
-use Rattle.std.specs.Prelude.{◌≡◌, ◌⊎◌, ◌<◌, List, [], ◌∷◌, ◌++◌, length}
+use Rattle.std.specs.Prelude.{◌≡◌, ◌⊎◌, List, [], ◌∷◌, ◌++◌, length}
 use Rattle.drive.specs.Journal.{written}
-use Rattle.model.specs.Operation.{Operation}
-use Rattle.model.specs.Operation.Operation.{Append}
 use Rattle.model.specs.Session.{State, Request, due, reply_to, after_one}
 use Rattle.model.specs.Session.Due.{New}
 use Rattle.durability.specs.Runs.Answer.{Replied}
@@ -37,13 +35,3 @@ AreGathered (m ∷ messages) S before (a ∷ answers) afterwards all requests gr
     ⊎ ((request : Request) × (commit : Commit) × (more : List Request) × (others : List Commit)
     × (requests ≡ request ∷ more) × (group ≡ commit ∷ others) × Commits S m before a all.0 request commit
     × AreGathered messages (after_one S request) all.0 answers afterwards all.2 more others)
-
--- bytes are added to a file that has some
-abbrev pub Grows : Operation → Type 0
-Grows (Append path offset bytes) = 0 < offset
-Grows other = ⊥
-
--- and by none of these requests
-abbrev pub NoneGrows : List Request → Type 0
-NoneGrows [] = Unit {0}
-NoneGrows (request ∷ requests) = (Grows request.operation → ⊥) × NoneGrows requests

@@ -8,7 +8,6 @@ use Rattle.durability.specs.Formats.{Block}
 use Rattle.durability.specs.Torn.{AreCommitted}
 use Rattle.udf.specs.Udf.{udf}
 use Rattle.gathering.specs.Groups.{Commit, with_marks, none_there, first_there, HasMarks, newest, one_by_one, AreInTurn}
-use Rattle.gathering.specs.Appends.{AppendsGoOn}
 use Rattle.gathering.specs.Laws.{EndsWith}
 use Rattle.request.specs.declared.answer.Answer.{Answer}
 use Rattle.request.specs.declared.message.Message.{Message}
@@ -16,7 +15,7 @@ use Rattle.engine.specs.Losses.{Survives}
 use Rattle.engine.specs.Served.{AllAnswered}
 use Rattle.engine.specs.Situation.{Situation}
 use Rattle.engine.specs.Steps.{HoldsState}
-use Rattle.group_losses.specs.Gathered.{AreGathered, NoneFailed, NoneGrows}
+use Rattle.group_losses.specs.Gathered.{AreGathered, NoneFailed}
 
 -- The journal goes on from the one before, each address once. The state after these requests is recovered, and no other. Each
 -- earlier state that can be read is one that could be read with all marks.
@@ -38,12 +37,9 @@ pub record GroupEndures (capacity volume : ℕ) (S : State) (before : List Event
   -- after it, with the marks of the first n commits, their requests
   pub second : (n : ℕ) (left : List Block) (lost : List Event) → n ≤ length requests → HasMarks (first_there n) group left → lost ≡ before ++ written (length before) left
       → Survives capacity volume S before (take n requests) lost
-  -- with any choice of the marks, the requests up to the newest one that is there, where each append leaves the bytes of its file where they are
-  pub any : AppendsGoOn udf capacity volume (held before) S requests group turn
-      → (there : ℕ → Bool) (left : List Block) (lost : List Event) → HasMarks there group left → lost ≡ before ++ written (length before) left
+  -- with any choice of the marks, the requests up to the newest one that is there
+  pub any : (there : ℕ → Bool) (left : List Block) (lost : List Event) → HasMarks there group left → lost ≡ before ++ written (length before) left
       → EndsAfter capacity volume S before (take (newest there group) requests) afterwards lost
-  -- as where no request adds bytes to a file that has some
-  pub goes_on : NoneGrows requests → AppendsGoOn udf capacity volume (held before) S requests group turn
 
 -- Messages were answered one after another on an honest drive where a state is recovered, and no answer tells of a failing drive.
 -- The requests that were committed are a group; the state after them is recovered, and the next messages may be answered from there.
@@ -53,8 +49,3 @@ GroupSurvivesPowerLoss =
     → (all : AllAnswered messages before answers afterwards) → NoneFailed answers
     → (requests : List Request) × (group : List Commit) × AreGathered messages S before answers afterwards all requests group
     × HoldsState volume (after S requests) afterwards × GroupEndures before.capacity volume S before.journal requests group afterwards.journal
-
--- A group of one commit has the first mark or none, so nothing has to be known of an append that is a group alone.
-abbrev pub OneMark : Type 0
-OneMark =
-    (there : ℕ → Bool) (commit : Commit) (left : List Block) → HasMarks there (commit ∷ []) left → (n : ℕ) × (n ≤ 1) × HasMarks (first_there n) (commit ∷ []) left

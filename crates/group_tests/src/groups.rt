@@ -1,7 +1,7 @@
 //! The answers of groups and what a disk is given of them, beside the same messages one by one.
 
 use drive::{Block, Drive, MemDrive, Scheduled};
-use engine::{CountedReader, Engine, serve};
+use engine::{CountedReader, Engine, PIECE_BYTES, serve};
 use grouping::serve_groups;
 use limits::LEAST_CAPACITY;
 use settling::{GatheringDrive, Settles};
@@ -83,6 +83,7 @@ fn grouped(alloc: Global, frames: &[u8], schedule: &[Scheduled]) -> Result<Optio
     if serve_groups(
         alloc,
         &mut reader,
+        PIECE_BYTES,
         &mut answers,
         &mut Engine::new(),
         &mut drive,
@@ -172,7 +173,7 @@ fn a_call_that_fails_changes_no_answer(rt: HostRuntime) -> Result<(), Fail> {
 }
 
 #[test]
-fn a_request_to_add_bytes_to_a_file_is_a_group_alone(rt: HostRuntime) -> Result<(), Fail> {
+fn a_request_to_add_bytes_to_a_file_is_in_a_group_with_others(rt: HostRuntime) -> Result<(), Fail> {
     let mut frames = Vec::new(rt.alloc());
     put_request(rt.alloc(), MAKE_DIR, 1, "d", &[], &mut frames)?;
     let more = [0, 0, 0x10, 0, 0, 0, 0, 0, 1, 0, 0, 0, b'x'];
@@ -180,13 +181,8 @@ fn a_request_to_add_bytes_to_a_file_is_a_group_alone(rt: HostRuntime) -> Result<
     put_request(rt.alloc(), MAKE_DIR, 3, "e", &[], &mut frames)?;
     put_request(rt.alloc(), MAKE_DIR, 4, "g", &[], &mut frames)?;
     let outcome = grouped_well(rt.alloc(), &frames)?;
-    let marks: [usize; 3] = [1, 1, 2];
-    assert!(rt; outcome.drive.phases().len() == 6);
-    for (index, count) in marks.iter().enumerate() {
-        assert!(rt;
-            outcome.drive.phases()[2 * index + 1].blocks().len() == *count,
-            "{index}"
-        );
-    }
+    assert!(rt; outcome.drive.phases().len() == 2);
+    let marks = outcome.drive.phases()[1].blocks().len();
+    assert!(rt; marks == 4, "{marks}");
     Ok(())
 }

@@ -1,5 +1,5 @@
 -- A group so far, and then a message more.
-use Rattle.std.proofs.Common.{◌≡◌, ◌⊎◌, inl, inr, Bool, true, false, ℕ, List, [], ◌∷◌, ◌++◌, length, Option, refl, sym, ap, subst, ◌∙◌, append_assoc, arith}
+use Rattle.std.proofs.Common.{◌≡◌, ℕ, List, [], ◌∷◌, ◌++◌, length, Option, refl, sym, ap, subst, ◌∙◌, append_assoc, arith}
 use Rattle.std.specs.Io.KnownBytes.{Appends, Keeps}
 use Rattle.std.proofs.lemmas.List.{append-nil}
 use Rattle.std.proofs.lemmas.Grind.{flat_map-append}
@@ -14,8 +14,7 @@ use Rattle.engine.specs.Served.{AllAnswered, frames_of}
 use Rattle.engine.specs.Streams.{PutsPrefix}
 use Rattle.engine.proofs.Messages.{appends_more, front_more, kept_none, no_front, nothing_more, taken_more}
 use Rattle.group_losses.specs.Gathered.{NoneFailed}
-use Rattle.grouping.specs.Groups.{grows, mark_of, marks_of, Gathered, CarriedOut, CarriedOutSome, NoneAsksToGrow}
-use Rattle.grouping.specs.Steps.{Going, some_of}
+use Rattle.grouping.specs.Groups.{mark_of, marks_of, Gathered, CarriedOut, CarriedOutSome}
 
 -- one message more was answered
 abbrev pub answered_one : (messages : List Message) (answers : List Answer) (s t u : Situation) (m : Message) (a : Answer)
@@ -42,51 +41,20 @@ none_more : (answers : List Answer) (a : Answer) → NoneFailed answers → faul
 none_more [] a h none = (none, tt)
 none_more (b ∷ answers) a h none = (h.0, none_more answers a h.1 none)
 
--- ---- none of them asks for a file to grow, or it is alone
-
-quiet_more : (messages : List Message) (m : Message) → NoneAsksToGrow messages → grows m ≡ false → NoneAsksToGrow (messages ++ m ∷ [])
-quiet_more [] m h k = (k, tt)
-quiet_more (n ∷ messages) m h k = (h.0, quiet_more messages m h.1 k)
-
-begun_more : (messages : List Message) (m : Message) → true ≡ some_of (messages ++ m ∷ [])
-begun_more [] m = refl
-begun_more (n ∷ messages) m = refl
-
 not_none : (messages : List Message) (m : Message) → messages ++ m ∷ [] ≡ [] → ⊥
 not_none [] m e = let bad : length (m ∷ []) ≡ 0 = ap length e in omega (arith, bad)
 not_none (n ∷ messages) m e = let bad : length (n ∷ messages ++ m ∷ []) ≡ 0 = ap length e in omega (arith, bad)
 
-none_of : (messages : List Message) → false ≡ some_of messages → messages ≡ []
-none_of [] h = refl
-none_of (m ∷ messages) h = let bad : ◌≡◌ {A = Bool} false true = h in absurd (cc)
-
-pub some_there : (messages : List Message) → true ≡ some_of messages → messages ≡ [] → ⊥
-some_there [] h e = let bad : ◌≡◌ {A = Bool} true false = h in absurd (cc)
-some_there (m ∷ messages) h e = let bad : length (m ∷ messages) ≡ 0 = ap length e in omega (arith, bad)
-
--- the last message may ask for it where it is the first one
-one_alone : (messages : List Message) (m : Message) (alone begun : Bool) → NoneAsksToGrow messages → begun ≡ some_of messages → alone ≡ grows m → (alone ≡ true → begun ≡ false)
-    → NoneAsksToGrow (messages ++ m ∷ []) ⊎ (length (messages ++ m ∷ []) ≡ 1)
-one_alone messages m false begun quiet is a first = inl (quiet_more messages m quiet (sym a))
-one_alone messages m true begun quiet is a first = inr (ap (λ (l : List Message). length (l ++ m ∷ [])) (none_of messages (sym (first refl) ∙ is)))
-
 -- no message came yet
-pub going_none : (reader : Option (List ℕ)) (s : Situation) (o : Option (List ℕ)) (marks : List ℕ) → marks ≡ [] → Going reader reader s s o o marks false
-going_none reader s o marks none = record {
-  gathering = record { told = record { messages = []; answers = []; taken = refl; answered = refl; told = nothing_more o }; none_failed = tt; marks_are = none };
-  quiet = tt;
-  begun_is = refl;
-}
+pub going_none : (reader : Option (List ℕ)) (s : Situation) (o : Option (List ℕ)) (marks : List ℕ) → marks ≡ [] → CarriedOut reader reader s s o o marks
+going_none reader s o marks none = record { told = record { messages = []; answers = []; taken = refl; answered = refl; told = nothing_more o }; none_failed = tt; marks_are = none }
 
-module _ (reader between after : Option (List ℕ)) (s t u : Situation) (o v w : Option (List ℕ)) (marks more : List ℕ) (m : Message) (a : Answer) (begun : Bool) (g : Going reader between s t o v marks begun) where
-  abbrev h : CarriedOut reader between s t o v marks
-  h = g.gathering
-
+module _ (reader between after : Option (List ℕ)) (s t u : Situation) (o v w : Option (List ℕ)) (marks more : List ℕ) (m : Message) (a : Answer) (h : CarriedOut reader between s t o v marks) where
   unfoldable marks_now : (answered : IsAnswered m t a u) → more ≡ marks ++ mark_of t u → more ≡ marks_of (h.told.messages ++ m ∷ []) s (h.told.answers ++ a ∷ []) u (answered_one h.told.messages h.told.answers s t u m a h.told.answered answered)
   marks_now answered is = is ∙ ap (λ (l : List ℕ). l ++ mark_of t u) h.marks_are ∙ sym (marks_one h.told.messages h.told.answers s t u m a h.told.answered answered)
 
   -- one message more was answered, and its answer's frame was written
-  gathering_more : TakesMessage between m after → IsAnswered m t a u → faults a ≡ 0 → Appends v w (answer_frame a) → more ≡ marks ++ mark_of t u → CarriedOut reader after s u o w more
+  pub gathering_more : TakesMessage between m after → IsAnswered m t a u → faults a ≡ 0 → Appends v w (answer_frame a) → more ≡ marks ++ mark_of t u → CarriedOut reader after s u o w more
   gathering_more takes answered none told is = record {
     told = record {
       messages = h.told.messages ++ m ∷ [];
@@ -99,22 +67,17 @@ module _ (reader between after : Option (List ℕ)) (s t u : Situation) (o v w :
     marks_are = marks_now answered is;
   }
 
-  pub going_more : TakesMessage between m after → IsAnswered m t a u → faults a ≡ 0 → Appends v w (answer_frame a) → more ≡ marks ++ mark_of t u → grows m ≡ false → Going reader after s u o w more true
-  unfolding gathering_more
-  going_more takes answered none told is calm = record { gathering = gathering_more takes answered none told is; quiet = quiet_more h.told.messages m g.quiet calm; begun_is = begun_more h.told.messages m }
-
   -- the same where the group ends
-  pub gathered_more : TakesMessage between m after → IsAnswered m t a u → faults a ≡ 0 → Appends v w (answer_frame a) → more ≡ marks ++ mark_of t u → (alone : Bool) → alone ≡ grows m → (alone ≡ true → begun ≡ false) → Gathered reader after s u o w more
+  pub gathered_more : TakesMessage between m after → IsAnswered m t a u → faults a ≡ 0 → Appends v w (answer_frame a) → more ≡ marks ++ mark_of t u → Gathered reader after s u o w more
   unfolding gathering_more
-  gathered_more takes answered none told is alone a-is first = record {
+  gathered_more takes answered none told is = record {
     gathering = gathering_more takes answered none told is;
     some = λ e. absurd (not_none h.told.messages m e);
-    alone = one_alone h.told.messages m alone begun g.quiet g.begun_is a-is first;
   }
 
   -- the same where there was no memory for the frame
-  pub gathering_some : TakesMessage between m after → IsAnswered m t a u → faults a ≡ 0 → Keeps v w → more ≡ marks ++ mark_of t u → (alone : Bool) → alone ≡ grows m → (alone ≡ true → begun ≡ false) → CarriedOutSome reader after s u o w more
-  gathering_some takes answered none kept is alone a-is first = record {
+  pub gathering_some : TakesMessage between m after → IsAnswered m t a u → faults a ≡ 0 → Keeps v w → more ≡ marks ++ mark_of t u → CarriedOutSome reader after s u o w more
+  gathering_some takes answered none kept is = record {
     told = record {
       messages = h.told.messages ++ m ∷ [];
       answers = h.told.answers ++ a ∷ [];
@@ -125,5 +88,4 @@ module _ (reader between after : Option (List ℕ)) (s t u : Situation) (o v w :
     };
     none_failed = none_more h.told.answers a h.none_failed none;
     marks_are = marks_now answered is;
-    alone = one_alone h.told.messages m alone begun g.quiet g.begun_is a-is first;
   }

@@ -1,5 +1,5 @@
 -- A group that goes on, message by message.
-use Rattle.std.proofs.Common.{◌≡◌, ℕ, ◌-◌, ◌<◌, ◌≤◌, List, [], ◌∷◌, ◌++◌, length, Option, Result, Ok, Err, Bool, true, false, ◌&&◌, refl, sym, ap, subst, ◌∙◌, append_assoc, append-nil, lt-ltb, le-ltb}
+use Rattle.std.proofs.Common.{◌≡◌, ℕ, ◌-◌, ◌<◌, ◌≤◌, List, [], ◌∷◌, ◌++◌, length, Option, Result, Ok, Err, Bool, true, false, refl, sym, ap, subst, ◌∙◌, append_assoc, append-nil, lt-ltb, le-ltb}
 use Rattle.std.specs.Prelude.{OnOk, OnErr, is_err}
 use Rattle.drive.specs.Journal.{Event, Once, next_of}
 use Rattle.drive.specs.declared.Drive.{Ghosts}
@@ -14,9 +14,8 @@ use Rattle.request.specs.declared.message.Message.{Message}
 use Rattle.request.specs.Answers.{answer_frame}
 use Rattle.request.specs.Frames.{TakesMessage}
 use Rattle.std.specs.Io.KnownBytes.{Appends, Keeps}
-use Rattle.grouping.specs.Groups.{grows, Gathered, CarriedOutSome, mark_between, mark_of}
-use Rattle.grouping.specs.Steps.{Going}
-use Rattle.grouping.proofs.Answers.{gathered_more, gathering_some, going_more}
+use Rattle.grouping.specs.Groups.{Gathered, CarriedOut, CarriedOutSome, mark_between, mark_of}
+use Rattle.grouping.proofs.Answers.{gathered_more, gathering_more, gathering_some}
 use Rattle.grouping.proofs.Settled.{gathered_same, gathering_some_same, going_same, same_shown}
 
 -- nothing came yet
@@ -66,7 +65,7 @@ some_mark before after lt = rw (lt-ltb before after lt) refl
 pub untouched_none : {D : Type 0} (drive : Ghosts D) (d : D) → IsUntouched drive d d
 untouched_none drive d = record { journal = refl; failures = refl; rest = record { writes = refl; capacity = refl; misreads = refl; honest = refl } }
 
-module _ {D : Type 0} (drive : Ghosts D) (reader between after : Option (List ℕ)) (s t : Situation) (store : Option Store) (d e : D) (o v w : Option (List ℕ)) (marks more : List ℕ) (m : Message) (a : Answer) (before : ℕ) (begun : Bool) (h : Going reader between s t o v marks begun) where
+module _ {D : Type 0} (drive : Ghosts D) (reader between after : Option (List ℕ)) (s t : Situation) (store : Option Store) (d e : D) (o v w : Option (List ℕ)) (marks more : List ℕ) (m : Message) (a : Answer) (before : ℕ) (h : CarriedOut reader between s t o v marks) where
   -- What became of a message more: it was taken and answered without a failure of the drive, and its mark was told to the drive.
   pub record OneMore : Type 0 where
     pub takes : TakesMessage between m after
@@ -82,29 +81,19 @@ module _ {D : Type 0} (drive : Ghosts D) (reader between after : Option (List �
   marked_there one = one.marked ∙ ap (λ (l : List ℕ). marks ++ l) (mark_is t.journal (drive.journal d) before one.first one.second one.before_is)
 
   -- the group goes on
-  pub goes_on : OneMore → Appends v w (answer_frame a) → grows m ≡ false → Going reader after s (situation_on drive store e) o w more true
-  goes_on one told calm =
-      going_same reader after s s (situation_on drive store d) (situation_on drive store e) o w more true refl (untouched_shows drive store d e one.untouched)
-      (going_more reader between after s t (situation_on drive store d) o v w marks more m a begun h one.takes one.answered one.none told (marked_there one) calm)
+  pub goes_on : OneMore → Appends v w (answer_frame a) → CarriedOut reader after s (situation_on drive store e) o w more
+  goes_on one told =
+      going_same reader after s s (situation_on drive store d) (situation_on drive store e) o w more refl (untouched_shows drive store d e one.untouched)
+      (gathering_more reader between after s t (situation_on drive store d) o v w marks more m a h one.takes one.answered one.none told (marked_there one))
 
   -- or ends
-  pub goes_full : OneMore → Appends v w (answer_frame a) → (alone : Bool) → alone ≡ grows m → (alone ≡ true → begun ≡ false) → Gathered reader after s (situation_on drive store e) o w more
-  goes_full one told alone is first =
+  pub goes_full : OneMore → Appends v w (answer_frame a) → Gathered reader after s (situation_on drive store e) o w more
+  goes_full one told =
       gathered_same reader after s s (situation_on drive store d) (situation_on drive store e) o w more refl (untouched_shows drive store d e one.untouched)
-      (gathered_more reader between after s t (situation_on drive store d) o v w marks more m a begun h one.takes one.answered one.none told (marked_there one) alone is first)
+      (gathered_more reader between after s t (situation_on drive store d) o v w marks more m a h one.takes one.answered one.none told (marked_there one))
 
   -- or ends where there was no memory for the answer's frame
-  pub goes_some : OneMore → Keeps v w → (alone : Bool) → alone ≡ grows m → (alone ≡ true → begun ≡ false) → CarriedOutSome reader after s (situation_on drive store e) o w more
-  goes_some one kept alone is first =
+  pub goes_some : OneMore → Keeps v w → CarriedOutSome reader after s (situation_on drive store e) o w more
+  goes_some one kept =
       gathering_some_same reader after s s (situation_on drive store d) (situation_on drive store e) o w more refl (untouched_shows drive store d e one.untouched)
-      (gathering_some reader between after s t (situation_on drive store d) o v w marks more m a begun h one.takes one.answered one.none kept (marked_there one) alone is first)
-
--- where two tests do not both hold, the second fails where the first holds
-pub not_both : (a b : Bool) → a && b ≡ false → a ≡ true → b ≡ false
-not_both true b h e = h
-not_both false b h e = let bad : ◌≡◌ {A = Bool} false true = e in absurd (cc)
-
--- where both hold, so does the second
-pub both_are : (a b : Bool) → a && b ≡ true → b ≡ true
-both_are true b h = h
-both_are false b h = let bad : ◌≡◌ {A = Bool} false true = h in absurd (cc)
+      (gathering_some reader between after s t (situation_on drive store d) o v w marks more m a h one.takes one.answered one.none kept (marked_there one))

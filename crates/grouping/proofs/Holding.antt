@@ -31,7 +31,6 @@ module _ (reader after : Option (List ℕ)) (before : Situation) (begun : Gather
         starts = refl;
         answered = h.gathering.told.answered;
         none_failed = h.gathering.none_failed;
-        alone = h.alone;
         settled = subst (λ (l : List ℕ). IsSettled l before afterwards begun ended) h.gathering.marks_are settled;
       });
       taken = h.gathering.told.taken;
@@ -65,7 +64,6 @@ module _ (reader after : Option (List ℕ)) (before : Situation) (begun : Gather
         starts = refl;
         answered = h.told.answered;
         none_failed = h.none_failed;
-        alone = h.alone;
         settled = subst (λ (l : List ℕ). IsSettled l before afterwards begun ended) h.marks_are settled;
       });
       taken = h.told.taken;

@@ -148,8 +148,8 @@ pub serving_stops : (reader : Option (List ℕ)) (s : Situation) (sg : Gathering
 serving_stops reader s sg t tg i l o v h idle = kept faults.Memory reader s sg t tg i l l o v h (kept_self l) (inr (inr (idle, h.told)))
 
 -- the stream is at its end
-pub serving_ends : (reader : Option (List ℕ)) (s : Situation) (sg : Gathering) (t : Situation) (tg : Gathering) (i l n o v : Option (List ℕ)) (piece : List ℕ)
-    → Serving reader s sg t tg i l o v → IsIdle reader → TakesPiece l n piece → piece ≡ [] → ServesGroups s sg t tg i n o v
+pub serving_ends : {most : ℕ} (reader : Option (List ℕ)) (s : Situation) (sg : Gathering) (t : Situation) (tg : Gathering) (i l n o v : Option (List ℕ)) (piece : List ℕ)
+    → Serving reader s sg t tg i l o v → IsIdle reader → TakesPiece l n piece → piece ≡ [] → ServesGroups most s sg t tg i n o v
 serving_ends reader s sg t tg i l n o v piece h idle takes none = record {
   reader = reader;
   serving = record {
@@ -169,11 +169,11 @@ serving_ends reader s sg t tg i l n o v piece h idle takes none = record {
 }
 
 -- a frame was too long in the piece that was read last
-pub serving_over : (reader between after : Option (List ℕ)) (s : Situation) (sg : Gathering) (t : Situation) (tg : Gathering) (u : Situation) (ug : Gathering) (i l n o v w : Option (List ℕ)) (piece : List ℕ)
-    → Serving reader s sg t tg i l o v → IsIdle reader → (waiting : List ℕ) × (reader ≡ Some waiting) → TakesPiece l n piece → length piece ≤ 65536 → between ≡ fed reader piece → Grouping between after t tg u ug v w
-    → IsIdle after → after ≡ None → ServesGroups s sg u ug i n o w
+pub serving_over : {most : ℕ} (reader between after : Option (List ℕ)) (s : Situation) (sg : Gathering) (t : Situation) (tg : Gathering) (u : Situation) (ug : Gathering) (i l n o v w : Option (List ℕ)) (piece : List ℕ)
+    → Serving reader s sg t tg i l o v → IsIdle reader → (waiting : List ℕ) × (reader ≡ Some waiting) → TakesPiece l n piece → length piece ≤ most → between ≡ fed reader piece → Grouping between after t tg u ug v w
+    → IsIdle after → after ≡ None → ServesGroups most s sg u ug i n o w
 unfolding serving_more
-serving_over reader between after s sg t tg u ug i l n o v w piece h idle goes takes short e more at_last none =
+serving_over {most} reader between after s sg t tg u ug i l n o v w piece h idle goes takes short e more at_last none =
     let all : Serving after s sg u ug i n o w = serving_more reader between after s sg t tg u ug i l n o v w piece h takes e more in
     record {
       reader = after;

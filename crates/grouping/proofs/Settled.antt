@@ -14,8 +14,7 @@ use Rattle.store.specs.declared.store.Store.{Store}
 use Rattle.engine.specs.declared.serving.ServeFault.TheVariants.{Memory}
 use Rattle.engine.specs.Situation.{Situation, AddsBlocks, situation_on}
 use Rattle.engine.specs.Served.{Answering, AnswersSome}
-use Rattle.grouping.specs.Groups.{Gathered, CarriedOutSome, IsAlone, IsSettled, IsTakenBack, MaySettle}
-use Rattle.grouping.specs.Steps.{Going}
+use Rattle.grouping.specs.Groups.{Gathered, CarriedOut, CarriedOutSome, IsAlone, IsSettled, IsTakenBack, MaySettle}
 use Rattle.grouping.proofs.Back.{front_back}
 
 -- what a drive shows is the same where each part of it is
@@ -152,8 +151,8 @@ is_alone_here drive store a e f from once is rest ends later = record {
 }
 
 -- answers between situations that are the same
-pub going_same : (reader after : Option (List ℕ)) (s s' t t' : Situation) (o w : Option (List ℕ)) (marks : List ℕ) (begun : Bool) → s ≡ s' → t ≡ t' → Going reader after s t o w marks begun → Going reader after s' t' o w marks begun
-going_same reader after s s' t t' o w marks begun p q h = subst (λ (x : Situation). Going reader after x t' o w marks begun) p (subst (λ (x : Situation). Going reader after s x o w marks begun) q h)
+pub going_same : (reader after : Option (List ℕ)) (s s' t t' : Situation) (o w : Option (List ℕ)) (marks : List ℕ) → s ≡ s' → t ≡ t' → CarriedOut reader after s t o w marks → CarriedOut reader after s' t' o w marks
+going_same reader after s s' t t' o w marks p q h = subst (λ (x : Situation). CarriedOut reader after x t' o w marks) p (subst (λ (x : Situation). CarriedOut reader after s x o w marks) q h)
 
 pub gathered_same : (reader after : Option (List ℕ)) (s s' t t' : Situation) (o w : Option (List ℕ)) (marks : List ℕ) → s ≡ s' → t ≡ t' → Gathered reader after s t o w marks → Gathered reader after s' t' o w marks
 gathered_same reader after s s' t t' o w marks p q h = subst (λ (x : Situation). Gathered reader after x t' o w marks) p (subst (λ (x : Situation). Gathered reader after s x o w marks) q h)

@@ -103,7 +103,6 @@ one_told reader after before begun afterwards ended held made none (inl (marks, 
     starts = refl;
     answered = h.gathering.told.answered;
     none_failed = h.gathering.none_failed;
-    alone = h.alone;
     settled = subst (λ (l : List ℕ). IsSettled l before afterwards begun ended) h.gathering.marks_are settled;
   });
   taken = h.gathering.told.taken;
@@ -130,7 +129,6 @@ one_untold reader after before begun afterwards ended held made none (inl (marks
     starts = refl;
     answered = h.told.answered;
     none_failed = h.none_failed;
-    alone = h.alone;
     settled = subst (λ (l : List ℕ). IsSettled l before afterwards begun ended) h.marks_are settled;
   });
   taken = h.told.taken;

@@ -4,20 +4,14 @@ use Rattle.drive.specs.Journal.{Event, written}
 use Rattle.drive.specs.Gathering.{Gathering}
 use Rattle.model.specs.Session.{State, Request, after, after_one}
 use Rattle.gathering.specs.Groups.{Commit, with_marks, none_there}
-use Rattle.group_losses.specs.Gathered.{AreGathered, Grows, NoneGrows}
 use Rattle.group_losses.proofs.Enduring.{group_survives}
 use Rattle.request.specs.declared.answer.Answer.{Answer}
 use Rattle.request.specs.declared.message.Message.{Message}
-use Rattle.request.specs.declared.message.Message.TheVariants as message
-use Rattle.request.specs.declared.message.Op.{Op}
-use Rattle.request.specs.declared.message.Op.TheVariants as op
-use Rattle.lookup.specs.Asked.{model_operation}
 use Rattle.engine.specs.Served.{AllAnswered, EachWithstands}
 use Rattle.engine.specs.Situation.{Situation}
 use Rattle.engine.specs.Steps.{HoldsState}
-use Rattle.engine.specs.Withstanding.{AsksFor}
 use Rattle.engine.proofs.Served.{answered_honest, served_withstand}
-use Rattle.grouping.specs.Groups.{NoneAsksToGrow, StartsAt, grows, grows_by}
+use Rattle.grouping.specs.Groups.{StartsAt}
 use Rattle.grouping.specs.Phases.{marks_from}
 use Rattle.grouping.specs.Served.{Group, IsSettledGroup, IsLoneGroup, AreGroups, GroupHolds, GroupsWithstand}
 use Rattle.grouping.proofs.Back.{taking_back}
@@ -30,44 +24,6 @@ withstood volume [] S before [] afterwards all T at each = subst (λ (R : State)
 withstood volume [] S before (a ∷ answers) afterwards all T at each = absurd all
 withstood volume (m ∷ messages) S before [] afterwards all T at each = absurd all
 withstood volume (m ∷ messages) S before (a ∷ answers) afterwards all T at each = withstood volume messages each.0 all.0 answers afterwards all.2 T each.1.at each.3
-
--- a request that adds bytes to a file that has some was asked for so
-grown : (m : Message) (request : Request) → AsksFor m request → grows m ≡ false → Grows request.operation → ⊥
-grown (message.Malformed cause) request asks calm more = absurd asks
-grown message.NoMemory request asks calm more = absurd asks
-grown (message.Query asked) request asks calm more = absurd asks
-grown (message.Request asked) request asks calm more = grown_op asked.op calm (subst (λ (r : Request). Grows r.operation) asks more)
-  where
-    grown_op : (o : Op) → grows_by o ≡ false → Grows (model_operation o) → ⊥
-    grown_op (op.Create path bytes) calm more = absurd more
-    grown_op (op.Replace path bytes) calm more = absurd more
-    grown_op (op.Append path offset bytes) calm more = let bad : ◌≡◌ {A = Bool} true false = sym (lt-ltb 0 offset more) ∙ calm in absurd (cc)
-    grown_op (op.MakeDir path) calm more = absurd more
-    grown_op (op.Rename from to) calm more = absurd more
-    grown_op (op.Remove path) calm more = absurd more
-
-calm_requests : (messages : List Message) (S : State) (before : Situation) (answers : List Answer) (afterwards : Situation) (all : AllAnswered messages before answers afterwards)
-    → (requests : List Request) (group : List Commit) → AreGathered messages S before answers afterwards all requests group → NoneAsksToGrow messages → NoneGrows requests
-calm_requests [] S before [] afterwards all requests group h calm = subst NoneGrows (sym h.0) tt
-calm_requests [] S before (a ∷ answers) afterwards all requests group h calm = absurd h
-calm_requests (m ∷ messages) S before [] afterwards all requests group h calm = absurd h
-calm_requests (m ∷ messages) S before (a ∷ answers) afterwards all requests group (inl (same, more)) calm = calm_requests messages S all.0 answers afterwards all.2 requests group more calm.1
-calm_requests (m ∷ messages) S before (a ∷ answers) afterwards all requests group (inr (request, commit, later, others, are, group_is, commits, rest)) calm =
-    subst NoneGrows (sym are) (grown m request commits.asks calm.0, calm_requests messages (after_one S request) all.0 answers afterwards all.2 later others rest calm.1)
-
-few_commits : (messages : List Message) (S : State) (before : Situation) (answers : List Answer) (afterwards : Situation) (all : AllAnswered messages before answers afterwards)
-    → (requests : List Request) (group : List Commit) → AreGathered messages S before answers afterwards all requests group → length group ≤ length messages
-few_commits [] S before [] afterwards all requests group h = omega (arith, ap length h.1)
-few_commits [] S before (a ∷ answers) afterwards all requests group h = absurd h
-few_commits (m ∷ messages) S before [] afterwards all requests group h = absurd h
-few_commits (m ∷ messages) S before (a ∷ answers) afterwards all requests group (inl (same, more)) = omega (arith, few_commits messages S all.0 answers afterwards all.2 requests group more)
-few_commits (m ∷ messages) S before (a ∷ answers) afterwards all requests group (inr (request, commit, later, others, are, group_is, commits, rest)) =
-    omega (arith, ap length group_is, few_commits messages (after_one S request) all.0 answers afterwards all.2 later others rest)
-
-none_or_one : (messages : List Message) (S : State) (before : Situation) (answers : List Answer) (afterwards : Situation) (all : AllAnswered messages before answers afterwards)
-    → (requests : List Request) (group : List Commit) → AreGathered messages S before answers afterwards all requests group → NoneAsksToGrow messages ⊎ (length messages ≡ 1) → NoneGrows requests ⊎ (length group ≤ 1)
-none_or_one messages S before answers afterwards all requests group h (inl calm) = inl (calm_requests messages S before answers afterwards all requests group h calm)
-none_or_one messages S before answers afterwards all requests group h (inr one) = inr (omega (arith, one, few_commits messages S before answers afterwards all requests group h))
 
 -- what is honest after groups was so before
 starts_honest : (before start : Situation) → StartsAt before start → IsTrue start.honest → IsTrue before.honest
@@ -90,7 +46,7 @@ settled_holds volume S before begun g settled honest at =
     let (requests, commits, are, ends, endures) = group_survives volume g.messages S g.start g.answers g.afterwards from honest settled.answered settled.none_failed in
     let given : g.gathering.phases ≡ begun.phases ++ written (length g.start.journal) (with_marks none_there commits) ∷ marks_from (length g.start.journal) commits ∷ [] =
     settled.settled.given ∙ ap (λ (two : List (List Event)). begun.phases ++ two) (phases_are_of_commits g.messages S g.start g.answers g.afterwards settled.answered requests commits are) in
-    (after S requests, (requests, commits, are, refl, endures, none_or_one g.messages S g.start g.answers g.afterwards settled.answered requests commits are settled.alone, given), ends)
+    (after S requests, (requests, commits, are, refl, endures, given), ends)
 
 lone_holds : (volume : ℕ) (S : State) (before : Situation) (begun : Gathering) (g : Group) (lone : IsLoneGroup before begun g) → IsTrue g.afterwards.honest → HoldsState volume S before
     → (T : State) × GroupHolds volume S before begun g (inr lone) T × HoldsState volume T g.afterwards

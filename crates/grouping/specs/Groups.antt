@@ -6,9 +6,6 @@ use Rattle.drive.specs.Reads.{CountsFailures}
 use Rattle.drive.specs.declared.Drive.{Ghosts}
 use Rattle.request.specs.declared.answer.Answer.{Answer}
 use Rattle.request.specs.declared.message.Message.{Message}
-use Rattle.request.specs.declared.message.Message.TheVariants as message
-use Rattle.request.specs.declared.message.Op.{Op}
-use Rattle.request.specs.declared.message.Op.TheVariants as op
 use Rattle.request.specs.Frames.{IsIdle}
 use Rattle.model.specs.Session.{State}
 use Rattle.settling.specs.Calls.{GivesFront}
@@ -76,44 +73,22 @@ pub record IsAlone (before start : Situation) (begun ended : Gathering) : Type 0
   pub given : GivesFront (two_phases (length before.journal) marks (before.journal ++ tried)) begun.phases ended.phases
   pub gathers : ended.gathers ≡ false
 
--- the message asks for bytes to be added to a file that has some
-abbrev pub grows_by : Op → Bool
-grows_by (op.Create path bytes) = false
-grows_by (op.Replace path bytes) = false
-grows_by (op.Append path offset bytes) = nat_lt 0 offset
-grows_by (op.MakeDir path) = false
-grows_by (op.Rename from to) = false
-grows_by (op.Remove path) = false
-
-abbrev pub grows : Message → Bool
-grows (message.Malformed cause) = false
-grows message.NoMemory = false
-grows (message.Query asked) = false
-grows (message.Request asked) = grows_by asked.op
-
--- none of these does
-abbrev pub NoneAsksToGrow : List Message → Type 0
-NoneAsksToGrow [] = Unit {0}
-NoneAsksToGrow (m ∷ messages) = (grows m ≡ false) × NoneAsksToGrow messages
-
 -- Messages were answered as a group, each answer's frame was written, no answer tells of a failing drive, and these are the marks.
 pub record CarriedOut (reader after : Option (List ℕ)) (before afterwards : Situation) (output written : Option (List ℕ)) (marks : List ℕ) : Type 0 where
   pub told : Answering reader after before afterwards output written
   pub none_failed : NoneFailed told.answers
   pub marks_are : marks ≡ marks_of told.messages before told.answers afterwards told.answered
 
--- The group ends there: it has a message, or none was complete. A message that asks for a file to grow is a group alone.
+-- The group ends there: it has a message, or none was complete.
 pub record Gathered (reader after : Option (List ℕ)) (before afterwards : Situation) (output written : Option (List ℕ)) (marks : List ℕ) : Type 0 where
   pub gathering : CarriedOut reader after before afterwards output written marks
   pub some : gathering.told.messages ≡ [] → IsIdle after
-  pub alone : NoneAsksToGrow gathering.told.messages ⊎ (length gathering.told.messages ≡ 1)
 
 -- The same, but there was no memory for the last answer's frame.
 pub record CarriedOutSome (reader after : Option (List ℕ)) (before afterwards : Situation) (output written : Option (List ℕ)) (marks : List ℕ) : Type 0 where
   pub told : AnswersSome Memory reader after before afterwards output written
   pub none_failed : NoneFailed told.answers
   pub marks_are : marks ≡ marks_of told.messages before told.answers afterwards told.answered
-  pub alone : NoneAsksToGrow told.messages ⊎ (length told.messages ≡ 1)
 
 -- The messages of a group have their answers. Either the disk has the group, or they were answered one by one, each write synced before it returned, until none was complete.
 abbrev pub GroupTold : Option (List ℕ) → Option (List ℕ) → Situation → Gathering → Situation → Gathering → Option (List ℕ) → Option (List ℕ) → Type 0

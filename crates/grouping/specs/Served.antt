@@ -1,12 +1,12 @@
 -- Groups of messages, one after another: how each was answered, and what they leave.
 use Rattle.std.proofs.Common.{inl, inr}
-use Rattle.std.specs.Prelude.{◌≡◌, ◌⊎◌, ℕ, ◌≤◌, List, [], ◌∷◌, ◌++◌, length, Bool, Option, IsTrue}
+use Rattle.std.specs.Prelude.{◌≡◌, ◌⊎◌, ℕ, List, [], ◌∷◌, ◌++◌, length, Bool, Option, IsTrue}
 use Rattle.std.specs.List.{flat_map}
 use Rattle.drive.specs.Gathering.{Gathering}
 use Rattle.drive.specs.Journal.{Event, written}
 use Rattle.model.specs.Session.{State, Request, after}
 use Rattle.gathering.specs.Groups.{Commit, with_marks, none_there}
-use Rattle.group_losses.specs.Gathered.{AreGathered, NoneFailed, NoneGrows}
+use Rattle.group_losses.specs.Gathered.{AreGathered, NoneFailed}
 use Rattle.group_losses.specs.Laws.{GroupEndures}
 use Rattle.request.specs.declared.answer.Answer.{Answer}
 use Rattle.request.specs.declared.message.Message.{Message}
@@ -19,7 +19,7 @@ use Rattle.engine.specs.Said.{model_answers}
 use Rattle.engine.specs.Served.{AllAnswered, EachWithstands, brought}
 use Rattle.engine.specs.Situation.{Situation}
 use Rattle.engine.specs.Steps.{HoldsState}
-use Rattle.grouping.specs.Groups.{IsAlone, IsSettled, NoneAsksToGrow, StartsAt, marks_of}
+use Rattle.grouping.specs.Groups.{IsAlone, IsSettled, StartsAt, marks_of}
 use Rattle.grouping.specs.Phases.{marks_from}
 
 -- Messages that were answered one after another, from a situation on.
@@ -41,7 +41,6 @@ pub record IsSettledGroup (before : Situation) (begun : Gathering) (g : Group) :
   pub starts : g.start ≡ before
   pub answered : AllAnswered g.messages g.start g.answers g.afterwards
   pub none_failed : NoneFailed g.answers
-  pub alone : NoneAsksToGrow g.messages ⊎ (length g.messages ≡ 1)
   pub settled : IsSettled (marks_of g.messages g.start g.answers g.afterwards answered) g.start g.afterwards begun g.gathering
 
 -- The messages were answered on a drive that does not gather: where they came, or where their group was taken back.
@@ -58,13 +57,12 @@ AreGroups (g ∷ groups) before begun afterwards ended = (IsSettledGroup before 
 -- ---- what a power loss leaves
 
 -- The requests of a settled group were committed. What the disk was given of it are two phases, and what a power loss leaves of these
--- is what it leaves of the group: none of its requests adds bytes to a file that has some, or it is one commit. Where messages were answered on a drive that does not gather, each of them withstands by itself.
+-- is what it leaves of the group. Where messages were answered on a drive that does not gather, each of them withstands by itself.
 abbrev pub GroupHolds : ℕ → State → (before : Situation) → (begun : Gathering) → (g : Group)
     → IsSettledGroup before begun g ⊎ IsLoneGroup before begun g → State → Type 0
 GroupHolds volume S before begun g (inl settled) T =
     (requests : List Request) × (commits : List Commit) × AreGathered g.messages S g.start g.answers g.afterwards settled.answered requests commits × (T ≡ after S requests)
     × GroupEndures g.start.capacity volume S g.start.journal requests commits g.afterwards.journal
-    × (NoneGrows requests ⊎ (length commits ≤ 1))
     × (g.gathering.phases ≡ begun.phases ++ written (length g.start.journal) (with_marks none_there commits) ∷ marks_from (length g.start.journal) commits ∷ [])
 GroupHolds volume S before begun g (inr lone) T = HoldsState volume S g.start × EachWithstands volume g.messages S g.start g.answers g.afterwards lone.answered T
 

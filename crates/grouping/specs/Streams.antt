@@ -6,7 +6,7 @@ use Rattle.model.specs.Session.{after}
 use Rattle.request.specs.Frames.{IsIdle, MessagesAre}
 use Rattle.engine.specs.declared.serving.ServeFault.{ServeFault}
 use Rattle.engine.specs.declared.serving.ServeFault.TheVariants as faults
-use Rattle.engine.specs.Served.{AllTaken, AllTold, IsCutOff, LastUntold, Unlooked, frames_of}
+use Rattle.engine.specs.Served.{AllTaken, AllTold, IsCutOffWithin, LastUntold, Unlooked, frames_of}
 use Rattle.engine.specs.Situation.{Situation}
 use Rattle.engine.specs.Streams.{PutsPrefix}
 use Rattle.grouping.specs.Losses.{GroupsAreLives}
@@ -49,14 +49,15 @@ pub record ServingGroups (reader : Option (List ℕ)) (before : Situation) (begu
   pub told : Appends output written (frames_of (answers_of groups))
 
 -- All messages of the bytes that were read were answered in groups, and each answer's frame was written. The stream is at its end, or a frame was too long.
-pub record ServesGroups (before : Situation) (begun : Gathering) (afterwards : Situation) (ended : Gathering) (input left output written : Option (List ℕ)) : Type 0 where
+-- No more than so many bytes were read at once.
+pub record ServesGroups (most : ℕ) (before : Situation) (begun : Gathering) (afterwards : Situation) (ended : Gathering) (input left output written : Option (List ℕ)) : Type 0 where
   pub reader : Option (List ℕ)
   pub serving : ServingGroups reader before begun afterwards ended input left output written
   pub run : GroupsRun serving.groups before begun afterwards ended serving.are
   pub withstand : GroupsWithstand serving.groups before begun afterwards ended serving.are
   pub lives : GroupsAreLives serving.groups before begun afterwards ended serving.are
   pub idle : IsIdle reader
-  pub ends : IsAtEnd left ⊎ IsCutOff serving.bytes reader
+  pub ends : IsAtEnd left ⊎ IsCutOffWithin most serving.bytes reader
 
 -- Why a stream was left, as it is where messages are answered one by one.
 abbrev pub LeftByIn : ServeFault → List ℕ → List Group → Option (List ℕ) → Option (List ℕ) → Option (List ℕ) → Type 0

@@ -1,6 +1,6 @@
 //! Groups of messages.
 
-ghost use Rattle.std.specs.Prelude.{◌≡◌, ◌&&◌, ◌++◌, ℕ, List, Some, None, [], take, false, OnOk, OnErr};
+ghost use Rattle.std.specs.Prelude.{◌≡◌, ◌++◌, ℕ, List, Some, None, [], take, OnOk, OnErr};
 ghost use Rattle.drive.specs.Journal.{next_of};
 ghost use Rattle.drive.specs.Reads.{ReadsAndWrites, one_if};
 ghost use Rattle.request.specs.Answers.{answer_frame};
@@ -10,12 +10,12 @@ ghost use Rattle.engine.specs.declared.serving.ServeFault.TheVariants.{Memory};
 ghost use Rattle.engine.specs.Situation.{AddsBlocks, IsReady, seen_on, situation_on};
 ghost use Rattle.engine.specs.Answered.{faults};
 ghost use Rattle.engine.specs.Served.{Answering, AnswersSome};
-ghost use Rattle.grouping.specs.Groups.{GroupTold, GroupUntold, MaySettle, grows, mark_between};
+ghost use Rattle.grouping.specs.Groups.{GroupTold, GroupUntold, MaySettle, mark_between};
 ghost use Rattle.grouping.specs.Steps.{Gathers};
 
 use drive::Drive;
 use engine::{Engine, answer_held};
-use request::{Answer, Frames, Message, Op, encode_answer};
+use request::{Answer, Frames, encode_answer};
 use settling::Settles;
 use std::alloc::{AllocError, Global};
 
@@ -64,8 +64,7 @@ pub fn answer_group<D: Settles>(
 }
 
 /// Answers messages until the group is long enough, each on the medium that those before it left, and tells the drive
-/// where the commits end. A message that asks for a file to grow is a group alone. If this is `None`, the group has to be
-/// taken back.
+/// where the commits end. If this is `None`, the group has to be taken back.
 fn gather<D: Settles>(
     alloc: Global,
     frames: &mut Frames,
@@ -83,13 +82,7 @@ fn gather<D: Settles>(
     ensures lent { ReadsAndWrites D.Drive 0 drive.old drive.new }
 {
     let told = answers.len();
-    let mut is_begun = false;
     while let Some(message) = frames.first() {
-        let is_alone = asks_to_grow(&message);
-        if comes_later(is_alone, is_begun) {
-            return Some(Ok(()));
-        }
-        is_begun = true;
         let before = drive.count();
         let answer = engine.answer(alloc, drive, message);
         frames.skip();
@@ -102,38 +95,16 @@ fn gather<D: Settles>(
         if encode_answer(&answer, answers).is_err() {
             return Some(Err(AllocError));
         }
-        if is_full(is_alone, marks.len(), answers.len().saturating_sub(told)) {
+        if is_full(marks.len(), answers.len().saturating_sub(told)) {
             return Some(Ok(()));
         }
     }
     Some(Ok(()))
 }
 
-/// Whether a message does not come to the group so far.
-fn comes_later(is_alone: bool, is_begun: bool) -> bool
-    ensures { result ≡ (is_alone && is_begun) }
-{
-    is_alone && is_begun
-}
-
 /// Whether no further message comes to the group.
-fn is_full(is_alone: bool, commits: usize, bytes: usize) -> bool
-    ensures { result ≡ false → is_alone ≡ false }
-{
-    is_alone || commits >= GROUP_COMMITS || bytes >= GROUP_BYTES
-}
-
-/// Whether the message asks for bytes to be added to a file that has some.
-fn asks_to_grow(message: &Message<'_>) -> bool
-    ensures { result ≡ grows message.now }
-{
-    match message {
-        Message::Request(request) => match &request.op {
-            Op::Append { offset, .. } => *offset > 0,
-            _ => false,
-        },
-        _ => false,
-    }
+fn is_full(commits: usize, bytes: usize) -> bool {
+    commits >= GROUP_COMMITS || bytes >= GROUP_BYTES
 }
 
 /// Whether the drive failed.

@@ -1,6 +1,6 @@
 //! Messages of a stream, answered in groups.
 
-ghost use Rattle.std.specs.Prelude.{◌≡◌, true, false, OnOk, IfErr};
+ghost use Rattle.std.specs.Prelude.{◌≡◌, ◌<◌, ◌≤◌, true, false, OnOk, IfErr};
 ghost use Rattle.drive.specs.Journal.{counted};
 ghost use Rattle.request.specs.declared.message.Message.{Message};
 ghost use Rattle.request.specs.Frames.{IsFirstMessage, IsIdle};
@@ -10,7 +10,7 @@ ghost use Rattle.grouping.specs.Groups.{MaySettle};
 ghost use Rattle.grouping.specs.Streams.{Grouping, GroupingSome, ServesGroups, ServesGroupsUntil};
 
 use crate::group::answer_group;
-use engine::{CountedReader, Engine, ServeFault, put_all, read_on};
+use engine::{CountedReader, Engine, PIECE_BYTES, ServeFault, put_all, read_on};
 use request::Frames;
 use settling::Settles;
 use std::alloc::Global;
@@ -18,16 +18,19 @@ use std::io::{Read, Write};
 
 /// Answers the messages of a stream in turn, until it ends or a frame is too long. Those that are complete in what was
 /// read are answered in groups: the disk has all that a group wrote before any answer to it is written. The answers to
-/// what was read are written before more is read.
+/// what was read are written before more is read. At first little is read at once, and then as much as there is, but at
+/// most `most` bytes.
 pub fn serve_groups<R: Read, W: Write, D: Settles>(
     alloc: Global,
     reader: &mut CountedReader<R>,
+    most: usize,
     writer: &mut W,
     engine: &mut Engine,
     drive: &mut D,
 ) -> Result<(), ServeFault>
-    requires { IsReady (seen_on D.Drive engine.old drive.old) }
-    ensures ok { OnOk result (ServesGroups (seen_on D.Drive engine.old drive.old) (D.gathering drive.old) (seen_on D.Drive engine.new drive.new) (D.gathering drive.new)
+    requires ready { IsReady (seen_on D.Drive engine.old drive.old) }
+    requires some { 0 < most }
+    ensures ok { OnOk result (ServesGroups most (seen_on D.Drive engine.old drive.old) (D.gathering drive.old) (seen_on D.Drive engine.new drive.new) (D.gathering drive.new)
         (R.remaining reader.old.stream) (R.remaining reader.new.stream) (W.contents writer.old) (W.contents writer.new)) }
     // Otherwise the first of them were answered, and the fault shows how far that went.
     ensures left { IfErr result (λ fault. ServesGroupsUntil fault (seen_on D.Drive engine.old drive.old) (D.gathering drive.old) (seen_on D.Drive engine.new drive.new) (D.gathering drive.new)
@@ -39,17 +42,41 @@ pub fn serve_groups<R: Read, W: Write, D: Settles>(
 {
     let mut frames = Frames::new(alloc);
     let mut answers = Vec::new(alloc);
+    let mut room = first_room(most);
     for _ in 0..u64::MAX {
-        let count = read_on(reader, &mut frames)?;
+        let count = read_on(reader, &mut frames, room)?;
         if count == 0 {
             return Ok(());
         }
+        room = next_room(room, count, most);
         answer_groups(alloc, &mut frames, &mut answers, writer, engine, drive)?;
         if frames.is_over() {
             return Ok(());
         }
     }
     Err(ServeFault::Memory)
+}
+
+/// How many bytes are read at once at first.
+fn first_room(most: usize) -> usize
+    requires { 0 < most }
+    ensures some { 0 < result }
+    ensures fits { result ≤ most }
+{
+    most.min(PIECE_BYTES)
+}
+
+/// How many bytes are read at once after so many were read where there was this room: twice as many if they filled it.
+fn next_room(room: usize, count: usize, most: usize) -> usize
+    requires some { 0 < room }
+    requires fits { room ≤ most }
+    ensures some { 0 < result }
+    ensures fits { result ≤ most }
+{
+    if count < room {
+        return room;
+    }
+    room.saturating_mul(2).min(most)
 }
 
 /// Answers the messages that are complete, a group at a time.

@@ -14,15 +14,16 @@ use Rattle.icb.specs.Entry.{AreExtents, IsExtent, allocation, extent_count, exte
 use Rattle.icb.proofs.EntryLaws.{descriptor_first}
 use Rattle.model.specs.Graph.{Stored}
 use Rattle.model.specs.Graph.Body.{Bytes}
-use Rattle.durability.specs.Formats.{NodeFields}
+use Rattle.durability.specs.Formats.{NodeFields, NodePlace}
+use Rattle.durability.specs.Plan.{firsts_of}
 use Rattle.durability.specs.Volume.{AreWithin, IsWithin, Medium, bytes_in_blocks, bytes_in_extents, extent}
 use Rattle.udf.specs.Udf.{udf}
-use Rattle.udf.specs.Words.{icb_fields}
+use Rattle.udf.specs.Words.{icb_fields, icb_place}
 use Rattle.recover.specs.Blocks.{medium_bytes_at}
-use Rattle.lookup.specs.Ends.{EndsFile, KnowsExtents}
+use Rattle.lookup.specs.Ends.{EndsAsPlaced, EndsFile, KnowsExtents}
 use Rattle.lookup.specs.Extents.{AreFull, full_size}
 use Rattle.lookup.specs.declared.end.FileEnd.{FileEnd}
-use Rattle.lookup.proofs.FileBytes.{HasBytes, stored_extent_below, stored_extents}
+use Rattle.lookup.proofs.FileBytes.{HasBytes, extent_first, extents_firsts, stored_extent_below, stored_extents}
 
 -- ---- extents that are full
 
@@ -103,6 +104,28 @@ ends_filled M s whole d end size is extents long body stored = record {
   size = is ∙ long;
   within = λ filled. subst (λ (n : ℕ). AreWithin M n (udf.firsts end.extents)) (sym is) (subst (λ (xs : List ℕ). AreWithin M size (udf.firsts xs)) (sym extents) stored.0);
   bytes = λ filled. bytes_same whole (bytes_in_extents M size (udf.firsts d)) (sym body ∙ stored.1) ∙ (λ i. bytes_in_extents M (sym is i) (udf.firsts (sym extents i)));
+}
+
+-- where an entry says that bytes are which fill extents
+placed_firsts : (kind : Kind) (size : ℕ) (p : icb.Place) (place : NodePlace) → icb.FitsPlace kind size p → 0 < size → size % FILE_BYTES ≡ 0 → p ≡ icb_place place → udf.firsts (allocation size p) ≡ firsts_of udf place
+placed_firsts kind size icb.Place.Nowhere place fits some filled e = absurd (omega (arith, fits.1, some))
+placed_firsts kind size (icb.Place.Extent first) place fits some filled e = firsts_one size first (omega (arith, fits.2)) ∙ extent_first place first e
+placed_firsts kind size (icb.Place.Extents descriptors) place fits some filled e = extents_firsts place descriptors e
+placed_firsts kind size (icb.Place.Inside bytes) place fits some filled e = absurd (omega (arith, fits.1, fits.2, filled))
+
+pub placed_filled : (fields : NodeFields) (read : FileEntry) (end : FileEnd) → icb.fields_of read ≡ icb_fields fields → icb.FitsPlace read.kind read.size (icb.place_of read.place) → end.size ≡ read.size
+    → end.extents ≡ allocation read.size (icb.place_of read.place) → EndsAsPlaced fields end
+placed_filled fields read end same fits is extents = record {
+  size = is ∙ ap (λ (f : icb.Fields). f.size) same;
+  firsts = λ some filled.
+      ap udf.firsts extents
+      ∙ placed_firsts read.kind read.size (icb.place_of read.place) fields.place fits (omega (arith, is, some)) (subst (λ (n : ℕ). n % FILE_BYTES ≡ 0) is filled) (ap (λ (f : icb.Fields). f.place) same);
+}
+
+pub placed_unfilled : (fields : NodeFields) (read : FileEntry) (end : FileEnd) → icb.fields_of read ≡ icb_fields fields → end.size ≡ read.size → ((0 < read.size) × (read.size % FILE_BYTES ≡ 0) → ⊥) → EndsAsPlaced fields end
+placed_unfilled fields read end same is unfilled = record {
+  size = is ∙ ap (λ (f : icb.Fields). f.size) same;
+  firsts = λ some filled. absurd (unfilled (omega (arith, is, some), subst (λ (n : ℕ). n % FILE_BYTES ≡ 0) is filled));
 }
 
 pub knows_unfilled : (end : FileEnd) (size : ℕ) → end.size ≡ size → size ≤ GREATEST_FILE → ((0 < size) × (size % FILE_BYTES ≡ 0) → ⊥) → end.extents ≡ [] → KnowsExtents end

@@ -1,5 +1,5 @@
 -- The bytes of a file, by what its entry says of their place.
-use Rattle.std.proofs.Common.{◌≡◌, ℕ, ◌+◌, ◌≤◌, false, List, [], take, Option, refl, sym, ap, subst, ◌∙◌, arith}
+use Rattle.std.proofs.Common.{◌≡◌, ℕ, ◌+◌, ◌≤◌, false, List, [], ◌∷◌, take, Option, refl, sym, ap, subst, ◌∙◌, arith}
 use Rattle.std.specs.Int.{div_ceil}
 use Rattle.std.proofs.lemmas.Bool.{true≢false}
 use Rattle.limits.specs.declared.TheConstants.{BLOCK_BYTES, PARTITION_START}
@@ -13,6 +13,7 @@ use Rattle.model.specs.Graph.{Stored, Body, is_directory, content_in}
 use Rattle.model.specs.Graph.Body.{Bytes, Entries}
 use Rattle.durability.specs.Formats.{Block, NodePlace, NodeFields}
 use Rattle.durability.specs.Formats.NodePlace.{Nowhere, Extent, Extents, Inside}
+use Rattle.durability.specs.Plan.{firsts_of}
 use Rattle.durability.specs.Volume.{AreWithin, Medium, HoldsBody, HoldsFile, IsWithin, bytes_in_blocks, bytes_in_extents, extent}
 use Rattle.udf.specs.Udf.{udf}
 use Rattle.udf.specs.Words.{icb_fields, icb_place}
@@ -77,6 +78,21 @@ in_several medium size Nowhere bytes descriptors h e = cc
 in_several medium size (Inside inside) bytes descriptors h e = cc
 in_several medium size (Extent first) bytes descriptors h e = cc
 in_several medium size (Extents there) bytes descriptors h e = subst (λ (d : List ℕ). AreWithin medium size (udf.firsts d) × (bytes ≡ bytes_in_extents medium size (udf.firsts d))) (sym (ap descriptors_of e)) h
+
+-- where the extents of an entry begin
+pub extent_first : (place : NodePlace) (first : ℕ) → icb.Place.Extent first ≡ icb_place place → first ∷ [] ≡ firsts_of udf place
+unfolding first_of
+extent_first Nowhere first e = cc
+extent_first (Inside inside) first e = cc
+extent_first (Extents descriptors) first e = cc
+extent_first (Extent there) first e = ap (λ (n : ℕ). n ∷ []) (ap first_of e)
+
+pub extents_firsts : (place : NodePlace) (descriptors : List ℕ) → icb.Place.Extents descriptors ≡ icb_place place → udf.firsts descriptors ≡ firsts_of udf place
+unfolding descriptors_of
+extents_firsts Nowhere descriptors e = cc
+extents_firsts (Inside inside) descriptors e = cc
+extents_firsts (Extent first) descriptors e = cc
+extents_firsts (Extents there) descriptors e = ap udf.firsts (ap descriptors_of e)
 
 module _ (at : ℕ) (J : List Event) (s : Stored) (fields : NodeFields) (read : FileEntry) (h : HasBytes (take at (held J)) s fields) (same : icb.fields_of read ≡ icb_fields fields) where
   place_is : icb.place_of read.place ≡ icb_place fields.place

@@ -11,7 +11,7 @@ ghost use Rattle.recover.specs.Faults.{IsShortage, devices};
 ghost use Rattle.recover.specs.Walk.{last_of};
 ghost use Rattle.recover.specs.declared.fault.StoreFault.TheVariants.{Memory};
 ghost use Rattle.udf.specs.Udf.{udf};
-ghost use Rattle.lookup.specs.Ends.{EndsFile, KnowsExtents};
+ghost use Rattle.lookup.specs.Ends.{EndsAsStored, EndsFile, KnowsExtents};
 ghost use Rattle.lookup.specs.Lookups.{Looks, OfNode, below_seen};
 
 use crate::extents::FullExtents;
@@ -33,6 +33,7 @@ impl<D: Drive> Lookup<'_, '_, D> {
     /// ICB, this is damage at the entry, with the cause `RANGE`.
     pub fn file_end(&mut self, address: u32) -> Result<FileEnd, StoreFault>
         ensures read { Once (D.journal self.old.drive.now) → OfNode D.Drive self.old self.new address (λ s. is_directory s ≡ false → IfOk result (λ end. (whole : List ℕ) → s.body ≡ Bytes whole → EndsFile (below_seen D.Drive self.old) whole end)) }
+        ensures placed { IsTrue (D.honest self.new.drive.now) → IfOk result (EndsAsStored (below_seen D.Drive self.old) self.old.nodes.numbers.now address) }
         ensures short { OfNode D.Drive self.old self.new address (λ s. is_directory s ≡ false → IfErr result IsShortage) }
         ensures extents { IfOk result KnowsExtents }
         ensures looks { Looks D.Drive (devices result) self.old self.new }

@@ -133,18 +133,18 @@ takes_none path thing.Directory tree gone taken none = none
 -- the directory above with one entry more
 pub listed : (above : Path) (name : Name) (graph : Graph) (parent : Node) (here : IsNodeAt graph above parent) (placed : Placed) (content : Content) → MatchesStored here.found.stored placed content → (moment : ℕ) (entry : DirEntry) (d : NewDirectory)
     → d.address ≡ parent.address → d.unique ≡ parent.unique → d.moment ≡ moment → d.content.dir.parent ≡ content.dir.parent → d.content.dir.entries.entries ≡ content.dir.entries.entries ++ (name, entry) ∷ []
-    → directory_writing d ≡ record { address = here.found.address; kept = 0; stored = as_stored here.found.stored.identity moment (with_entries (λ entries. entries ++ said_entry (name, entry) ∷ []) here.found.stored.body) }
+    → directory_writing d ≡ record { address = here.found.address; kept = 0; firsts = []; stored = as_stored here.found.stored.identity moment (with_entries (λ entries. entries ++ said_entry (name, entry) ∷ []) here.found.stored.body) }
 listed above name graph parent here placed content shown moment entry d address unique when parent_is entries_are =
     let more : said_entries d.content.dir.entries.entries ≡ said_entries content.dir.entries.entries ++ said_entry (name, entry) ∷ [] =
     ap said_entries entries_are ∙ map-append said_entry content.dir.entries.entries ((name, entry) ∷ []) in
     let body : Entries d.content.dir.parent (said_entries d.content.dir.entries.entries) ≡ with_entries (λ entries. entries ++ said_entry (name, entry) ∷ []) here.found.stored.body =
     (λ i. Entries (parent_is i) (more i)) ∙ sym (ap (with_entries (λ entries. entries ++ said_entry (name, entry) ∷ [])) shown.body) in
-    λ i. record { address = (address ∙ here.address) i; kept = 0; stored = as_stored ((unique ∙ here.identity) i) (when i) (body i) }
+    λ i. record { address = (address ∙ here.address) i; kept = 0; firsts = []; stored = as_stored ((unique ∙ here.identity) i) (when i) (body i) }
 
 -- the node is put there
 pub adds : {medium : Medium} (graph : Graph) (free moment identity : ℕ) (path above : Path) (name : Name) (split : path ≡ above ++ name ∷ []) (what : NewContent) (tree : Tree) (parent : Node) (here : IsNodeAt graph above parent) (placed : Placed) (content : Content)
     → MatchesStored here.found.stored placed content → (before change : Change) (entry : DirEntry) (d : NewDirectory) → code_of (addition path what) tree ≡ 0 → change.code ≡ code.Done → change.made ≡ made_by (addition path what) free → change.removed ≡ None
-    → change_writings medium moment before ≡ record { address = free; kept = 0; stored = as_stored identity moment (new_body parent.address (content_of_thing what)) } ∷ [] → IfSome before.file (AreKeptOn medium) → change.file ≡ before.file → change.directories.items ≡ before.directories.items ++ d ∷ []
+    → change_writings medium moment before ≡ record { address = free; kept = 0; firsts = []; stored = as_stored identity moment (new_body parent.address (content_of_thing what)) } ∷ [] → IfSome before.file (AreKeptOn medium) → change.file ≡ before.file → change.directories.items ≡ before.directories.items ++ d ∷ []
     → d.address ≡ parent.address → d.unique ≡ parent.unique → d.moment ≡ moment → d.content.dir.parent ≡ content.dir.parent → d.content.dir.entries.entries ≡ content.dir.entries.entries ++ (name, entry) ∷ []
     → names_directory entry.kind ≡ has_names (content_of_thing what) → entry.virtual_address ≡ free → entry.unique ≡ identity → IsChangeOf medium graph free tree (addition path what) moment identity change
 adds {medium} graph free moment identity path above name split what tree parent here placed content shown before change entry d zero_code code_is made removed first keeps file items address unique when parent_is entries_are kind icb id =
@@ -153,12 +153,12 @@ adds {medium} graph free moment identity path above name split what tree parent 
     λ i. record { name = name; is_directory = kind i; address = icb i; identity = id i } in
     let gone : gone_of change ≡ [] = ap addresses_in removed in
     let dir = listed above name graph parent here placed content shown moment entry d address unique when parent_is entries_are in
-    let nodes : change_writings medium moment change ≡ record { address = free; kept = 0; stored = as_stored identity moment (new_body here.found.address (content_of_thing what)) }
-    ∷ record { address = here.found.address; kept = 0; stored = as_stored here.found.stored.identity moment (with_entries (λ entries. entries ++ record { name = name; is_directory = has_names (content_of_thing what); address = free; identity = identity } ∷ []) here.found.stored.body) } ∷ [] =
+    let nodes : change_writings medium moment change ≡ record { address = free; kept = 0; firsts = []; stored = as_stored identity moment (new_body here.found.address (content_of_thing what)) }
+    ∷ record { address = here.found.address; kept = 0; firsts = []; stored = as_stored here.found.stored.identity moment (with_entries (λ entries. entries ++ record { name = name; is_directory = has_names (content_of_thing what); address = free; identity = identity } ∷ []) here.found.stored.body) } ∷ [] =
     written_more medium moment before change d file items
     ∙ (ap (λ (ws : List Writing). ws ++ directory_writing d ∷ []) first
-    ∙ (λ i. record { address = free; kept = 0; stored = as_stored identity moment (new_body (here.address i) (content_of_thing what)) }
-    ∷ (dir ∙ ap (λ (e : Entry). record { address = here.found.address; kept = 0; stored = as_stored here.found.stored.identity moment (with_entries (λ entries. entries ++ e ∷ []) here.found.stored.body) }) said) i ∷ [])) in
+    ∙ (λ i. record { address = free; kept = 0; firsts = []; stored = as_stored identity moment (new_body (here.address i) (content_of_thing what)) }
+    ∷ (dir ∙ ap (λ (e : Entry). record { address = here.found.address; kept = 0; firsts = []; stored = as_stored here.found.stored.identity moment (with_entries (λ entries. entries ++ e ∷ []) here.found.stored.body) }) said) i ∷ [])) in
     record {
       code_is = ap code_number code_is ∙ sym zero_code;
       done = λ none. (

@@ -92,10 +92,11 @@ module _ (at : ℕ) (entries : List (Option ℕ)) (J : List Event) (tree : Tree)
       let bytes_are : bytes_in_extents M end.size (udf.firsts end.extents) ≡ whole = lies.1 ∙ sym (ends.bytes filled) in
       let kept_size : full_size w.file.kept ≡ end.size = ap full_size w.kept ∙ full in
       let front : kept_bytes M w.file ≡ whole = (λ i. bytes_in_extents M (kept_size i) (udf.firsts (w.kept i))) ∙ bytes_are in
-      let writing : file_writing M moment w.file ≡ record { address = here.found.address; kept = offset; stored = as_stored here.found.stored.identity moment (Bytes (whole ++ bytes)) } =
+      let writing : file_writing M moment w.file ≡ record { address = here.found.address; kept = offset; firsts = udf.firsts w.file.kept; stored = as_stored here.found.stored.identity moment (Bytes (whole ++ bytes)) } =
       λ i. record {
         address = (w.address ∙ here.address) i;
         kept = (kept_size ∙ size) i;
+        firsts = udf.firsts w.file.kept;
         stored = as_stored ((w.unique ∙ here.identity) i) moment (Bytes (front i ++ w.bytes_are i));
       } in
       let kept : AreKeptOn M w.file = record {
@@ -111,6 +112,7 @@ module _ (at : ℕ) (entries : List (Option ℕ)) (J : List Event) (tree : Tree)
               front = whole;
               holds = body;
               size = sym ends.size ∙ size;
+              firsts = udf.firsts w.file.kept;
               nodes_are = file_alone M moment w ∙ ap (λ (x : Writing). x ∷ []) writing;
             },
             ap addresses_in w.removed,

@@ -3,6 +3,7 @@ pub mod Appending
 pub mod Deepness
 pub mod DirectoryBytes
 pub mod Growing
+pub mod Keeping
 pub mod Moving
 pub mod Names
 pub mod Packing

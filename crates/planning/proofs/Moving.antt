@@ -187,10 +187,10 @@ module _ (graph : Graph) (tree : Tree) (one : IsFunctional graph) (is : IsTree t
 -- a directory with other entries
 rewritten : (graph : Graph) (path : Path) (node : Node) (at : IsNodeAt graph path node) (placed : Placed) (content : Content) → MatchesStored at.found.stored placed content → (change : List Entry → List Entry) (moment : ℕ) (d : NewDirectory)
     → d.address ≡ node.address → d.unique ≡ node.unique → d.moment ≡ moment → d.content.dir.parent ≡ content.dir.parent → said_entries d.content.dir.entries.entries ≡ change (said_entries content.dir.entries.entries)
-    → directory_writing d ≡ record { address = at.found.address; kept = 0; stored = as_stored at.found.stored.identity moment (with_entries change at.found.stored.body) }
+    → directory_writing d ≡ record { address = at.found.address; kept = 0; firsts = []; stored = as_stored at.found.stored.identity moment (with_entries change at.found.stored.body) }
 rewritten graph path node at placed content shown change moment d address unique when parent_is entries_are =
     let body : Entries d.content.dir.parent (said_entries d.content.dir.entries.entries) ≡ with_entries change at.found.stored.body = (λ i. Entries (parent_is i) (entries_are i)) ∙ sym (ap (with_entries change) shown.body) in
-    λ i. record { address = (address ∙ at.address) i; kept = 0; stored = as_stored ((unique ∙ at.identity) i) (when i) (body i) }
+    λ i. record { address = (address ∙ at.address) i; kept = 0; firsts = []; stored = as_stored ((unique ∙ at.identity) i) (when i) (body i) }
 
 said_more : (es fs : List (Name × DirEntry)) (name : Name) (entry : DirEntry) → fs ≡ es ++ (name, entry) ∷ [] → said_entries fs ≡ said_entries es ++ said_entry (name, entry) ∷ []
 said_more es fs name entry e = ap said_entries e ∙ map-append said_entry es ((name, entry) ∷ [])
@@ -205,12 +205,12 @@ pub turned_is : (s : Stored) (moved : Entry) (above : ℕ) (placed : Placed) (co
     → d.content.dir.parent ≡ above → d.content.dir.entries.entries ≡ content.dir.entries.entries → directory_writing d ∷ [] ≡ turned moved s above
 turned_is s moved above placed content d shown directory address unique when parent_is entries_are =
     let body : Entries d.content.dir.parent (said_entries d.content.dir.entries.entries) ≡ with_parent above s.body = (λ i. Entries (parent_is i) (said_entries (entries_are i))) ∙ sym (ap (with_parent above) shown.body) in
-    let writing : directory_writing d ≡ record { address = moved.address; kept = 0; stored = as_stored s.identity s.moment (with_parent above s.body) } = λ i. record { address = address i; kept = 0; stored = as_stored (unique i) ((when ∙ shown.moment) i) (body i) } in
+    let writing : directory_writing d ≡ record { address = moved.address; kept = 0; firsts = []; stored = as_stored s.identity s.moment (with_parent above s.body) } = λ i. record { address = address i; kept = 0; firsts = []; stored = as_stored (unique i) ((when ∙ shown.moment) i) (body i) } in
     ap (λ (w : Writing). w ∷ []) writing
-    ∙ sym (ap (λ (b : Bool). if b then record { address = moved.address; kept = 0; stored = as_stored s.identity s.moment (with_parent above s.body) } ∷ [] else []) directory)
+    ∙ sym (ap (λ (b : Bool). if b then record { address = moved.address; kept = 0; firsts = []; stored = as_stored s.identity s.moment (with_parent above s.body) } ∷ [] else []) directory)
 
 pub turned_none : (s : Stored) (moved : Entry) (above : ℕ) → is_directory s ≡ false → [] ≡ turned moved s above
-turned_none s moved above file = sym (ap (λ (b : Bool). if b then record { address = moved.address; kept = 0; stored = as_stored s.identity s.moment (with_parent above s.body) } ∷ [] else []) file)
+turned_none s moved above file = sym (ap (λ (b : Bool). if b then record { address = moved.address; kept = 0; firsts = []; stored = as_stored s.identity s.moment (with_parent above s.body) } ∷ [] else []) file)
 
 module _ (graph : Graph) (tree : Tree) (one : IsFunctional graph) (is : IsTree tree) (makes : MakesTree graph tree) (free moment identity : ℕ) (from to : Path) where
   -- another name in one directory

@@ -126,14 +126,14 @@ left name (e ∷ es) d = go (left name es d.1) (pointwise nat_eq name e.0) refl
 -- the directory above without the entry
 unlisted : (path above : Path) (name : Name) (split : path ≡ above ++ name ∷ []) (graph : Graph) (parent : Node) (up : IsNodeAt graph above parent) (placed : Placed) (content : Content) → MatchesStored up.found.stored placed content → IsDistinct (pointwise nat_eq) (keys_of content.dir.entries.entries)
     → (moment : ℕ) (d : NewDirectory) → d.address ≡ parent.address → d.unique ≡ parent.unique → d.moment ≡ moment → d.content.dir.parent ≡ content.dir.parent → d.content.dir.entries.entries ≡ remove_entry (pointwise nat_eq name) content.dir.entries.entries
-    → directory_writing d ≡ record { address = up.found.address; kept = 0; stored = as_stored up.found.stored.identity moment (with_entries (without path) up.found.stored.body) }
+    → directory_writing d ≡ record { address = up.found.address; kept = 0; firsts = []; stored = as_stored up.found.stored.identity moment (with_entries (without path) up.found.stored.body) }
 unlisted path above name split graph parent up placed content shown distinct moment d address unique when parent_is entries_are =
     let last : last_of path ≡ name ∷ [] = ap last_of split ∙ last-push above name in
     let less : said_entries d.content.dir.entries.entries ≡ without path (said_entries content.dir.entries.entries) =
     ap said_entries entries_are ∙ (left name content.dir.entries.entries distinct ∙ ap (λ (ns : List Name). filter (λ (e : Entry). is_other ns e.name) (said_entries content.dir.entries.entries)) (sym last)) in
     let body : Entries d.content.dir.parent (said_entries d.content.dir.entries.entries) ≡ with_entries (without path) up.found.stored.body =
     (λ i. Entries (parent_is i) (less i)) ∙ sym (ap (with_entries (without path)) shown.body) in
-    λ i. record { address = (address ∙ up.address) i; kept = 0; stored = as_stored ((unique ∙ up.identity) i) (when i) (body i) }
+    λ i. record { address = (address ∙ up.address) i; kept = 0; firsts = []; stored = as_stored ((unique ∙ up.identity) i) (when i) (body i) }
 
 kind_back : (k : Kind) → k ≡ name_kind (names_directory k)
 kind_back kinds.Directory = refl

@@ -123,10 +123,11 @@ module _ (at : ℕ) (entries : List (Option ℕ)) (J : List Event) (tree : Tree)
   replaces {medium} free moment identity path node bytes change some here kind w =
       let zero_code : code_of (Replace path bytes) tree ≡ 0 = replace_there path node false some here kind bytes in
       let gone : gone_of change ≡ [] = ap addresses_in w.removed in
-      let writing : file_writing medium moment w.file ≡ record { address = here.found.address; kept = 0; stored = as_stored here.found.stored.identity moment (Bytes bytes) } =
+      let writing : file_writing medium moment w.file ≡ record { address = here.found.address; kept = 0; firsts = []; stored = as_stored here.found.stored.identity moment (Bytes bytes) } =
       λ i. record {
         address = (w.address ∙ here.address) i;
         kept = full_size (w.kept i);
+        firsts = udf.firsts (w.kept i);
         stored = as_stored ((w.unique ∙ here.identity) i) moment (Bytes (bytes_in_extents medium (full_size (w.kept i)) (udf.firsts (w.kept i)) ++ w.bytes_are i));
       } in
       record {

@@ -10,8 +10,8 @@ use Rattle.model.specs.Operation.Operation.{Create, MakeDir}
 use Rattle.drive.specs.Journal.{held}
 use Rattle.drive.specs.declared.Drive.{Ghosts}
 use Rattle.durability.specs.Volume.{Medium}
-use Rattle.durability.specs.Plan.{Plans, Writing}
-use Rattle.lookup.specs.Lookups.{free_seen, graph_seen}
+use Rattle.durability.specs.Plan.{KeepPlaces, Plans, Writing}
+use Rattle.lookup.specs.Lookups.{below_seen, free_seen, graph_seen}
 use Rattle.lookup.specs.declared.lookup.Lookup.{Lookup}
 use Rattle.request.specs.Numbers.{code_number}
 use Rattle.request.specs.declared.answer.Code.{Code}
@@ -23,6 +23,7 @@ use Rattle.planning.specs.declared.change.NewContent.TheVariants as thing
 use Rattle.recover.specs.declared.node.Node.{Node}
 use Rattle.table_update.specs.NextTable.{made_by, RemovesNode}
 use Rattle.planning.specs.Writings.{AreKeptOn, change_writings}
+use Rattle.udf.specs.Udf.{udf}
 
 -- a new path with this at it
 abbrev pub addition : Path → NewContent → Operation
@@ -35,7 +36,7 @@ content_of_thing thing.Directory = DirectoryContent []
 
 -- what is written of it, below a directory
 abbrev pub new_writing : (address identity moment parent : ℕ) → NewContent → Writing
-new_writing address identity moment parent what = record { address = address; kept = 0; stored = as_stored identity moment (new_body parent (content_of_thing what)) }
+new_writing address identity moment parent what = record { address = address; kept = 0; firsts = []; stored = as_stored identity moment (new_body parent (content_of_thing what)) }
 
 -- the code of an addition, by whether the directory has the name, how many names it has, and how many nodes there are
 abbrev pub code_by_names : Bool → ℕ → ℕ → ℕ
@@ -70,6 +71,10 @@ pub record IsChangeOf (medium : Medium) (graph : Graph) (free : ℕ) (tree : Tre
 -- the change of an operation on the state that a look-up sees
 abbrev pub IsChangeSeen : {D : Type 0} (drive : Ghosts D) → Lookup D drive → Tree → Operation → ℕ → ℕ → Change → Type 0
 IsChangeSeen drive l tree operation moment identity change = IsChangeOf (held (drive.journal l.drive.now)) (graph_seen drive l) (free_seen l) tree operation moment identity change
+
+-- what its file keeps is where the file's entry says, on the state that a look-up sees
+abbrev pub KeepsSeen : {D : Type 0} (drive : Ghosts D) → Lookup D drive → ℕ → Change → Type 0
+KeepsSeen drive l moment change = KeepPlaces udf (below_seen drive l) l.nodes.numbers.now (change_writings (held (drive.journal l.drive.now)) moment change)
 
 -- a file is written for a node: after what it keeps it gets these bytes
 pub record WritesFile (node : Node) (extents bytes : List ℕ) (change : Change) : Type 0 where

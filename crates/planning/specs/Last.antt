@@ -1,5 +1,5 @@
 -- The table of a volume after which a commit is planned.
-use Rattle.std.specs.Prelude.{◌≡◌, ℕ, ◌+◌, ◌*◌, ◌-◌, ◌<◌, ◌≤◌, List, Option, map}
+use Rattle.std.specs.Prelude.{◌≡◌, ℕ, ◌+◌, ◌*◌, ◌-◌, ◌<◌, ◌≤◌, List, Option, map, take}
 use Rattle.std.specs.FinMap.{len}
 use Rattle.limits.specs.declared.TheConstants.{LEAST_CAPACITY, GREATEST_CAPACITY, FORMAT_BLOCKS, FIRST_UNIQUE, NODES}
 use Rattle.drive.specs.Journal.{Event, held, next_of}
@@ -8,8 +8,9 @@ use Rattle.model.specs.Addresses.{free_address}
 use Rattle.model.specs.Tree.{Tree}
 use Rattle.request.specs.declared.message.Request.{Request}
 use Rattle.durability.specs.Volume.{Medium}
-use Rattle.durability.specs.Plan.{Writing, Written}
+use Rattle.durability.specs.Plan.{KeepPlaces, Writing, Written}
 use Rattle.request.specs.Numbers.{code_number}
+use Rattle.udf.specs.Udf.{udf}
 use Rattle.vat.specs.Table.{FitsTable, Table, view}
 use Rattle.vat.specs.declared.table.Vat.{Vat}
 use Rattle.recover.specs.Below.{AreBelow}
@@ -58,6 +59,10 @@ pub record IsCounted (last : LastTable) (tree : Tree) : Type 0 where
 abbrev pub IsChangeIn : List Event → LastTable → Tree → Request → ℕ → Change → Type 0
 IsChangeIn journal last tree request moment change =
     IsChangeOf (held journal) (graph_below last.vat_icb_address last.vat.now.entries.items journal) (free_address last.vat.now.entries.items) tree (model_operation request.op) moment last.vat.now.sessions.next_unique change
+
+-- what its file keeps is where the file's entry says, in the table's state
+abbrev pub KeepsIn : List Event → LastTable → ℕ → Change → Type 0
+KeepsIn journal last moment change = KeepPlaces udf (take last.vat_icb_address (held journal)) last.vat.now.entries.items (change_writings (held journal) moment change)
 
 -- whatever the numbers of the entries are, the table takes this new node, and what the change writes and removes
 abbrev pub IsTakenWith : Medium → Option NewNode → ℕ → Change → Table → Type 0

@@ -32,10 +32,10 @@ pub record AreKeptOn (medium : Medium) (f : NewFile) : Type 0 where
 
 -- a file that is written has the bytes that it keeps, and then the new ones
 abbrev pub file_writing : Medium → ℕ → NewFile → Writing
-file_writing medium moment f = record { address = f.address; kept = full_size f.kept; stored = as_stored f.unique moment (Bytes (kept_bytes medium f ++ f.bytes.now)) }
+file_writing medium moment f = record { address = f.address; kept = full_size f.kept; firsts = udf.firsts f.kept; stored = as_stored f.unique moment (Bytes (kept_bytes medium f ++ f.bytes.now)) }
 
 abbrev pub directory_writing : NewDirectory → Writing
-directory_writing d = record { address = d.address; kept = 0; stored = as_stored d.unique d.moment (Entries d.content.dir.parent (said_entries d.content.dir.entries.entries)) }
+directory_writing d = record { address = d.address; kept = 0; firsts = []; stored = as_stored d.unique d.moment (Entries d.content.dir.parent (said_entries d.content.dir.entries.entries)) }
 
 abbrev pub new_file : Medium → ℕ → Option NewFile → List Writing
 new_file medium moment None = []

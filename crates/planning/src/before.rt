@@ -13,8 +13,8 @@ ghost use Rattle.lookup.specs.Asked.{model_operation};
 ghost use Rattle.lookup.specs.Cache.{AreKept};
 ghost use Rattle.lookup.specs.Lookups.{Answers, Looks, OfDirectory, OfStoredNode, Sees, SeesNode, graph_seen};
 ghost use Rattle.limits.specs.declared.TheConstants.{FILE_BYTES};
-ghost use Rattle.planning.specs.Changes.{IsChangeRefused, IsChangeSeen, IsSameButDirectories, addition};
-ghost use Rattle.planning.specs.Last.{HasTree, IsChangeIn, IsCounted, IsLastTableOn};
+ghost use Rattle.planning.specs.Changes.{IsChangeRefused, IsChangeSeen, IsSameButDirectories, KeepsSeen, addition};
+ghost use Rattle.planning.specs.Last.{HasTree, IsChangeIn, IsCounted, IsLastTableOn, KeepsIn};
 ghost use Rattle.planning.specs.Moves.{IsBetween, IsMoveWithin, Moves, Turns};
 ghost use Rattle.planning.specs.Rewriting.{TakesName};
 ghost use Rattle.planning.specs.Writings.{new_directories};
@@ -56,6 +56,7 @@ impl LastTable<'_> {
     ) -> Result<Change<'r>, StoreFault>
         requires agrees { IsLastTableOn (D.journal drive.old) (D.capacity drive.old) self.now }
         ensures does { (tree : Tree) → Once (D.journal drive.old) → HasTree D.Drive drive.old drive.new cache.old self.now tree → IsCounted self.now tree → IfOk result (IsChangeIn (D.journal drive.old) self.now tree request.now moment) }
+        ensures keeps { (tree : Tree) → Once (D.journal drive.old) → HasTree D.Drive drive.old drive.new cache.old self.now tree → IsCounted self.now tree → IfOk result (KeepsIn (D.journal drive.old) self.now moment) }
         ensures short { (tree : Tree) → HasTree D.Drive drive.old drive.new cache.old self.now tree → IfErr result IsShortage }
         ensures kept { IsTrue (D.honest drive.new) → AreKept (D.journal drive.old) cache.old → AreKept (D.journal drive.old) cache.new }
         ensures reads { ReadsOnly D.Drive (devices result) drive.old drive.new }
@@ -81,6 +82,7 @@ impl<D: Drive> StateBefore<'_, '_, D> {
         moment: Timestamp,
     ) -> Result<Change<'r>, StoreFault>
         ensures does { (tree : Tree) → Once (D.journal self.old.lookup.drive.now) → Sees D.Drive self.old.lookup self.new.lookup tree → self.old.node_count ≡ len tree → IfOk result (IsChangeSeen D.Drive self.old.lookup tree (model_operation request.now.op) moment self.old.next_unique) }
+        ensures keeps { (tree : Tree) → Once (D.journal self.old.lookup.drive.now) → Sees D.Drive self.old.lookup self.new.lookup tree → self.old.node_count ≡ len tree → IfOk result (KeepsSeen D.Drive self.old.lookup moment) }
         ensures short { (tree : Tree) → Sees D.Drive self.old.lookup self.new.lookup tree → IfErr result IsShortage }
         ensures looks { Looks D.Drive (devices result) self.old.lookup self.new.lookup }
     {
@@ -176,6 +178,7 @@ impl<D: Drive> StateBefore<'_, '_, D> {
         bytes: &'r AppendSlice<'r>,
     ) -> Result<Change<'r>, StoreFault>
         ensures does { (tree : Tree) (moment identity : ℕ) → Once (D.journal self.old.lookup.drive.now) → Sees D.Drive self.old.lookup self.new.lookup tree → IfOk result (IsChangeSeen D.Drive self.old.lookup tree (Append names.now offset bytes.now) moment identity) }
+        ensures keeps { (tree : Tree) (moment : ℕ) → Once (D.journal self.old.lookup.drive.now) → Sees D.Drive self.old.lookup self.new.lookup tree → IfOk result (KeepsSeen D.Drive self.old.lookup moment) }
         ensures short { (tree : Tree) → Sees D.Drive self.old.lookup self.new.lookup tree → IfErr result IsShortage }
         ensures looks { Looks D.Drive (devices result) self.old.lookup self.new.lookup }
     {

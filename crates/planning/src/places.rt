@@ -243,7 +243,7 @@ fn place_of_bytes(bytes: &[u8], first: u32) -> Place<'_>
     requires few { length bytes.now ≤ FILE_BYTES }
     requires room { first + div_ceil (length (outside bytes.now)) BLOCK_BYTES ≤ PARTITION_BLOCKS }
     ensures fits { FitsPlace File (length bytes.now) (place_of result) }
-    ensures places { (medium : List (List ℕ)) (from : ℕ) (blocks : List (List ℕ)) → IsPlaced udf (outside bytes.now) from first blocks → PlacesFile udf medium 0 bytes.now from blocks (said_place (place_of result)) }
+    ensures places { (medium : List (List ℕ)) (firsts : List ℕ) (from : ℕ) (blocks : List (List ℕ)) → IsPlaced udf (outside bytes.now) from first blocks → PlacesFile udf medium 0 firsts bytes.now from blocks (said_place (place_of result)) }
 {
     if bytes.is_empty() {
         Place::None

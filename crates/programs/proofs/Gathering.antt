@@ -23,7 +23,7 @@ use Rattle.recover.specs.declared.fault.StoreFault.{StoreFault}
 use Rattle.programs.specs.declared.fault.Fault.{Fault}
 use Rattle.programs.specs.declared.fault.Fault.TheVariants.{Usage, Path, Socket, Store, Stream}
 use Rattle.programs.specs.Applied.{AppliesInGroups, AppliesToImage, AnswersInMemory}
-use Rattle.programs.specs.Connections.{ServesPrefix}
+use Rattle.programs.specs.Connections.{connection_bytes, ServesPrefix}
 use Rattle.programs.specs.Copies.{SendsFrames, SendsSome}
 use Rattle.programs.specs.FaultLines.{Said, Reports}
 use Rattle.programs.specs.Status.{drive_failures, status_of}
@@ -71,7 +71,7 @@ module _ (i l o v w : Option (List ℕ)) (kept : Keeps v w) where
   made_on_kept label moment capacity outcome look earlier later before afterwards (inl k) = inl (record { refused = k.refused; why = k.why; journal = k.journal; writes = k.writes; unwritten = keeps_trans o v w k.unwritten kept; failed = k.failed })
   made_on_kept label moment capacity outcome look earlier later before afterwards (inr k) = inr (k.0, k.1, k.2, makes_kept label moment capacity outcome before.journal afterwards.journal afterwards.honest k.3, k.4)
 
-  serves_kept : (before : Situation) (begun : Gathering) (afterwards : Situation) (ended : Gathering) → ServesGroups before begun afterwards ended i l o v → ServesGroups before begun afterwards ended i l o w
+  serves_kept : {most : ℕ} (before : Situation) (begun : Gathering) (afterwards : Situation) (ended : Gathering) → ServesGroups most before begun afterwards ended i l o v → ServesGroups most before begun afterwards ended i l o w
   serves_kept before begun afterwards ended h = record {
     reader = h.reader;
     serving = record {
@@ -360,21 +360,21 @@ module _ (before : Situation) (begun : Gathering) (afterwards : Situation) (ende
   ends_with : append_known (contents last) waited ≡ append_known (contents inner) bytes
   ends_with = ap (λ (x : O). append_known (contents x) waited) (sym taken) ∙ ap (λ (b : List ℕ). append_known (contents inner) b) (sym (same ∙ left))
 
-  pub served_all : (now : Option (List ℕ)) → Appends (contents inner) now bytes → ServesGroups before begun afterwards ended i l (append_known (contents first) waiting) (append_known (contents last) waited) → ServesGroups before begun afterwards ended i l (contents output) now
-  served_all now put h =
+  pub served_all : {most : ℕ} (now : Option (List ℕ)) → Appends (contents inner) now bytes → ServesGroups most before begun afterwards ended i l (append_known (contents first) waiting) (append_known (contents last) waited) → ServesGroups most before begun afterwards ended i l (contents output) now
+  served_all {most} now put h =
       serves_kept i l (contents output) (append_known (contents inner) bytes) now (written_out (contents inner) now bytes put) before begun afterwards ended
-      (subst (λ (a : Option (List ℕ)). ServesGroups before begun afterwards ended i l a (append_known (contents inner) bytes)) begins_with
-      (subst (λ (b : Option (List ℕ)). ServesGroups before begun afterwards ended i l (append_known (contents first) waiting) b) ends_with h))
+      (subst (λ (a : Option (List ℕ)). ServesGroups most before begun afterwards ended i l a (append_known (contents inner) bytes)) begins_with
+      (subst (λ (b : Option (List ℕ)). ServesGroups most before begun afterwards ended i l (append_known (contents first) waiting) b) ends_with h))
 
   -- all messages were answered, and a prefix of what waited was written
-  pub served_part : (fault : ServeFault) (now : Option (List ℕ)) → fault ≡ streams.Write → PutsPrefix (contents inner) now bytes → ServesGroups before begun afterwards ended i l (append_known (contents first) waiting) (append_known (contents last) waited)
+  pub served_part : (fault : ServeFault) (now : Option (List ℕ)) → fault ≡ streams.Write → PutsPrefix (contents inner) now bytes → ServesGroups connection_bytes before begun afterwards ended i l (append_known (contents first) waiting) (append_known (contents last) waited)
       → ServesPrefix fault before begun afterwards ended i l (contents output) now
   served_part fault now write put h = record {
     gathered = append_known (contents inner) bytes;
     serves = inr (
       write,
-      subst (λ (a : Option (List ℕ)). ServesGroups before begun afterwards ended i l a (append_known (contents inner) bytes)) begins_with
-          (subst (λ (b : Option (List ℕ)). ServesGroups before begun afterwards ended i l (append_known (contents first) waiting) b) ends_with h),
+      subst (λ (a : Option (List ℕ)). ServesGroups connection_bytes before begun afterwards ended i l a (append_known (contents inner) bytes)) begins_with
+          (subst (λ (b : Option (List ℕ)). ServesGroups connection_bytes before begun afterwards ended i l (append_known (contents first) waiting) b) ends_with h),
     );
     front = written_part (contents inner) now bytes put;
   }

@@ -19,7 +19,7 @@ goes_none s g = record {
   lives = groups_are_lives [] s g s g (refl, refl);
 }
 
-pub goes_served : {T : Type 0} (r : Result T ServeFault) (s : Situation) (sg : Gathering) (t : Situation) (tg : Gathering) (i l o w : Option (List ℕ)) → OnOk r (ServesGroups s sg t tg i l o w)
+pub goes_served : {T : Type 0} (most : ℕ) (r : Result T ServeFault) (s : Situation) (sg : Gathering) (t : Situation) (tg : Gathering) (i l o w : Option (List ℕ)) → OnOk r (ServesGroups most s sg t tg i l o w)
     → IfErr r (λ fault. ServesGroupsUntil fault s sg t tg i l o w) → ServesMessages s sg t tg
-goes_served (Ok x) s sg t tg i l o w all left = record { groups = all.serving.groups; are = all.serving.are; run = all.run; withstand = all.withstand; lives = all.lives }
-goes_served (Err fault) s sg t tg i l o w all left = record { groups = left.groups; are = left.are; run = left.run; withstand = left.withstand; lives = left.lives }
+goes_served most (Ok x) s sg t tg i l o w all left = record { groups = all.serving.groups; are = all.serving.are; run = all.run; withstand = all.withstand; lives = all.lives }
+goes_served most (Err fault) s sg t tg i l o w all left = record { groups = left.groups; are = left.are; run = left.run; withstand = left.withstand; lives = left.lives }

@@ -53,7 +53,7 @@ AppliesStream (Err (Stream fault)) before afterwards input left output written =
 -- them is reported, nor how the writes of the drive waited.
 abbrev pub AppliesGroups : Situation → Gathering → Situation → Option (List ℕ) → Option (List ℕ) → Option (List ℕ) → Option (List ℕ) → Type 0
 AppliesGroups before begun afterwards input left output written =
-    (kept : Option Store) × (ended : Gathering) × ServesGroups before begun (with_store kept afterwards) ended input left output written
+    (kept : Option Store) × (ended : Gathering) × ServesGroups 65536 before begun (with_store kept afterwards) ended input left output written
 
 abbrev pub AppliesGroupsUntil : ServeFault → Situation → Gathering → Situation → Option (List ℕ) → Option (List ℕ) → Option (List ℕ) → Option (List ℕ) → Type 0
 AppliesGroupsUntil fault before begun afterwards input left output written =

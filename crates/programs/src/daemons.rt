@@ -32,6 +32,10 @@ use store::StoreFault;
 /// The name at the beginning of the daemon's lines.
 const NAME: &str = "udfburnd";
 
+/// How many bytes of a connection are read before those messages are answered that are complete in them. A group may
+/// have as many: a photo, say, with all that is asked for it.
+const MOST_AT_ONCE: usize = 4_194_304;
+
 /// How long the daemon waits after it failed to accept a connection, in milliseconds.
 const PAUSE: u64 = 100;
 
@@ -254,7 +258,7 @@ where
     ensures refusal { IfErr result.0 IsRefusal }
     ensures failures { CountsReads result.0 input.old.failures input.new.failures }
     // If it ended well, all messages of the input were answered, and each answer is written.
-    ensures all { OnOk result.0 (IsSomeAnd result.1 (λ written. ServesGroups (seen_on D.Drive engine.old drive.old) (D.gathering drive.old) (seen_on D.Drive engine.new drive.new) (D.gathering drive.new) (I.remaining input.old.stream) (I.remaining input.new.stream) (O.contents output) (O.contents written))) }
+    ensures all { OnOk result.0 (IsSomeAnd result.1 (λ written. ServesGroups MOST_AT_ONCE (seen_on D.Drive engine.old drive.old) (D.gathering drive.old) (seen_on D.Drive engine.new drive.new) (D.gathering drive.new) (I.remaining input.old.stream) (I.remaining input.new.stream) (O.contents output) (O.contents written))) }
     // Otherwise the first of them were answered, as far as the fault says, and a prefix of their answers is written.
     ensures front { IfErr result.0 (λ fault. IfSome result.1 (λ written. LeavesStream fault (seen_on D.Drive engine.old drive.old) (D.gathering drive.old) (seen_on D.Drive engine.new drive.new) (D.gathering drive.new) (I.remaining input.old.stream) (I.remaining input.new.stream) (O.contents output) (O.contents written))) }
     ensures left { IfErr result.0 (λ fault. LeavesConnection fault (seen_on D.Drive engine.old drive.old) (D.gathering drive.old) (seen_on D.Drive engine.new drive.new) (D.gathering drive.new)) }
@@ -266,7 +270,7 @@ where
         Ok(writer) => writer,
         Err(_) => return (Err(Fault::Store(StoreFault::Memory)), None),
     };
-    let served = serve_groups(alloc, input, &mut writer, engine, drive);
+    let served = serve_groups(alloc, input, MOST_AT_ONCE, &mut writer, engine, drive);
     let (mut output, rest) = writer.into_parts();
     match served {
         Ok(()) => match put_all(&mut output, &rest) {

@@ -11,7 +11,7 @@ ghost use Rattle.programs.specs.Status.{IsRefusal};
 use crate::fault::Fault;
 use crate::images::{open_image, put_back};
 use drive::{Drive, MemDrive};
-use engine::{CountedReader, Engine, serve};
+use engine::{CountedReader, Engine, PIECE_BYTES, serve};
 use grouping::serve_groups;
 use media::Media;
 use settling::Settles;
@@ -58,7 +58,7 @@ fn apply_in_groups<D: Settles, I: Read, O: Write>(
         (I.remaining input.old.stream) (I.remaining input.new.stream) (O.contents output.old) (O.contents output.new) }
 {
     let mut engine = Engine::new();
-    serve_groups(alloc, input, output, &mut engine, drive)?;
+    serve_groups(alloc, input, PIECE_BYTES, output, &mut engine, drive)?;
     Ok(())
 }
 

@@ -1,6 +1,7 @@
 //! The connections of a socket.
 
-ghost use Rattle.std.specs.Prelude.{◌≡◌, ◌+◌, ◌++◌, None, IfSome, nat_lt, replicate};
+ghost use Rattle.std.specs.Io.{ReadsAtMost};
+ghost use Rattle.std.specs.Prelude.{◌≡◌, ◌≤◌, ◌+◌, ◌++◌, length, None, IfSome, nat_lt, replicate};
 ghost use Rattle.drive.specs.Journal.{counted};
 ghost use Rattle.programs.specs.Listening.{nothing_known};
 ghost use Rattle.programs.specs.Outputs.{known};
@@ -18,6 +19,9 @@ use std::time::{Clock, Duration, Instant};
 /// How long a client may neither send a byte nor take one, in seconds. It is waited for as long, and as long again for
 /// each mebibyte, while it sends a message, and while it takes answers.
 const PATIENCE: u64 = 60;
+
+/// How long the rest of a message is waited for, in milliseconds, before other messages are answered that came with it.
+const PAUSE: u64 = 2;
 
 /// The bytes of a mebibyte.
 const MEBIBYTE: u64 = 1_048_576;
@@ -63,6 +67,7 @@ impl<'a, R: Files<File = File> + Net + Clock> Sockets<'a, R> {
             stream: incoming,
             frame: Frame::none(),
             waited: Duration::ZERO,
+            failure: None,
         };
         let output = Outgoing {
             rt: self.rt,
@@ -229,15 +234,21 @@ pub struct Incoming<'a, R: Clock> {
     frame: Frame,
     /// How long the client was waited for since the frame began.
     waited: Duration,
+    /// What failed after bytes had come that were returned.
+    failure: Option<io::ErrorKind>,
 }
 
-impl<'a, R: Clock> Read for Incoming<'a, R> {
-    fn read(&mut self, bytes: &mut [u8]) -> io::Result<usize> {
+impl<'a, R: Clock> Incoming<'a, R> {
+    /// Waits for bytes, at most for so long if a time is given.
+    fn read_within(&mut self, most: Option<Duration>, bytes: &mut [u8]) -> io::Result<usize>
+        ensures { ReadsAtMost result bytes.new }
+    {
         let Some(shared) = &self.stream else {
             return Err(io::Error::from(io::ErrorKind::OutOfMemory));
         };
         let mut stream: &UnixStream = shared;
-        stream.set_read_timeout(Some(time_left(self.waited, self.frame.bytes())?))?;
+        let left = time_left(self.waited, self.frame.bytes())?;
+        stream.set_read_timeout(Some(most.unwrap_or(left)))?;
         let begin = Instant::now(self.rt)?;
         let count = stream.read(bytes)?;
         let time = begin.elapsed(self.rt)?;
@@ -248,6 +259,72 @@ impl<'a, R: Clock> Read for Incoming<'a, R> {
         } else {
             Duration::ZERO
         };
+        Ok(count)
+    }
+
+    /// Reads bytes that are there, without waiting for any.
+    fn read_there(&mut self, bytes: &mut [u8]) -> io::Result<usize>
+        ensures { ReadsAtMost result bytes.new }
+    {
+        let Some(shared) = &self.stream else {
+            return Err(io::Error::from(io::ErrorKind::OutOfMemory));
+        };
+        let mut stream: &UnixStream = shared;
+        stream.set_nonblocking(true)?;
+        let read = stream.read(bytes);
+        // Answers are written to the same socket.
+        if let Err(error) = stream.set_nonblocking(false) {
+            self.failure = Some(error.kind());
+        }
+        let count = read?;
+        let _ = self.frame.take_all(&bytes[..count]);
+        Ok(count)
+    }
+
+    /// Reads more bytes after others. Where a message has begun, its rest is waited for a moment; no message is waited
+    /// for. 0: none came, or a call failed.
+    fn read_more(&mut self, bytes: &mut [u8]) -> usize
+        ensures { result ≤ length bytes.new }
+    {
+        let read = if self.frame.is_begun() {
+            self.read_within(Some(Duration::from_millis(PAUSE)), bytes)
+        } else {
+            self.read_there(bytes)
+        };
+        match read {
+            Ok(count) => count,
+            Err(error) => {
+                if !is_none_there(&error) {
+                    self.failure = Some(error.kind());
+                }
+                0
+            }
+        }
+    }
+}
+
+/// Whether a read ended because no bytes were there.
+fn is_none_there(error: &io::Error) -> bool {
+    matches!(
+        error.kind(),
+        io::ErrorKind::WouldBlock | io::ErrorKind::TimedOut | io::ErrorKind::Interrupted
+    )
+}
+
+impl<'a, R: Clock> Read for Incoming<'a, R> {
+    // All bytes that are there are read at once, since those messages are answered as a group that are read together.
+    fn read(&mut self, bytes: &mut [u8]) -> io::Result<usize> {
+        if let Some(failure) = self.failure {
+            return Err(io::Error::from(failure));
+        }
+        let mut count = self.read_within(None, bytes)?;
+        while count > 0 && count < bytes.len() {
+            let more = self.read_more(&mut bytes[count..]);
+            if more == 0 {
+                break;
+            }
+            count += more;
+        }
         Ok(count)
     }
 }

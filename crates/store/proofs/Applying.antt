@@ -8,7 +8,6 @@ use Rattle.drive.proofs.Fronts.{held_write}
 use Rattle.drive.specs.Sending.{SendsAlone}
 use Rattle.drive.specs.Writes.{joined, LastIsCut, WritesInTurn}
 use Rattle.drive.specs.declared.Drive.{Ghosts}
-use Rattle.model.specs.Addresses.{free_address}
 use Rattle.model.specs.Session.{State, after_one, reply_to}
 use Rattle.durability.specs.Commit.{need}
 use Rattle.durability.specs.Formats.{Block}
@@ -30,19 +29,17 @@ use Rattle.vat.specs.Table.{view}
 use Rattle.planning.specs.declared.change.Change.{Change}
 use Rattle.planning.specs.declared.plan.Plan.{Plan}
 use Rattle.store.specs.declared.store.Store.{Store}
-use Rattle.lookup.specs.Asked.{model_operation, model_request}
+use Rattle.lookup.specs.Asked.{model_request}
 use Rattle.lookup.specs.Cache.{AreKept}
 use Rattle.store.specs.Calls.{Applies, IsCommitDone, IsCommitPlanned, IsFailed, IsOpenOn, RefusesRequest, CommitSurvivesPowerLoss}
-use Rattle.planning.specs.Changes.{IsChangeOf}
 use Rattle.table_update.specs.Commits.{IsPart, IsWholeCommit}
 use Rattle.planning.specs.Needs.{change_need}
 use Rattle.table_update.specs.NextTable.{begun}
 use Rattle.planning.specs.Plan.{IsPlan, node_list, plan_blocks, table_data}
 use Rattle.store.specs.Putting.{BreaksPlan, IsPlanOf, KeepsPlan}
 use Rattle.store.specs.Sessions.{reply_said}
-use Rattle.lookup.specs.Shows.{graph_below}
 use Rattle.table_update.proofs.Committed.{commits_are_part, commits_are_whole, tables_stand}
-use Rattle.store.proofs.Knowing.{at_is, commits, need_is, next_is, planned, planned_blocks, planned_table}
+use Rattle.store.proofs.Knowing.{ChangesStore, at_is, commits, need_is, next_is, planned, planned_blocks, planned_table}
 
 module _ (capacity volume : ℕ) (J : List Event) (S : State) (store : Store) (knows : IsOpenOn capacity volume J S store) where
   -- nothing is written
@@ -83,7 +80,7 @@ module _ (capacity volume : ℕ) (J : List Event) (S : State) (store : Store) (k
   )
   short r refusal J' now (inr memory) same again = inr (inl (memory, record { journal = same; knows = λ going. again }))
 
-  module _ (r : asking.Request) (change : Change) (does : IsChangeOf (held J) (graph_below store.vat_icb_address store.vat.entries.items J) (free_address store.vat.entries.items) S.tree (model_operation r.op) r.moment store.vat.sessions.next_unique change) where
+  module _ (r : asking.Request) (change : Change) (does : ChangesStore capacity volume J S store knows r r.moment change) where
     -- so many blocks from the end of the journal on
     abbrev most : ℕ
     most = next_of J + change_need change (begun store.vat_icb_address r.client r.number (code_number change.code) change.made (view store.vat))
@@ -194,7 +191,7 @@ module _ (capacity volume : ℕ) (J : List Event) (S : State) (store : Store) (k
         }
           where
             reply_planned : reply_said plan.reply ≡ reply_to S (model_request r)
-            reply_planned = λ i. record { code = (ap code_number makes.code ∙ does.code_is) i; commit = (makes.commit ∙ ap (λ (n : ℕ). n + 1) (commits capacity volume J S store knows)) i }
+            reply_planned = λ i. record { code = (ap code_number makes.code ∙ does.is.code_is) i; commit = (makes.commit ∙ ap (λ (n : ℕ). n + 1) (commits capacity volume J S store knows)) i }
 
       -- what is written is what is planned
       pub plans_written : (result : Result told.Reply StoreFault) (K J' : List Event) (old now : Store) → K ≡ J → IfOk result (KeepsPlan plan K J' old now) → OnOk result (IsCommitPlanned capacity volume J S (model_request r) J')

@@ -1,5 +1,5 @@
 -- What a store knows of the recovered state, as the parts of a commit ask for it.
-use Rattle.std.proofs.Common.{◌≡◌, ℕ, ◌+◌, ◌-◌, ◌≤◌, Bool, List, ◌++◌, length, map, sym, ap, subst, ◌∙◌, arith, length-append}
+use Rattle.std.proofs.Common.{◌≡◌, ℕ, ◌+◌, ◌-◌, ◌≤◌, Bool, List, ◌++◌, length, map, take, sym, ap, subst, ◌∙◌, arith, length-append}
 use Rattle.std.specs.Prelude.{Option, IsTrue}
 use Rattle.std.specs.FinMap.{len}
 use Rattle.limits.specs.declared.TheConstants.{NODES, PARTITION_START}
@@ -15,7 +15,7 @@ use Rattle.durability.specs.Commit.{need}
 use Rattle.durability.specs.Formats.{Table_}
 use Rattle.durability.specs.Formats.Kind.{Table as TableEntry}
 use Rattle.durability.specs.Formats.NodePlace.{Extent}
-use Rattle.durability.specs.Plan.{Writing, Written, WritesNodes, IsPlaced, IsPlanned}
+use Rattle.durability.specs.Plan.{Writing, Written, WritesNodes, IsPlaced, IsPlanned, KeepPlaces}
 use Rattle.durability.proofs.OnJournals.{length-held}
 use Rattle.udf.specs.Said.{model_table}
 use Rattle.udf.specs.Udf.{udf, spelled_length}
@@ -63,12 +63,14 @@ module _ (capacity volume : ℕ) (J : List Event) (S : State) (store : Store) (k
     root = knows.stands.tells.identities.root;
   }
 
+  -- The change is the request's. What its file keeps is where the file's entry says.
+  pub record ChangesStore (r : asking.Request) (moment : ℕ) (change : Change) : Type 0 where
+    pub is : IsChangeOf (held J) (graph_below store.vat_icb_address store.vat.entries.items J) (free_address store.vat.entries.items) S.tree (model_operation r.op) moment store.vat.sessions.next_unique change
+    pub keeps : KeepPlaces udf (take store.vat_icb_address (held J)) store.vat.entries.items (change_writings (held J) moment change)
+
   -- at the request's own moment
-  pub does_at : (r : asking.Request) (change : Change) (moment : ℕ) → moment ≡ r.moment
-      → IsChangeOf (held J) (graph_below store.vat_icb_address store.vat.entries.items J) (free_address store.vat.entries.items) S.tree (model_operation r.op) moment store.vat.sessions.next_unique change
-      → IsChangeOf (held J) (graph_below store.vat_icb_address store.vat.entries.items J) (free_address store.vat.entries.items) S.tree (model_operation r.op) r.moment store.vat.sessions.next_unique change
-  does_at r change moment at =
-      subst (λ (m : ℕ). IsChangeOf (held J) (graph_below store.vat_icb_address store.vat.entries.items J) (free_address store.vat.entries.items) S.tree (model_operation r.op) m store.vat.sessions.next_unique change) at
+  pub does_at : (r : asking.Request) (change : Change) (moment : ℕ) → moment ≡ r.moment → ChangesStore r moment change → ChangesStore r r.moment change
+  does_at r change moment at = subst (λ (m : ℕ). ChangesStore r m change) at
 
   -- the nodes are counted
   pub nodes : store.vat.files + store.vat.directories ≡ len S.tree
@@ -93,7 +95,7 @@ module _ (capacity volume : ℕ) (J : List Event) (S : State) (store : Store) (k
     kept = kept;
   })
 
-  module _ (r : asking.Request) (change : Change) (does : IsChangeOf (held J) (graph_below store.vat_icb_address store.vat.entries.items J) (free_address store.vat.entries.items) S.tree (model_operation r.op) r.moment store.vat.sessions.next_unique change) where
+  module _ (r : asking.Request) (change : Change) (does : ChangesStore r r.moment change) where
     abbrev request : model.Request
     request = model_request r
 
@@ -104,7 +106,7 @@ module _ (capacity volume : ℕ) (J : List Event) (S : State) (store : Store) (k
     does_there : IsChangeOf (held J) (graph_below knows.stands.at knows.stands.tells.table.entries J) (free_address knows.stands.tells.table.entries) S.tree (model_operation r.op) r.moment S.next_identity change
     does_there =
         let next : store.vat.sessions.next_unique ≡ S.next_identity = ap (λ (t : Table_). t.next_identity) knows.table ∙ knows.stands.tells.next_identity in
-        let one = subst (λ (a : ℕ). IsChangeOf (held J) (graph_below a store.vat.entries.items J) (free_address store.vat.entries.items) S.tree (model_operation r.op) r.moment store.vat.sessions.next_unique change) knows.at does in
+        let one = subst (λ (a : ℕ). IsChangeOf (held J) (graph_below a store.vat.entries.items J) (free_address store.vat.entries.items) S.tree (model_operation r.op) r.moment store.vat.sessions.next_unique change) knows.at does.is in
         let two = subst (λ (es : List (Option ℕ)). IsChangeOf (held J) (graph_below knows.stands.at es J) (free_address es) S.tree (model_operation r.op) r.moment store.vat.sessions.next_unique change) entries_are one in
         subst (λ (n : ℕ). IsChangeOf (held J) (graph_below knows.stands.at knows.stands.tells.table.entries J) (free_address knows.stands.tells.table.entries) S.tree (model_operation r.op) r.moment n change) next two
 
@@ -116,15 +118,15 @@ module _ (capacity volume : ℕ) (J : List Event) (S : State) (store : Store) (k
     takes written addresses =
         let there = changes_are_taken capacity volume (held J) S knows.stands request nodes_written (gone_of change) written change.made change.removed (view store.vat) knows.table (changes written addresses) in
         subst (λ (a : ℕ). AreTaken change.made written change.removed (committed a r.client r.number (code_number change.code) (view store.vat))) (sym knows.at)
-        (subst (λ (n : ℕ). AreTaken change.made written change.removed (committed knows.stands.at r.client r.number n (view store.vat))) (sym does.code_is) there)
+        (subst (λ (n : ℕ). AreTaken change.made written change.removed (committed knows.stands.at r.client r.number n (view store.vat))) (sym does.is.code_is) there)
 
     -- what is computed is what the request may need
     pub need_is : change_need change (begun store.vat_icb_address r.client r.number (code_number change.code) change.made (view store.vat)) ≡ need spelled_length S request
     need_is =
         change_reckoned change (begun store.vat_icb_address r.client r.number (code_number change.code) change.made (view store.vat))
-        ∙ (λ i. reckoned (bytes_of change.file) (all_names change.directories.items) (begun (knows.at i) r.client r.number (does.code_is i) change.made (view store.vat)))
+        ∙ (λ i. reckoned (bytes_of change.file) (all_names change.directories.items) (begun (knows.at i) r.client r.number (does.is.code_is i) change.made (view store.vat)))
         ∙ need_is_reckoned capacity volume (held J) S knows.stands request nodes_written (gone_of change) (bare nodes_written) change.made change.removed (view store.vat) (bytes_of change.file) (all_names change.directories.items) knows.table
-        (changes (bare nodes_written) (bare_addresses nodes_written)) (change_is_of (held J) r.moment change does.kept)
+        (changes (bare nodes_written) (bare_addresses nodes_written)) (change_is_of (held J) r.moment change does.is.kept)
 
     module _ (plan : Plan) (makes : IsPlanOf store r change plan) (is : IsPlan (next_of J) capacity plan) where
       size_is : next_of J ≡ length (held J)
@@ -133,7 +135,7 @@ module _ (capacity volume : ℕ) (J : List Event) (S : State) (store : Store) (k
       pub writes : WritesNodes udf (held J) nodes_written (length (held J) - PARTITION_START) (node_list plan) (plan_written plan)
       writes =
           subst (λ (n : ℕ). WritesNodes udf (held J) nodes_written (n - PARTITION_START) (node_list plan) (plan_written plan)) size_is
-          (subst (λ (ns : List Writing). WritesNodes udf (held J) ns (next_of J - PARTITION_START) (node_list plan) (plan_written plan)) (makes.writings (held J)) (is.nodes (held J) (makes.kept (held J) does.kept)))
+          (subst (λ (ns : List Writing). WritesNodes udf (held J) ns (next_of J - PARTITION_START) (node_list plan) (plan_written plan)) (makes.writings (held J)) (is.nodes (held J) (makes.kept (held J) does.is.kept)))
 
       pub planned_changes : ChangesVolume capacity volume (held J) S knows.stands request nodes_written (gone_of change) (plan_written plan) change.made change.removed
       planned_changes = changes (plan_written plan) (nodes_are_written (held J) nodes_written (length (held J) - PARTITION_START) (node_list plan) (plan_written plan) writes)
@@ -145,7 +147,7 @@ module _ (capacity volume : ℕ) (J : List Event) (S : State) (store : Store) (k
       at_is = omega (arith, is.low, size_is, is.table.number, length-append (node_list plan) (table_data plan.table))
 
       pub table_is : view plan.table.vat ≡ next_table knows.stands.at r.client r.number (code_of (model_operation r.op) S.tree) change.made (plan_written plan) change.removed (view store.vat)
-      table_is = makes.table ∙ (λ i. next_table (knows.at i) r.client r.number (does.code_is i) change.made (plan_written plan) change.removed (view store.vat))
+      table_is = makes.table ∙ (λ i. next_table (knows.at i) r.client r.number (does.is.code_is i) change.made (plan_written plan) change.removed (view store.vat))
 
       afterwards : IsTableBehind (held J) request (next_table knows.stands.at r.client r.number (code_of (model_operation r.op) S.tree) change.made (plan_written plan) change.removed (view store.vat)) (node_list plan) plan.table.bytes.items plan.table.first (table_data plan.table) plan.table.entry
       afterwards =
@@ -158,14 +160,19 @@ module _ (capacity volume : ℕ) (J : List Event) (S : State) (store : Store) (k
             entry = subst (λ (n : ℕ). udf.IsEntry (record { kind = TableEntry; moment = r.moment; links = 0; identity = 0; size = length plan.table.bytes.items; place = Extent plan.table.first }) plan.table.entry n) number entry_there;
           }
 
+      keep : KeepPlaces udf (take knows.stands.at (held J)) knows.stands.tells.table.entries nodes_written
+      keep =
+          subst (λ (es : List (Option ℕ)). KeepPlaces udf (take knows.stands.at (held J)) es nodes_written) entries_are
+          (subst (λ (a : ℕ). KeepPlaces udf (take a (held J)) store.vat.entries.items nodes_written) knows.at does.keeps)
+
       pub planned : IsPlanned udf capacity volume (held J) S knows.stands request planned_blocks plan.table.entry
       planned =
-          pieces_are_planned capacity volume (held J) S knows.stands request nodes_written (gone_of change) (plan_written plan) change.made change.removed (view store.vat) knows.table planned_changes
+          pieces_are_planned capacity volume (held J) S knows.stands request nodes_written (gone_of change) (plan_written plan) change.made change.removed (view store.vat) knows.table planned_changes keep
           (node_list plan) writes plan.table.bytes.items plan.table.first (table_data plan.table) plan.table.entry afterwards
 
       pub planned_table : planned.table ≡ model_table (view plan.table.vat)
       unfolding planned
       planned_table =
-          pieces_table capacity volume (held J) S knows.stands request nodes_written (gone_of change) (plan_written plan) change.made change.removed (view store.vat) knows.table planned_changes
+          pieces_table capacity volume (held J) S knows.stands request nodes_written (gone_of change) (plan_written plan) change.made change.removed (view store.vat) knows.table planned_changes keep
           (node_list plan) writes plan.table.bytes.items plan.table.first (table_data plan.table) plan.table.entry afterwards
           ∙ ap model_table (sym table_is)

@@ -1,11 +1,11 @@
 -- The pieces of a commit make its plan.
-use Rattle.std.proofs.Common.{◌≡◌, ℕ, ◌+◌, ◌-◌, List, [], ◌∷◌, ◌++◌, length, map, refl, ap, ◌∙◌}
+use Rattle.std.proofs.Common.{◌≡◌, ℕ, ◌+◌, ◌-◌, List, [], ◌∷◌, ◌++◌, length, map, take, refl, ap, ◌∙◌}
 use Rattle.std.specs.Prelude.{Option}
 use Rattle.model.specs.Operation.{code_of}
 use Rattle.model.specs.Session.{State, Request}
 use Rattle.durability.specs.Formats.{Block}
 use Rattle.durability.specs.Volume.{Medium, RecoversTo, partition_start}
-use Rattle.durability.specs.Plan.{Writing, Written, WritesNodes}
+use Rattle.durability.specs.Plan.{Writing, Written, WritesNodes, KeepPlaces}
 use Rattle.udf.specs.Said.{model_table}
 use Rattle.udf.specs.Udf.{udf}
 use Rattle.udf.proofs.Said.{tables_agree}
@@ -23,11 +23,12 @@ nodes_are_written medium (node ∷ nodes) from blocks written (first, others, nu
     ap (λ (ws : List Written). map (λ v. v.address) ws) w ∙ ap (λ (ns : List ℕ). node.address ∷ ns) (nodes_are_written (medium ++ first) nodes (from + length first) others rest all)
 
 pub pieces_are_planned : PiecesArePlanned
-pieces_are_planned capacity volume medium S stands r nodes unused written made taken t is h node_blocks writes bytes first table_blocks mark afterwards = record {
+pieces_are_planned capacity volume medium S stands r nodes unused written made taken t is h keep node_blocks writes bytes first table_blocks mark afterwards = record {
   nodes = nodes;
   gone = unused;
   done = λ e. (h.done e).0;
   refused = λ other. ((h.refused other).0, (h.refused other).1);
+  keep = keep;
   node_blocks = node_blocks;
   written = written;
   writes = writes;
@@ -45,8 +46,9 @@ pieces_are_planned capacity volume medium S stands r nodes unused written made t
 
 -- whose table is the one that the changes make
 pub pieces_table : (capacity volume : ℕ) (medium : Medium) (S : State) (stands : RecoversTo udf capacity volume medium S) (r : Request) (nodes : List Writing) (unused : List ℕ) (written : List Written) (made : Option NewNode) (taken : Option Node) (t : Table)
-    → (is : model_table t ≡ stands.tells.table) (h : ChangesVolume capacity volume medium S stands r nodes unused written made taken) (node_blocks : List Block) (writes : WritesNodes udf medium nodes (length medium - partition_start) node_blocks written)
+    → (is : model_table t ≡ stands.tells.table) (h : ChangesVolume capacity volume medium S stands r nodes unused written made taken)
+    → (keep : KeepPlaces udf (take stands.at medium) stands.tells.table.entries nodes) (node_blocks : List Block) (writes : WritesNodes udf medium nodes (length medium - partition_start) node_blocks written)
     → (bytes : List ℕ) (first : ℕ) (table_blocks : List Block) (mark : Block) (afterwards : IsTableBehind medium r (next_table stands.at r.client r.number (code_of r.operation S.tree) made written taken t) node_blocks bytes first table_blocks mark)
-    → (pieces_are_planned capacity volume medium S stands r nodes unused written made taken t is h node_blocks writes bytes first table_blocks mark afterwards).table ≡ model_table (next_table stands.at r.client r.number (code_of r.operation S.tree) made written taken t)
+    → (pieces_are_planned capacity volume medium S stands r nodes unused written made taken t is h keep node_blocks writes bytes first table_blocks mark afterwards).table ≡ model_table (next_table stands.at r.client r.number (code_of r.operation S.tree) made written taken t)
 unfolding pieces_are_planned
-pieces_table capacity volume medium S stands r nodes unused written made taken t is h node_blocks writes bytes first table_blocks mark afterwards = refl
+pieces_table capacity volume medium S stands r nodes unused written made taken t is h keep node_blocks writes bytes first table_blocks mark afterwards = refl

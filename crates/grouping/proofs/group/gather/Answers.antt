@@ -1,11 +1,11 @@
-use Rattle.std.proofs.Common.{rules, inl, ap, sym, ◌∙◌}
+use Rattle.std.proofs.Common.{rules, ap, sym, ◌∙◌}
 use Rattle.drive.proofs.Reading.{follows_any, follows_none, follows_then}
 use Rattle.drive.specs.Reads.{one_if}
 use Rattle.request.proofs.FrameLaws.{taken_first}
 use Rattle.engine.proofs.Messages.{taken_less}
 use Rattle.engine.specs.Served.{frames_of}
-use Rattle.grouping.proofs.Answers.{going_none, some_there}
-use Rattle.grouping.proofs.Going.{adds_none, adds_then, adds_untouched, both_are, goes_full, goes_on, goes_some, not_both, ok_of, err_of}
+use Rattle.grouping.proofs.Answers.{going_none}
+use Rattle.grouping.proofs.Going.{adds_none, adds_then, adds_untouched, goes_full, goes_on, goes_some, ok_of, err_of}
 use Rattle.grouping.proofs.Settled.{untouched_keeps}
 use Rattle.grouping.proofs.group.gather.Goals as goal
 
@@ -34,7 +34,7 @@ loop-message-preserved g c =
     let i = c.loop-message.invariant in
     let e = c.answer-answer.ensures in
     record {
-      going = goes_on g.D.Drive _ c.loop-message.frames c.skip.new.self _ _ _ c.answer-answer.new.drive c.end_commit.new.drive _ _ _ _ _ c.in-Some.message c.answer-answer.result c.count-before.result c.loop-message.is_begun i.going
+      going = goes_on g.D.Drive _ c.loop-message.frames c.skip.new.self _ _ _ c.answer-answer.new.drive c.end_commit.new.drive _ _ _ _ _ c.in-Some.message c.answer-answer.result c.count-before.result i.going
           (record {
             takes = taken_first c.loop-message.frames c.skip.new.self c.in-Some.message c.in-Some.ensures.some c.skip.ensures.taken;
             answered = record { answered = e.answered; calls = e.calls; withstands = e.withstands; planned = e.planned; nothing = e.nothing };
@@ -45,8 +45,7 @@ loop-message-preserved g c =
             before_is = c.count-before.ensures;
             marked = ok_of c.end_commit.result _ (sym c.is_err.ensures.value ∙ c.if-is_err.false) c.end_commit.ensures.ok;
           })
-          (ok_of c.encode_answer.result _ (sym c.is_err-in-Some.ensures.value ∙ c.if-is_err-2.false) c.encode_answer.ensures.ok)
-          (sym c.asks_to_grow-is_alone.ensures ∙ c.is_full.ensures c.if-is_full.false);
+          (ok_of c.encode_answer.result _ (sym c.is_err-in-Some.ensures.value ∙ c.if-is_err-2.false) c.encode_answer.ensures.ok);
       follows = adds_then _ _ _ i.follows (adds_untouched g.D.Drive _ _ c.answer-answer.new.drive c.end_commit.new.drive c.end_commit.ensures.untouched e.answered.follows);
       lent = follows_then i.lent (follows_then (follows_any e.lent) (untouched_keeps c.answer-answer.new.drive c.end_commit.new.drive c.end_commit.ensures.untouched c.end_commit.ensures.gathering));
     }
@@ -56,7 +55,7 @@ loop-message-preserved-else-is_full g c =
     let i = c.loop-message.invariant in
     let e = c.answer-answer.ensures in
     record {
-      going = goes_on g.D.Drive _ c.loop-message.frames c.skip.new.self _ _ _ c.answer-answer.new.drive c.end_commit.new.drive _ _ _ _ _ c.in-Some.message c.answer-answer.result c.count-before.result c.loop-message.is_begun i.going
+      going = goes_on g.D.Drive _ c.loop-message.frames c.skip.new.self _ _ _ c.answer-answer.new.drive c.end_commit.new.drive _ _ _ _ _ c.in-Some.message c.answer-answer.result c.count-before.result i.going
           (record {
             takes = taken_first c.loop-message.frames c.skip.new.self c.in-Some.message c.in-Some.ensures.some c.skip.ensures.taken;
             answered = record { answered = e.answered; calls = e.calls; withstands = e.withstands; planned = e.planned; nothing = e.nothing };
@@ -67,8 +66,7 @@ loop-message-preserved-else-is_full g c =
             before_is = c.count-before.ensures;
             marked = ok_of c.end_commit.result _ (sym c.is_err.ensures.value ∙ c.if-is_err.false) c.end_commit.ensures.ok;
           })
-          (ok_of c.encode_answer.result _ (sym c.is_err-in-Some.ensures.value ∙ c.if-is_err-2.false) c.encode_answer.ensures.ok)
-          (sym c.asks_to_grow-is_alone.ensures ∙ c.is_full.ensures c.if-is_full.false);
+          (ok_of c.encode_answer.result _ (sym c.is_err-in-Some.ensures.value ∙ c.if-is_err-2.false) c.encode_answer.ensures.ok);
       follows = adds_then _ _ _ i.follows (adds_untouched g.D.Drive _ _ c.answer-answer.new.drive c.end_commit.new.drive c.end_commit.ensures.untouched e.answered.follows);
       lent = follows_then i.lent (follows_then (follows_any e.lent) (untouched_keeps c.answer-answer.new.drive c.end_commit.new.drive c.end_commit.ensures.untouched c.end_commit.ensures.gathering));
     }
@@ -78,7 +76,7 @@ loop-message-preserved-else-is_full-2 g c =
     let i = c.loop-message.invariant in
     let e = c.answer-answer.ensures in
     record {
-      going = goes_on g.D.Drive _ c.loop-message.frames c.skip.new.self _ _ _ c.answer-answer.new.drive c.end_commit.new.drive _ _ _ _ _ c.in-Some.message c.answer-answer.result c.count-before.result c.loop-message.is_begun i.going
+      going = goes_on g.D.Drive _ c.loop-message.frames c.skip.new.self _ _ _ c.answer-answer.new.drive c.end_commit.new.drive _ _ _ _ _ c.in-Some.message c.answer-answer.result c.count-before.result i.going
           (record {
             takes = taken_first c.loop-message.frames c.skip.new.self c.in-Some.message c.in-Some.ensures.some c.skip.ensures.taken;
             answered = record { answered = e.answered; calls = e.calls; withstands = e.withstands; planned = e.planned; nothing = e.nothing };
@@ -89,8 +87,7 @@ loop-message-preserved-else-is_full-2 g c =
             before_is = c.count-before.ensures;
             marked = ok_of c.end_commit.result _ (sym c.is_err.ensures.value ∙ c.if-is_err.false) c.end_commit.ensures.ok;
           })
-          (ok_of c.encode_answer.result _ (sym c.is_err-in-Some.ensures.value ∙ c.if-is_err-2.false) c.encode_answer.ensures.ok)
-          (sym c.asks_to_grow-is_alone.ensures ∙ c.is_full.ensures c.if-is_full.false);
+          (ok_of c.encode_answer.result _ (sym c.is_err-in-Some.ensures.value ∙ c.if-is_err-2.false) c.encode_answer.ensures.ok);
       follows = adds_then _ _ _ i.follows (adds_untouched g.D.Drive _ _ c.answer-answer.new.drive c.end_commit.new.drive c.end_commit.ensures.untouched e.answered.follows);
       lent = follows_then i.lent (follows_then (follows_any e.lent) (untouched_keeps c.answer-answer.new.drive c.end_commit.new.drive c.end_commit.ensures.untouched c.end_commit.ensures.gathering));
     }
@@ -101,7 +98,7 @@ returns-then-is_fault g c =
     let e = c.answer-answer.ensures in
     record {
       gathers = tt;
-      held = (frames_of i.going.gathering.told.answers, i.going.gathering.told.told);
+      held = (frames_of i.going.told.answers, i.going.told.told);
       follows = adds_then _ _ _ i.follows e.answered.follows;
       lent = follows_then i.lent (follows_any e.lent);
     }
@@ -112,7 +109,7 @@ returns-then-is_err g c =
     let e = c.answer-answer.ensures in
     record {
       gathers = tt;
-      held = (frames_of i.going.gathering.told.answers, i.going.gathering.told.told);
+      held = (frames_of i.going.told.answers, i.going.told.told);
       follows = adds_then _ _ _ i.follows (adds_untouched g.D.Drive _ _ c.answer-answer.new.drive c.end_commit.new.drive c.end_commit.ensures.untouched e.answered.follows);
       lent = follows_then i.lent (follows_then (follows_any e.lent) (untouched_keeps c.answer-answer.new.drive c.end_commit.new.drive c.end_commit.ensures.untouched c.end_commit.ensures.gathering));
     }
@@ -123,7 +120,7 @@ returns-then-is_err-2 g c =
     let e = c.answer-answer.ensures in
     let kept = err_of c.encode_answer.result _ (sym c.is_err-in-Some.ensures.value ∙ c.if-is_err-2.true) c.encode_answer.ensures.err in
     record {
-      gathers = goes_some g.D.Drive _ c.loop-message.frames c.skip.new.self _ _ _ c.answer-answer.new.drive c.end_commit.new.drive _ _ _ _ _ c.in-Some.message c.answer-answer.result c.count-before.result c.loop-message.is_begun i.going
+      gathers = goes_some g.D.Drive _ c.loop-message.frames c.skip.new.self _ _ _ c.answer-answer.new.drive c.end_commit.new.drive _ _ _ _ _ c.in-Some.message c.answer-answer.result c.count-before.result i.going
           (record {
             takes = taken_first c.loop-message.frames c.skip.new.self c.in-Some.message c.in-Some.ensures.some c.skip.ensures.taken;
             answered = record { answered = e.answered; calls = e.calls; withstands = e.withstands; planned = e.planned; nothing = e.nothing };
@@ -134,9 +131,8 @@ returns-then-is_err-2 g c =
             before_is = c.count-before.ensures;
             marked = ok_of c.end_commit.result _ (sym c.is_err.ensures.value ∙ c.if-is_err.false) c.end_commit.ensures.ok;
           })
-          kept
-          c.asks_to_grow-is_alone.result c.asks_to_grow-is_alone.ensures (not_both _ _ (sym c.comes_later.ensures ∙ c.if-comes_later.false));
-      held = (frames_of i.going.gathering.told.answers, kept ∙ i.going.gathering.told.told);
+          kept;
+      held = (frames_of i.going.told.answers, kept ∙ i.going.told.told);
       follows = adds_then _ _ _ i.follows (adds_untouched g.D.Drive _ _ c.answer-answer.new.drive c.end_commit.new.drive c.end_commit.ensures.untouched e.answered.follows);
       lent = follows_then i.lent (follows_then (follows_any e.lent) (untouched_keeps c.answer-answer.new.drive c.end_commit.new.drive c.end_commit.ensures.untouched c.end_commit.ensures.gathering));
     }
@@ -145,7 +141,7 @@ pub returns-then-is_full : goal.returns-then-is_full
 returns-then-is_full g c =
     let i = c.loop-message.invariant in
     let e = c.answer-answer.ensures in
-    let gathered = goes_full g.D.Drive _ c.loop-message.frames c.skip.new.self _ _ _ c.answer-answer.new.drive c.end_commit.new.drive _ _ _ _ _ c.in-Some.message c.answer-answer.result c.count-before.result c.loop-message.is_begun i.going
+    let gathered = goes_full g.D.Drive _ c.loop-message.frames c.skip.new.self _ _ _ c.answer-answer.new.drive c.end_commit.new.drive _ _ _ _ _ c.in-Some.message c.answer-answer.result c.count-before.result i.going
     (record {
       takes = taken_first c.loop-message.frames c.skip.new.self c.in-Some.message c.in-Some.ensures.some c.skip.ensures.taken;
       answered = record { answered = e.answered; calls = e.calls; withstands = e.withstands; planned = e.planned; nothing = e.nothing };
@@ -156,8 +152,7 @@ returns-then-is_full g c =
       before_is = c.count-before.ensures;
       marked = ok_of c.end_commit.result _ (sym c.is_err.ensures.value ∙ c.if-is_err.false) c.end_commit.ensures.ok;
     })
-    (ok_of c.encode_answer.result _ (sym c.is_err-in-Some.ensures.value ∙ c.if-is_err-2.false) c.encode_answer.ensures.ok)
-    c.asks_to_grow-is_alone.result c.asks_to_grow-is_alone.ensures (not_both _ _ (sym c.comes_later.ensures ∙ c.if-comes_later.false)) in
+    (ok_of c.encode_answer.result _ (sym c.is_err-in-Some.ensures.value ∙ c.if-is_err-2.false) c.encode_answer.ensures.ok) in
     record {
       gathers = gathered;
       held = (frames_of gathered.gathering.told.answers, gathered.gathering.told.told);
@@ -169,23 +164,8 @@ pub returns : goal.returns
 returns g c =
     let i = c.loop-message.invariant in
     record {
-      gathers = record { gathering = i.going.gathering; some = λ none. (search rules); alone = inl i.going.quiet };
-      held = (frames_of i.going.gathering.told.answers, i.going.gathering.told.told);
-      follows = i.follows;
-      lent = i.lent;
-    }
-
-pub returns-then-comes_later : goal.returns-then-comes_later
-returns-then-comes_later g c =
-    let i = c.loop-message.invariant in
-    let both = sym c.comes_later.ensures ∙ c.if-comes_later.true in
-    record {
-      gathers = record {
-        gathering = i.going.gathering;
-        some = λ none. absurd (some_there i.going.gathering.told.messages (sym (both_are _ _ both) ∙ i.going.begun_is) none);
-        alone = inl i.going.quiet;
-      };
-      held = (frames_of i.going.gathering.told.answers, i.going.gathering.told.told);
+      gathers = record { gathering = i.going; some = λ none. (search rules) };
+      held = (frames_of i.going.told.answers, i.going.told.told);
       follows = i.follows;
       lent = i.lent;
     }

@@ -12,8 +12,10 @@ loop-init g c = record {
   serving = serving_none _ _ _ _ _ c.new-frames.ensures;
   idle = subst (λ (r : Option (List ℕ)). IsIdle r) (sym c.new-frames.ensures) (inl (omega arith));
   goes = ([], c.new-frames.ensures);
+  some = c.first_room-room.ensures.some;
+  fits = c.first_room-room.ensures.fits;
   unfailed = refl;
-  ready = c.requires;
+  ready = c.requires.ready;
   lent = settles_none _ _;
 }
 
@@ -39,7 +41,7 @@ pub returns-then-is_over-clause-ok : goal.returns-then-is_over-clause-ok
 returns-then-is_over-clause-ok g c =
     let read = c.in_ok-count.ensures.ok in
     serving_over c.loop.frames c.read_on.new.frames c.answer_groups.new.frames _ _ _ _ _ _ _ (g.R.Read.remaining c.loop.reader.stream) _ _ (g.W.Write.contents c.loop.writer) _ read.piece
-    c.loop.invariant.serving c.loop.invariant.idle c.loop.invariant.goes (takes_piece _ _ _ _ _ read) (omega (arith, read.long, c.in_ok-count.ensures.bound))
+    c.loop.invariant.serving c.loop.invariant.idle c.loop.invariant.goes (takes_piece _ _ _ _ _ read) (omega (arith, read.long, c.in_ok-count.ensures.bound, c.loop.invariant.fits))
     read.taken (search rules) (search rules) (over _ (search rules))
 
 pub loop-preserved : goal.loop-preserved
@@ -50,6 +52,8 @@ loop-preserved g c =
           c.loop.invariant.serving (takes_piece _ _ _ _ _ read) read.taken (search rules);
       idle = search rules;
       goes = goes_on _ (search rules);
+      some = c.next_room-room.ensures.some;
+      fits = c.next_room-room.ensures.fits;
       unfailed = c.in_ok-count.ensures.failures ∙ c.loop.invariant.unfailed;
       ready = c.answer_groups.ensures.ready;
       lent = settles_then c.loop.invariant.lent c.answer_groups.ensures.lent;

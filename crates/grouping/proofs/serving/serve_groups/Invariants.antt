@@ -1,4 +1,4 @@
-use Rattle.std.proofs.Common.{◌≡◌, ℕ, List, Some}
+use Rattle.std.proofs.Common.{◌≡◌, ◌<◌, ◌≤◌, ℕ, List, Some}
 use Rattle.request.specs.Frames.{IsIdle}
 use Rattle.grouping.specs.Groups.{MaySettle}
 use Rattle.engine.specs.Situation.{IsReady, seen_on}
@@ -13,6 +13,8 @@ invariant-loop g l = record {
       (g.R.Read.remaining l.fn.reader.stream) (g.R.Read.remaining l.reader.stream) (g.W.Write.contents l.fn.writer) (g.W.Write.contents l.writer);
   idle : IsIdle l.frames;
   goes : (waiting : List ℕ) × (l.frames ≡ Some waiting);
+  some : 0 < l.room;
+  fits : l.room ≤ l.fn.most;
   unfailed : l.reader.failures ≡ l.fn.reader.failures;
   ready : IsReady (seen_on g.D.Drive l.engine l.drive);
   lent : MaySettle g.D.Drive 0 l.fn.drive l.drive;

@@ -68,7 +68,7 @@ returns c medium from blocks kept placed =
       size = size;
       body = (
         omega (arith, size_is, kept.size, length-append (kept_bytes medium f) new),
-        appended (kept_bytes medium f) new (udf.firsts f.kept) refl kept.size c.requires.some count kept.within refl more few first placed descriptors (firsts_grown (length new) first f.kept full fits) refl,
+        appended (kept_bytes medium f) new refl kept.size c.requires.some count kept.within refl more few first placed descriptors (firsts_grown (length new) first f.kept full fits) refl,
       );
       is = subst says c.from.ensures ((entries_agree (fields (IcbExtents descriptors) c.from.result) c.with_extent.result f.address).0 entry);
     }

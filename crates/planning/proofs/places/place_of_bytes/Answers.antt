@@ -8,7 +8,7 @@ use Rattle.table_update.specs.Outside.{outside}
 use Rattle.planning.proofs.places.place_of_bytes.Goals as goal
 
 pub returns-else-bytes-le-INSIDE_BYTES-clause-places : goal.returns-else-bytes-le-INSIDE_BYTES-clause-places
-returns-else-bytes-le-INSIDE_BYTES-clause-places c medium from blocks placed =
+returns-else-bytes-le-INSIDE_BYTES-clause-places c medium firsts from blocks placed =
     let bytes = c.args.bytes.now in
     let many : 1872 < length bytes = omega (arith, c.if-bytes-le-INSIDE_BYTES.false) in
     let all : outside bytes ≡ bytes = ap (λ b. if b then bytes else []) (lt-ltb 1872 (length bytes) many) in

@@ -68,6 +68,7 @@ returns-clause-writings c medium =
     λ i. record {
       address = e.address i;
       kept = full_size (e.kept i);
+      firsts = udf.firsts (e.kept i);
       stored = as_stored (e.unique i) m (Bytes (bytes_in_extents medium (full_size (e.kept i)) (udf.firsts (e.kept i)) ++ e.bytes i));
     } in
     ap (λ (w : Writing). w ∷ []) one ∙ sym (ap (new_file medium m) c.in-Some.is)

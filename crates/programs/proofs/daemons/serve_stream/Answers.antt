@@ -8,7 +8,7 @@ pub returns-in-Err-clause-goes : goal.returns-in-Err-clause-goes
 returns-in-Err-clause-goes g c = goes_none _ _
 
 pub returns-in-Ok-put_all-clause-goes : goal.returns-in-Ok-put_all-clause-goes
-returns-in-Ok-put_all-clause-goes g c = goes_served c.serve_groups-served.result _ _ _ _ _ _ _ _ c.serve_groups-served.ensures.ok c.serve_groups-served.ensures.left
+returns-in-Ok-put_all-clause-goes g c = goes_served _ c.serve_groups-served.result _ _ _ _ _ _ _ _ c.serve_groups-served.ensures.ok c.serve_groups-served.ensures.left
 
 pub returns-in-Ok-put_all-clause-all : goal.returns-in-Ok-put_all-clause-all
 returns-in-Ok-put_all-clause-all g c =
@@ -17,7 +17,7 @@ returns-in-Ok-put_all-clause-all g c =
     _ c.in-Ok-put_all.ensures.ok c.in-Ok-served.ensures.ok
 
 pub returns-in-Ok-served-clause-goes : goal.returns-in-Ok-served-clause-goes
-returns-in-Ok-served-clause-goes g c = goes_served c.serve_groups-served.result _ _ _ _ _ _ _ _ c.serve_groups-served.ensures.ok c.serve_groups-served.ensures.left
+returns-in-Ok-served-clause-goes g c = goes_served _ c.serve_groups-served.result _ _ _ _ _ _ _ _ c.serve_groups-served.ensures.ok c.serve_groups-served.ensures.left
 
 pub returns-in-Ok-served-clause-front : goal.returns-in-Ok-served-clause-front
 returns-in-Ok-served-clause-front g c =
@@ -26,7 +26,7 @@ returns-in-Ok-served-clause-front g c =
     _ _ c.in-Err-put_all.ensures.fault c.in-Err-put_all.ensures.err c.in-Ok-served.ensures.ok
 
 pub returns-in-Err-Write-clause-goes : goal.returns-in-Err-Write-clause-goes
-returns-in-Err-Write-clause-goes g c = goes_served c.serve_groups-served.result _ _ _ _ _ _ _ _ c.serve_groups-served.ensures.ok c.serve_groups-served.ensures.left
+returns-in-Err-Write-clause-goes g c = goes_served _ c.serve_groups-served.result _ _ _ _ _ _ _ _ c.serve_groups-served.ensures.ok c.serve_groups-served.ensures.left
 
 pub returns-in-Err-Write-clause-front : goal.returns-in-Err-Write-clause-front
 returns-in-Err-Write-clause-front g c =
@@ -35,7 +35,7 @@ returns-in-Err-Write-clause-front g c =
     streams.Write (err_of c.serve_groups-served.result _ streams.Write _ c.in-Err-Write.is (search rules) c.serve_groups-served.ensures.left)
 
 pub returns-clause-goes : goal.returns-clause-goes
-returns-clause-goes g c = goes_served c.serve_groups-served.result _ _ _ _ _ _ _ _ c.serve_groups-served.ensures.ok c.serve_groups-served.ensures.left
+returns-clause-goes g c = goes_served _ c.serve_groups-served.result _ _ _ _ _ _ _ _ c.serve_groups-served.ensures.ok c.serve_groups-served.ensures.left
 
 pub returns-clause-front : goal.returns-clause-front
 returns-clause-front g c =

@@ -17,11 +17,11 @@ use Rattle.recover.specs.Faults.{IsShortage}
 use Rattle.recover.specs.Walk.{last_of}
 use Rattle.recover.proofs.Extents.{extents_below}
 use Rattle.recover.proofs.Held.{length-held}
-use Rattle.lookup.specs.Ends.{EndsFile, KnowsExtents}
+use Rattle.lookup.specs.Ends.{EndsAsStored, EndsFile, KnowsExtents}
 use Rattle.lookup.specs.Lookups.{Looks}
 use Rattle.lookup.specs.declared.end.FileEnd.{FileEnd}
 use Rattle.lookup.specs.declared.nodes.Nodes.{Nodes}
-use Rattle.lookup.proofs.Ending.{ends_filled, ends_unfilled, full_place, knows_filled, knows_unfilled, stored_full}
+use Rattle.lookup.proofs.Ending.{ends_filled, ends_unfilled, full_place, knows_filled, knows_unfilled, placed_filled, placed_unfilled, stored_full}
 use Rattle.lookup.proofs.FileBytes.{has_bytes}
 use Rattle.lookup.proofs.FileSizes.{size_is}
 use Rattle.lookup.proofs.Looking.{of_file, refused_by}
@@ -49,6 +49,14 @@ returns-then-not-fills_extents-clause-read g c once honest s there file whole bo
     let within : at ≤ length (held J) = omega (arith, length-held J, c.args.self.now.within) in
     let size = size_is at J s there.fields entry entry.kind h same c.in-Ok.ensures.found.fits.place once c.in_ok-block.ensures.block.whole within whole body in
     ends_unfilled (take at (held J)) whole (record { size = entry.size; extents = c.none.result }) entry.size refl size (λ both. both_ways _ c.if-not-fills_extents.true (c.fills_extents.ensures.1 both)) c.none.ensures
+
+pub returns-then-not-fills_extents-clause-placed : goal.returns-then-not-fills_extents-clause-placed
+returns-then-not-fills_extents-clause-placed g c honest s there file =
+    let entry = c.in-Ok.entry in
+    let b = c.in_ok-block.ensures.block.block honest s there in
+    let ok = decoded c.in_ok-block.block there.block c.args.address there.fields c.decode_fe.result b.0 there.entry c.decode_fe.ensures.only in
+    let same = subst (λ r. IsOkAnd r (λ e. icb.fields_of e ≡ icb_fields there.fields)) c.in-Ok.is ok in
+    placed_unfilled there.fields entry (record { size = entry.size; extents = c.none.result }) same refl (λ both. both_ways _ c.if-not-fills_extents.true (c.fills_extents.ensures.1 both))
 
 pub returns-then-not-fills_extents-clause-extents : goal.returns-then-not-fills_extents-clause-extents
 returns-then-not-fills_extents-clause-extents g c =
@@ -94,6 +102,23 @@ returns-clause-read g c once honest s there file =
     (λ end size extents whole body.
     let long = size_is at J s there.fields entry entry.kind h same found.fits.place once c.in_ok-block.ensures.block.whole within whole body in
     ends_filled M s whole d end entry.size size extents long body stored_there)
+    c.end_in_extents.ensures.size c.end_in_extents.ensures.extents
+
+pub returns-clause-placed : goal.returns-clause-placed
+returns-clause-placed g c honest =
+    let entry = c.in-Ok.entry in
+    let d = c.entry_descriptors.result.now in
+    let found = c.in-Ok.ensures.found in
+    let filled = c.fills_extents.ensures.0 c.if-not-fills_extents.false in
+    let p = full_place entry.kind entry.size (icb.place_of entry.place) found.fits.place filled.0 filled.1 in
+    let is = c.entry_descriptors.ensures (icb.fields_of entry) c.args.address found refl p.0 in
+    let below = take c.args.self.now.nodes.vat_icb_address (held (g.D.Drive.journal c.args.self.now.drive.now)) in
+    of_file c.end_in_extents.result (λ (end : FileEnd). end.size ≡ entry.size) (λ (end : FileEnd). end.extents ≡ d) (EndsAsStored below c.args.self.now.nodes.numbers.now c.args.address)
+    (λ end size extents s there file.
+    let b = c.in_ok-block.ensures.block.block honest s there in
+    let ok = decoded c.in_ok-block.block there.block c.args.address there.fields c.decode_fe.result b.0 there.entry c.decode_fe.ensures.only in
+    let same = subst (λ r. IsOkAnd r (λ e. icb.fields_of e ≡ icb_fields there.fields)) c.in-Ok.is ok in
+    placed_filled there.fields entry end same found.fits.place size (extents ∙ is))
     c.end_in_extents.ensures.size c.end_in_extents.ensures.extents
 
 pub returns-clause-short : goal.returns-clause-short

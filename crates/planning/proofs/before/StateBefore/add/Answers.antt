@@ -100,7 +100,7 @@ returns-clause-does g c tree s few =
     let missing : found ≡ None = unlisted_yet found (length listed) c.args.self.now.node_count zero_by in
     let entry : Entry = record { kind = c.in_ok-kind.kind; virtual_address = c.free_address-address.result; unique = identity } in
     let free_is = c.free_address-address.ensures ∙ free_same (looks_then {n = 0} p q) in
-    let node : ℕ → List Writing = λ a. record { address = a; kept = 0; stored = as_stored identity moment (new_body parent.address (content_of_thing what)) } ∷ [] in
+    let node : ℕ → List Writing = λ a. record { address = a; kept = 0; firsts = []; stored = as_stored identity moment (new_body parent.address (content_of_thing what)) } ∷ [] in
     let M = held (g.D.Drive.journal a.drive.now) in
     let first = c.in_ok-kind.ensures.put M c.new-change.ensures.file c.new-change.ensures.directories ∙ ap node free_is in
     let put = c.in_ok-put_name.ensures.put in

@@ -5,9 +5,11 @@ use Rattle.model.specs.Operation.Operation.{Append}
 use Rattle.request.specs.declared.answer.Code.TheVariants as code
 use Rattle.recover.specs.declared.node.Node.{Node}
 use Rattle.planning.specs.Changes.{WritesFile}
-use Rattle.lookup.specs.Lookups.{free_seen, graph_seen}
+use Rattle.lookup.specs.Lookups.{below_seen, free_seen, graph_seen}
+use Rattle.drive.specs.Journal.{held}
 use Rattle.lookup.specs.Shows.{IsFound}
 use Rattle.lookup.proofs.Looking.{looks_failed, looks_then, refused_by, sees_before}
+use Rattle.planning.proofs.Keeping.{append_keeps, refused_keeps}
 use Rattle.planning.proofs.Replacing.{refuses}
 use Rattle.planning.proofs.Appending.{append_directory, append_file, append_missing, append_root, appends, end_there, no_directory_there, still_there}
 use Rattle.planning.proofs.before.StateBefore.append.Goals as goal
@@ -139,3 +141,57 @@ returns-clause-does g c tree moment identity once s =
 
 pub returns-clause-looks : goal.returns-clause-looks
 returns-clause-looks g c = looks_then {n = 0} c.in_ok-node.ensures.looks c.in_ok-end.ensures.looks
+
+pub returns-then-is_empty-clause-keeps : goal.returns-then-is_empty-clause-keeps
+returns-then-is_empty-clause-keeps g c tree moment once s =
+    let a = c.args.self.now.lookup in
+    refused_keeps (below_seen g.D.Drive a) a.nodes.numbers.now (held (g.D.Drive.journal a.drive.now)) moment code.Root c.refused.result c.refused.ensures
+
+pub returns-in_default-clause-keeps : goal.returns-in_default-clause-keeps
+returns-in_default-clause-keeps g c tree moment once s =
+    let a = c.args.self.now.lookup in
+    refused_keeps (below_seen g.D.Drive a) a.nodes.numbers.now (held (g.D.Drive.journal a.drive.now)) moment code.NotFound c.refused-in_default.result c.refused-in_default.ensures
+
+pub returns-then-is_directory-clause-keeps : goal.returns-then-is_directory-clause-keeps
+returns-then-is_directory-clause-keeps g c tree moment once s =
+    let a = c.args.self.now.lookup in
+    refused_keeps (below_seen g.D.Drive a) a.nodes.numbers.now (held (g.D.Drive.journal a.drive.now)) moment code.IsDirectory c.refused-then-is_directory.result c.refused-then-is_directory.ensures
+
+pub returns-then-not-ends_at-clause-keeps : goal.returns-then-not-ends_at-clause-keeps
+returns-then-not-ends_at-clause-keeps g c tree moment once s =
+    let a = c.args.self.now.lookup in
+    refused_keeps (below_seen g.D.Drive a) a.nodes.numbers.now (held (g.D.Drive.journal a.drive.now)) moment code.Exists c.refused-then-not-ends_at.result c.refused-then-not-ends_at.ensures
+
+pub returns-then-offset-from-clause-keeps : goal.returns-then-offset-from-clause-keeps
+returns-then-offset-from-clause-keeps g c tree moment once s =
+    let a = c.args.self.now.lookup in
+    refused_keeps (below_seen g.D.Drive a) a.nodes.numbers.now (held (g.D.Drive.journal a.drive.now)) moment code.TooMany c.refused-then-offset-from.result c.refused-then-offset-from.ensures
+
+pub returns-clause-keeps : goal.returns-clause-keeps
+returns-clause-keeps g c tree moment once s =
+    let a = c.args.self.now.lookup in
+    let p = c.in_ok-node.ensures.looks in
+    let s1 = sees_before a tree c.in_ok-end.ensures.looks s in
+    let path = c.args.names.now in
+    let node = c.in-Some.node in
+    let end = c.in_ok-end.end in
+    let here = subst (λ (o : Option Node). IsFound (graph_seen g.D.Drive a) tree path o) c.in-Some.is (c.in_ok-node.ensures.found tree s1).0 in
+    let kind = sym c.is_directory.ensures ∙ c.if-is_directory.false in
+    let (whole, body, ends) = end_there p path node here end kind once (λ o. c.in_ok-end.ensures.read o s.honest) in
+    let tests = both_are end.size c.args.offset (sym c.ends_at.ensures ∙ c.if-not-ends_at.false) in
+    let filled : end.size % FILE_BYTES ≡ 0 = subst (λ (n : ℕ). n % FILE_BYTES ≡ 0) (sym tests.0) tests.1 in
+    let f = c.grown-file.ensures in
+    let e = c.of_file.ensures in
+    let writes : WritesFile node end.extents c.args.bytes.now c.of_file.result = record {
+      file = c.grown-file.result;
+      file_is = e.file;
+      address = f.address;
+      unique = f.unique;
+      kept = f.kept;
+      bytes_are = f.bytes;
+      code = e.code;
+      directories = e.directories;
+      made = e.made;
+      removed = e.removed;
+    } in
+    append_keeps p path node here (no_directory_there p path node here kind) whole body end (c.in_ok-end.ensures.placed s.honest) c.in_ok-end.ensures.extents filled moment c.args.bytes.now c.of_file.result writes

@@ -16,6 +16,7 @@ returns-in-File-clause-put c medium none empty =
     (λ i. record {
       address = e.address i;
       kept = full_size (e.kept i);
+      firsts = udf.firsts (e.kept i);
       stored = as_stored (e.unique i) c.args.moment (Bytes (bytes_in_extents medium (full_size (e.kept i)) (udf.firsts (e.kept i)) ++ e.bytes i));
     } ∷ map directory_writing (empty i))
     ∙ sym (ap (λ (t : NewContent). new_writing c.args.address c.args.unique c.args.moment c.args.parent.address t ∷ []) c.in-File.is)

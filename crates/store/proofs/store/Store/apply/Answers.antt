@@ -20,7 +20,7 @@ use Rattle.table_update.specs.TableChange.{committed}
 use Rattle.store.proofs.Commits.{if_ok, makes_plan, plan_is, writes_plan, has_failed, goes_on, open_is_ok, some_is}
 use Rattle.store.proofs.Applying.{applies, full, plans_written, short, unwritten, withstands}
 use Rattle.store.proofs.Knowing.{does_at, few, knows_again, nodes, shows, takes}
-use Rattle.planning.specs.Last.{IsTakenBy}
+use Rattle.planning.specs.Last.{IsCounted, IsTakenBy}
 use Rattle.store.proofs.store.Store.apply.Goals as goal
 
 pub change-requires : goal.change-requires
@@ -134,7 +134,8 @@ returns-in_err-plan-clause-applies g c volume S honest knows going =
     let after_change = c.plan.ensures.reads.honest honest in
     let of_moment : c.unwrap-moment.result ≡ c.args.request.now.moment = some_is c.of.result c.unwrap-moment.result c.args.request.now.moment _ (search rules) c.of.ensures in
     let going_on = shows capacity volume J S store knows (g.D.Drive.honest c.change.new.drive) after_change in
-    let does = does_at capacity volume J S store knows r change c.unwrap-moment.result of_moment (c.in_ok-change.ensures.does S.tree knows.once going_on (record { count = nodes capacity volume J S store knows; few = few capacity volume J S store knows })) in
+    let counted : IsCounted _ S.tree = record { count = nodes capacity volume J S store knows; few = few capacity volume J S store knows } in
+    let does = does_at capacity volume J S store knows r change c.unwrap-moment.result of_moment (record { is = c.in_ok-change.ensures.does S.tree knows.once going_on counted; keeps = c.in_ok-change.ensures.keeps S.tree knows.once going_on counted }) in
     let taken = subst (λ (m : ℕ). IsTakenBy (held J) m c.in_ok-change.change (committed c.args.self.now.vat_icb_address c.args.request.now.client c.args.request.now.number (code_number c.in_ok-change.change.code) (view c.args.self.now.vat))) (sym of_moment) (takes capacity volume J S store knows r change does) in
     let refused : IsShortage p.0 ⊎ (p.0 ≡ Full) = subst (λ (f : StoreFault). IsShortage f ⊎ (f ≡ Full)) (sym p.2) (c.in_err-plan.ensures.refused (held J) taken) in
     let same = c.plan.ensures.reads.journal ∙ c.change.ensures.reads.journal in
@@ -156,7 +157,8 @@ returns-clause-applies g c volume S honest knows going =
     let after_change = c.plan.ensures.reads.honest after_plan in
     let of_moment : c.unwrap-moment.result ≡ c.args.request.now.moment = some_is c.of.result c.unwrap-moment.result c.args.request.now.moment _ (search rules) c.of.ensures in
     let going_on = shows capacity volume J S store knows (g.D.Drive.honest c.change.new.drive) after_change in
-    let does = does_at capacity volume J S store knows r change c.unwrap-moment.result of_moment (c.in_ok-change.ensures.does S.tree knows.once going_on (record { count = nodes capacity volume J S store knows; few = few capacity volume J S store knows })) in
+    let counted : IsCounted _ S.tree = record { count = nodes capacity volume J S store knows; few = few capacity volume J S store knows } in
+    let does = does_at capacity volume J S store knows r change c.unwrap-moment.result of_moment (record { is = c.in_ok-change.ensures.does S.tree knows.once going_on counted; keeps = c.in_ok-change.ensures.keeps S.tree knows.once going_on counted }) in
     let is : IsPlan (next_of J) capacity plan = plan_is J (g.D.Drive.journal c.change.new.drive) capacity (g.D.Drive.capacity c.change.new.drive) plan c.change.ensures.reads.journal c.change.ensures.reads.capacity c.in_ok-plan.ensures.plan in
     let makes : IsPlanOf c.args.self.now c.args.request.now change plan = makes_plan c.args.self.now _ c.args.request.now change plan c.unwrap-moment.result of_moment c.in_ok-plan.ensures.makes refl refl in
     let room = subst (λ (L : List Event). next_of L + change_need c.in_ok-change.change (begun c.args.self.now.vat_icb_address c.args.request.now.client c.args.request.now.number (code_number c.in_ok-change.change.code) c.in_ok-change.change.made (view c.args.self.now.vat)) ≤ c.args.self.now.capacity) c.change.ensures.reads.journal c.in_ok-plan.ensures.room in
@@ -177,7 +179,8 @@ returns-clause-withstands g c volume S honest knows =
     let after_change = c.plan.ensures.reads.honest after_plan in
     let of_moment : c.unwrap-moment.result ≡ c.args.request.now.moment = some_is c.of.result c.unwrap-moment.result c.args.request.now.moment _ (search rules) c.of.ensures in
     let going_on = shows capacity volume J S store knows (g.D.Drive.honest c.change.new.drive) after_change in
-    let does = does_at capacity volume J S store knows r change c.unwrap-moment.result of_moment (c.in_ok-change.ensures.does S.tree knows.once going_on (record { count = nodes capacity volume J S store knows; few = few capacity volume J S store knows })) in
+    let counted : IsCounted _ S.tree = record { count = nodes capacity volume J S store knows; few = few capacity volume J S store knows } in
+    let does = does_at capacity volume J S store knows r change c.unwrap-moment.result of_moment (record { is = c.in_ok-change.ensures.does S.tree knows.once going_on counted; keeps = c.in_ok-change.ensures.keeps S.tree knows.once going_on counted }) in
     let is : IsPlan (next_of J) capacity plan = plan_is J (g.D.Drive.journal c.change.new.drive) capacity (g.D.Drive.capacity c.change.new.drive) plan c.change.ensures.reads.journal c.change.ensures.reads.capacity c.in_ok-plan.ensures.plan in
     let makes : IsPlanOf c.args.self.now c.args.request.now change plan = makes_plan c.args.self.now _ c.args.request.now change plan c.unwrap-moment.result of_moment c.in_ok-plan.ensures.makes refl refl in
     let room = subst (λ (L : List Event). next_of L + change_need c.in_ok-change.change (begun c.args.self.now.vat_icb_address c.args.request.now.client c.args.request.now.number (code_number c.in_ok-change.change.code) c.in_ok-change.change.made (view c.args.self.now.vat)) ≤ c.args.self.now.capacity) c.change.ensures.reads.journal c.in_ok-plan.ensures.room in
@@ -209,7 +212,8 @@ returns-clause-planned g c volume S honest knows =
     let after_change = c.plan.ensures.reads.honest after_plan in
     let of_moment : c.unwrap-moment.result ≡ c.args.request.now.moment = some_is c.of.result c.unwrap-moment.result c.args.request.now.moment _ (search rules) c.of.ensures in
     let going_on = shows capacity volume J S store knows (g.D.Drive.honest c.change.new.drive) after_change in
-    let does = does_at capacity volume J S store knows r change c.unwrap-moment.result of_moment (c.in_ok-change.ensures.does S.tree knows.once going_on (record { count = nodes capacity volume J S store knows; few = few capacity volume J S store knows })) in
+    let counted : IsCounted _ S.tree = record { count = nodes capacity volume J S store knows; few = few capacity volume J S store knows } in
+    let does = does_at capacity volume J S store knows r change c.unwrap-moment.result of_moment (record { is = c.in_ok-change.ensures.does S.tree knows.once going_on counted; keeps = c.in_ok-change.ensures.keeps S.tree knows.once going_on counted }) in
     let is : IsPlan (next_of J) capacity plan = plan_is J (g.D.Drive.journal c.change.new.drive) capacity (g.D.Drive.capacity c.change.new.drive) plan c.change.ensures.reads.journal c.change.ensures.reads.capacity c.in_ok-plan.ensures.plan in
     let makes : IsPlanOf c.args.self.now c.args.request.now change plan = makes_plan c.args.self.now _ c.args.request.now change plan c.unwrap-moment.result of_moment c.in_ok-plan.ensures.makes refl refl in
     let room = subst (λ (L : List Event). next_of L + change_need c.in_ok-change.change (begun c.args.self.now.vat_icb_address c.args.request.now.client c.args.request.now.number (code_number c.in_ok-change.change.code) c.in_ok-change.change.made (view c.args.self.now.vat)) ≤ c.args.self.now.capacity) c.change.ensures.reads.journal c.in_ok-plan.ensures.room in
