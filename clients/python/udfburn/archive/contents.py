@@ -13,6 +13,7 @@ from ..protocol import Path, limits
 from ..protocol.units import Address, Commit, Moment, Size
 from ..reader import FileType, Medium, NoVolume, Run, State, StateNode, Volume
 from ..reader.basics import address_of, blocks_of
+from ..reader.group import counted_blocks
 from .batch import sound_length
 from .catalogue import Held, mebibytes_of
 from .errors import CannotStore, VolumeDiffers
@@ -138,6 +139,8 @@ class Contents:
         if length is not None:
             self.medium.blocks = min(self.medium.blocks, length // limits.BLOCK)
         try:
+            # Whoever writes next drops a group that was not settled.
+            self.medium.blocks = counted_blocks(self.medium)
             self._read()
         except NoVolume as error:
             self.medium.close()

@@ -122,6 +122,13 @@ class Medium:
         gone = tuple(at for at, block in blocks if block is None)
         return Run(b"".join(block or bytes(BLOCK) for _, block in blocks), gone)
 
+    def rest(self) -> bytes:
+        """The bytes after the last whole block, as far as the system gives them."""
+        try:
+            return b"" if self._map is not None else os.pread(self._file, BLOCK - 1, self.blocks * BLOCK)
+        except OSError:
+            return b""
+
     def pieces(self, start: Address, end: Address) -> Iterator[Tuple[Address, Run]]:
         """All blocks from one address to another, in pieces."""
         for address in map(Address, range(start, end, RUN_BLOCKS)):
