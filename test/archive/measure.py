@@ -108,7 +108,7 @@ def rates(case: Room, room: str, rounds: int) -> None:
     for part in range(8):
         make_flat(os.path.join(source, f"part{part}"), FILES // 8, part)
     server = Server(case)
-    ways: Dict[str, Way] = {"`add --each`, SQLite, 1 process": adding(room, source, "", 1, "--each")}
+    ways: Dict[str, Way] = {}
     for count in (1, 2, 4):
         ways[f"`add`, SQLite, {count} {'process' if count == 1 else 'processes'}"] = adding(room, source, "", count)
     for count in (1, 2, 4):

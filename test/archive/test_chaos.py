@@ -19,7 +19,7 @@ from typing import Callable, Dict, List, Set, Tuple
 from .support import HERE, LARGE, PATIENCE, Digests, WithArchive, await_programs, digests, environment, make_tree, words_of, write
 
 SAMPLE = 3
-"""Calls that are tried for each kind of failure without `--large`."""
+"""Calls that are tried for each kind of failure without `--large`, where a test names no other number."""
 
 ACTIONS = (0, errno.EIO, errno.ENOSPC)
 
@@ -29,6 +29,8 @@ class Chaos(WithArchive):
 
     library = ""
     capacity = "1700"
+    sample = SAMPLE
+    """Calls that are tried for each kind of failure."""
     folders: Tuple[str, ...] = ("archive", "source", "one", "two")
     """What each trial begins with, as it was kept."""
 
@@ -50,7 +52,7 @@ class Chaos(WithArchive):
         self.init("--copies", *self.copies, "--capacity", self.capacity, "--delete", "acknowledged")
         make_tree(self.source, 5, 1)
         self.add()
-        # A batch, and parts on two volumes.
+        # A group of small files, and parts on two volumes.
         make_tree(os.path.join(self.source, "more"), 9, 2)
         write(os.path.join(self.source, "big"), random.Random(3).randbytes(2_300_000))
         self.before = digests(self.source)
@@ -69,6 +71,10 @@ class Chaos(WithArchive):
             shutil.rmtree(self.path(folder))
             shutil.copytree(self.path("kept", folder), self.path(folder))
 
+    def watched(self) -> str:
+        """The folder, or the file, whose calls count."""
+        return self.room
+
     def command(self, *words: str) -> List[str]:
         """The words of a whole command line."""
         return [*words_of(*words), "--archive", self.archive]
@@ -76,7 +82,7 @@ class Chaos(WithArchive):
     def run_with(self, at: int, action: int, *words: str) -> Tuple[int, str, int]:
         """Runs a command with a failure at a call; gives its status, what it printed, and how many calls there were."""
         count = write(self.path("count"), bytes(8))
-        place = {"CHAOS_ROOM": self.room, "CHAOS_COUNT": count, "CHAOS_AT": str(at), "CHAOS_ACTION": str(action), "LD_PRELOAD": self.library}
+        place = {"CHAOS_ROOM": self.watched(), "CHAOS_COUNT": count, "CHAOS_AT": str(at), "CHAOS_ACTION": str(action), "LD_PRELOAD": self.library}
         done = subprocess.Popen(
             self.command(*words), env={**environment(), **place}, stdout=subprocess.PIPE, stderr=subprocess.STDOUT, text=True, start_new_session=True,
         )
@@ -99,7 +105,7 @@ class Chaos(WithArchive):
         self.assertGreater(calls, 20)
         chance = random.Random(62)
         every = range(1, calls + 1)
-        tried = [(at, action) for action in ACTIONS for at in (every if LARGE else sorted(chance.sample(every, SAMPLE)))]
+        tried = [(at, action) for action in ACTIONS for at in (every if LARGE else sorted(chance.sample(every, self.sample)))]
         met = failed = 0
         for at, action in tried:
             with self.subTest(command=words[0], at=at, action=errno.errorcode.get(action, "kill")):
@@ -167,6 +173,21 @@ class AddingWhole(Adding):
     """One volume has room for the file above a mebibyte, which takes several requests."""
 
     capacity = "6000"
+
+
+class AddingInGroups(Adding):
+    """The calls on the image alone, which gets many small files in few groups."""
+
+    capacity = "6000"
+    sample = 8
+
+    def setUp(self) -> None:
+        super().setUp()
+        make_tree(os.path.join(self.source, "groups"), 40, 4)
+        self.before = digests(self.source)
+
+    def watched(self) -> str:
+        return self.path("archive", "open", "T-000001.img")
 
 
 class Closing(Chaos):
@@ -287,7 +308,7 @@ class Getting(Chaos):
 
 class Adopting(Chaos):
     def test_adopt(self) -> None:
-        """In the place of an image that ends in a batch that was cut short."""
+        """In the place of an image to which an earlier version appended, and was cut short."""
         self.add()
         image, good = self.path("archive", "open", "T-000001.img"), self.path("good.img")
         shutil.copy(image, good)

@@ -32,9 +32,6 @@ def counted(name):
     return step
 for name in names:
     setattr(os, name, counted(name))
-from udfburn.archive import batch
-# What killed processes left in memory depends on what else runs, and its calls would be counted.
-batch.sweep = lambda *words: None
 from udfburn.archive.cli import main
 status = main(sys.argv[1:])
 print(count - left[0])
@@ -151,7 +148,7 @@ class Crashes(WithArchive):
         with open(image, "rb") as file:
             data = file.read()
         write(good, data)
-        # What was there: an image that ends in a batch that was cut short. And one whose bytes are not those that its ledger knows.
+        # What was there: an image to which an earlier version was appending. And one whose bytes are not those that its ledger knows.
         before = data + bytes(4096)
         write(image, before)
         write(image[: -len("img")] + "tail", b"%d\n" % len(data))

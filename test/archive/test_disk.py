@@ -1,4 +1,4 @@
-"""A disk that is full at each moment of a batch: nothing that was acknowledged is lost, no source is deleted too early, and the same
+"""A disk that is full at each moment of an `add`: nothing that was acknowledged is lost, no source is deleted too early, and the same
 command finishes once there is room."""
 
 from __future__ import annotations
@@ -6,7 +6,6 @@ from __future__ import annotations
 import os
 import random
 import shutil
-import unittest
 from typing import List
 
 from .support import LARGE, WithArchive, digests, make_tree
@@ -49,11 +48,11 @@ class FullDisk(WithArchive):
             shutil.rmtree(path)
             shutil.copytree(kept, path)
 
-    def trial(self, room: int, *words: str) -> int:
+    def trial(self, room: int) -> int:
         """Adds with so much room, which ends well or not; then there is room, and the same command finishes."""
         self.again()
         self.fill_but(room)
-        status = self.add("--delete-source", *words, status=None).status
+        status = self.add("--delete-source", status=None).status
         os.unlink(self.filler)
         left = digests(self.source)
         there = {os.fsencode(row["path"][len("/s/"):]): row["sha256"] for row in self.rows()}
@@ -62,7 +61,7 @@ class FullDisk(WithArchive):
         # The volume may be ahead of the catalogue, and never behind it.
         differs = [line["how"] for line in self.do("rebuild", "--dry-run").objects() if line["did"] == "differs"]
         self.assertLessEqual(set(differs), {"is on the volume, and was not in the catalogue"}, room)
-        self.add("--delete-source", *words)
+        self.add("--delete-source")
         self.assertEqual(digests(self.source), {}, room)
         self.assertEqual(self.get_all(), self.before, room)
         self.assertEqual(len(self.rows()), len(self.before), room)
@@ -70,21 +69,15 @@ class FullDisk(WithArchive):
         self.assertEqual([name for name in os.listdir(os.path.join(self.archive, "open")) if name.endswith(".tail")], [])
         return status
 
-    def rooms(self, *words: str) -> List[int]:
+    def rooms(self) -> List[int]:
         """The rooms that are tried."""
         high = 64 * STEP
-        while self.trial(high, *words):
+        while self.trial(high):
             high *= 2
         every = list(range(0, high, STEP))
         return sorted(random.Random(48).sample(every, min(TRIALS, len(every))))
 
-    def test_each_room_in_a_batch(self) -> None:
+    def test_each_room(self) -> None:
         self.begin()
         ended = [self.trial(room) for room in self.rooms()]
-        self.assertIn(1, ended)
-
-    @unittest.skipUnless(LARGE, "--large has it")
-    def test_each_room_one_by_one(self) -> None:
-        self.begin()
-        ended = [self.trial(room, "--each") for room in self.rooms("--each")]
         self.assertIn(1, ended)

@@ -14,7 +14,7 @@ from .support import LARGE, WithArchive, digests, kill, make_tree, standing_stil
 MACHINES = 4
 KILLS = 100 if LARGE else 12
 SERVER_KILLS = 10 if LARGE else 2
-FULL_BATCH = 512
+FULL_LIST = 512
 """Files after which the catalogue has some of them, where a run stores more."""
 
 
@@ -122,8 +122,8 @@ class Machines(OnServer):
 
     def test_a_volume_in_use_is_not_adopted(self) -> None:
         first, second = self.machine(1), self.machine(2)
-        make_tree(self.source, FULL_BATCH + 200, 3)
-        with standing_still(FULL_BATCH + 100, self.source, "--at", "/s", "--archive", first) as process:
+        make_tree(self.source, FULL_LIST + 200, 3)
+        with standing_still(FULL_LIST + 100, self.source, "--at", "/s", "--archive", first) as process:
             self.assertTrue(self.server.sql("SELECT 1 FROM file", "archive"))
             done = self.run_in(second, "adopt", "T-000001", status=1)
             self.assertIn("another process", done.errors)
@@ -131,9 +131,9 @@ class Machines(OnServer):
 
     def test_lost_claims_end_a_run(self) -> None:
         first = self.machine(1)
-        make_tree(self.source, FULL_BATCH + 400, 5)
+        make_tree(self.source, FULL_LIST + 400, 5)
         before = digests(self.source)
-        with standing_still(FULL_BATCH + 100, self.source, "--at", "/s", "--archive", first, "--delete-source") as process:
+        with standing_still(FULL_LIST + 100, self.source, "--at", "/s", "--archive", first, "--delete-source") as process:
             self.server.sql("SELECT pg_terminate_backend(pid) FROM pg_stat_activity WHERE datname = 'archive' AND state = 'idle in transaction'")
             kept = self.server.sql("SELECT id FROM file ORDER BY id", "archive")
             self.assertTrue(kept)

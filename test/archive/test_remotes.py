@@ -10,11 +10,11 @@ import subprocess
 import sys
 from hashlib import sha256
 from pathlib import Path
-from typing import Dict, List, Optional, Sequence, Tuple
+from typing import List, Optional, Sequence, Tuple
 
 from .servers import webdav
 from .support import HERE, PATIENCE, WithArchive, change, digests, environment, make_tree, start, wait_until, write
-from .test_batch import TORN
+from .test_tail import WithTail
 
 sys.path.insert(0, os.path.join(HERE, "..", "readers"))
 
@@ -261,17 +261,17 @@ for index in range(42):
 """Adds a file each time after the ledger was lost, so each is another client of the volume."""
 
 
-class Mounted(WithArchive):
+class Mounted(WithTail):
     """What a Linux kernel mounts beside sound volumes."""
 
     def test_as_linux_shows_it(self) -> None:
-        cut, before = self.cut_short()
+        cut = self.images()
         closed = self.many_clients()
         shown = linux_shows(self, [*cut, *((path, None) for path in closed)])
         for mount in shown[: len(cut)]:
             self.assertEqual(mount.refused, 0)
             found = {path[len(b"/data/s/"):]: sha256(node.data).hexdigest() for path, node in mount.nodes.items() if node.kind == "F" and path.startswith(b"/data/s/")}
-            self.assertEqual(found, before)
+            self.assertEqual(found, self.before)
         self.assertEqual([mount.refused for mount in shown[len(cut):]], [0] * len(closed))
         names = [path for mount in shown[len(cut):] for path in mount.nodes if path.startswith(b"/data/c/")]
         self.assertEqual(sorted(names), sorted(b"/data/c/f%d" % index for index in range(42)))
@@ -288,26 +288,6 @@ class Mounted(WithArchive):
                 os.unlink(os.path.join(archive, "open", name))
         self.run_in(archive, "close")
         return [os.path.join(archive, "closed", f"T-{number:06}.img") for number in (1, 2)]
-
-    def cut_short(self) -> "Tuple[List[Tuple[str, Optional[int]]], Dict[bytes, str]]":
-        """Images whose process was killed while it wrote a batch, with the last block that `status` names; and the files before it."""
-        self.init()
-        make_tree(self.source, 30, 1)
-        self.add()
-        before = {path: whole for path, (whole, _) in digests(self.source).items()}
-        make_tree(os.path.join(self.source, "more"), 40, 2)
-        shutil.copytree(self.archive, self.path("kept"))
-        images: List[Tuple[str, Optional[int]]] = []
-        for count in (0, 1, 50, 99, 101):
-            shutil.rmtree(self.archive)
-            shutil.copytree(self.path("kept"), self.archive)
-            words = ["add", self.source, "--at", "/s", "--archive", self.archive, "--quiet"]
-            done = subprocess.run([sys.executable, "-c", TORN, str(count), *words], env=environment(), capture_output=True, timeout=PATIENCE)
-            self.assertEqual(done.returncode, -9)
-            (told,) = self.volumes()[0]["attention"]
-            image = shutil.copy(os.path.join(self.archive, "open", "T-000001.img"), self.path(f"{count}.img"))
-            images.append((image, int(told.rpartition("lastblock=")[2])))
-        return images, before
 
 
 class Bags(WithArchive):

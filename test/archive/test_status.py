@@ -98,7 +98,7 @@ class Needs(WithCopies):
         self.assertRegex(older, "^T-000003: its image has [0-9]+ commits, and [0-9]+ were acknowledged: it is an older copy")
         write(image[:-4] + ".tail", b"4096\n")
         (cut,) = self.needed()
-        self.assertRegex(cut, "^T-000003: a batch is being written to it, or was cut short")
+        self.assertRegex(cut, "^T-000003: an earlier version was cut short while it appended to it")
 
     def test_an_age(self) -> None:
         self.age("volume", 100, 1)

@@ -96,7 +96,7 @@ class Whole(WithArchive):
 
 class Sizes(Whole):
     def test_one_file_each(self) -> None:
-        """Also in a bag, from the volumes alone, and beside small files in a batch."""
+        """Also in a bag, from the volumes alone, and beside small files."""
         self.init()
         for size in SIZES:
             self.write(f"f{size}", size)
@@ -147,7 +147,7 @@ class Sizes(Whole):
                 for size in SIZES:
                     self.write(f"d{index}/f{size}", size, index)
             with mock.patch.object(fill.Filler, "flush", measured):
-                status, output = self.run_here("--each")
+                status, output = self.run_here()
             self.assertEqual(status, 0, output)
             self.assertNotIn("=0", "".join(name for row in self.volumes() for name in files_of(self.image(int(row["volume"][2:])))))
             self.require_all()
@@ -159,7 +159,7 @@ class Sizes(Whole):
     def test_few_are_unfinished_at_once(self) -> None:
         """Each gets its name once its pieces are acknowledged, so the root has few names more."""
         self.init()
-        for index in range(8):
+        for index in range(24):
             self.write(f"f{index}", MEBIBYTE + 9, index)
         run, left, most = Client.run, [0], [0]
 
@@ -173,7 +173,7 @@ class Sizes(Whole):
         with mock.patch.object(Client, "run", counted):
             self.assertEqual(self.run_here()[0], 0)
         self.assertEqual(left[0], 0)
-        self.assertTrue(0 < most[0] <= 4, most)
+        self.assertTrue(0 < most[0] <= 16, most)
         self.require_all()
 
 

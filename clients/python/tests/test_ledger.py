@@ -16,10 +16,9 @@ from pathlib import Path
 from typing import Dict, List, Optional
 from unittest import mock
 
-from udfburn import Client
 from udfburn.base import errors as e
 from udfburn import protocol as p
-from udfburn.ledger.ledger import KnownVolume as Known, LOG_BYTES, Ledger, Lock, MemoryLedger, Pending, Reply
+from udfburn.ledger.ledger import KnownVolume as Known, LOG_BYTES, Ledger, Lock, Pending, Reply
 from udfburn.protocol.units import Commit, Moment
 from udfburn.wire.operations import Operation
 from udfburn.trees.tree import ImportOptions, put_all
@@ -46,28 +45,6 @@ class Ledgers(WithServer):
         timer.start()
         Ledger(self.ledger, wait=PATIENCE).close()
         timer.join()
-
-    def test_a_ledger_in_memory(self) -> None:
-        """What one in memory has of a volume is taken over by another ledger of the same client, which then goes on."""
-        with self.client() as client:
-            client.create("/before", b"0")
-            number = client.session().ledger.client
-        kept = MemoryLedger(number)
-        with Client(f"unix:{self.server.path}", ledger=kept, timeout=PATIENCE) as other:
-            for index in range(7):
-                other.create(f"/f{index}", b"%d" % index)
-            there = other.session().volume()
-            sent = kept.sent(there)
-            with closing(Ledger(self.ledger)) as ledger:
-                (volume,) = ledger.volumes()
-                ledger.take(volume, kept)
-                self.assertEqual([one.path for one in ledger.sent(volume)], ["/before"] + [f"/f{index}" for index in range(7)])
-                self.assertEqual(ledger.sent(volume)[1:], sent)
-                self.assertEqual(ledger.latest(volume), sent[-1].number)
-                self.assertEqual(ledger.pending(volume), [])
-        self.assertEqual(kept.files(), set())
-        with self.client() as client:
-            self.assertEqual(client.create("/after", b"1"), 9)
 
     def test_the_client_stays(self) -> None:
         first = Ledger(self.ledger)

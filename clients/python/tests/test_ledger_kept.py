@@ -1,4 +1,4 @@
-"""What a ledger keeps of numbers and images."""
+"""What a ledger keeps of numbers."""
 
 from __future__ import annotations
 
@@ -11,10 +11,10 @@ from contextlib import closing
 from unittest import mock
 
 from udfburn.base import errors as e
-from udfburn.ledger.ledger import GREATEST_NUMBER, Ledger, MemoryLedger, Pending, Reply
+from udfburn.ledger.ledger import GREATEST_NUMBER, Ledger, Pending, Reply
 from udfburn.ledger.reading import ledger_to_read
-from udfburn.ledger.records import NOT_KEPT, Identity, Mark
-from udfburn.protocol.units import Address, Commit, Moment
+from udfburn.ledger.records import NOT_KEPT
+from udfburn.protocol.units import Commit
 
 
 class Kept(unittest.TestCase):
@@ -30,15 +30,6 @@ class Kept(unittest.TestCase):
             for latest in (GREATEST_NUMBER - 64, GREATEST_NUMBER):
                 with self.assertRaisesRegex(e.LedgerError, "no numbers left"):
                     ledger.learn("two", latest)
-
-    def test_what_is_known_of_an_image_is_taken(self) -> None:
-        identity, mark = Identity("DISC", Moment(5), 60_000), Mark(Commit(7), Address(300), bytes(range(32)))
-        with closing(Ledger(self.path)) as ledger, closing(MemoryLedger(ledger.client)) as kept:
-            volume = kept.learn("way", 0)
-            ledger.take(ledger.learn("unknown", 0), kept)
-            kept.identify(volume, identity, mark)
-            ledger.take(ledger.learn("known", 0), kept)
-            self.assertEqual([(one.identity, one.mark) for one in ledger.volumes()], [(None, None), (identity, mark)])
 
     def test_a_ledger_that_a_disk_does_not_give(self) -> None:
         """A copy is read only where nothing can be written beside it."""

@@ -38,7 +38,6 @@ ALLOWED: Dict[str, Dict[str, str]] = {
     "base.streams": {"os.open": SYSTEM, "open": SYSTEM},
     "archive.adopt": {"os.path.isfile": KIND, "os.path.lexists": FOLDER},
     "archive.base": {"os.path.lexists": FOLDER, "sqlite3.connect": OWN},
-    "archive.batch": {"os.mkdir": OURS, "os.lstat": OURS, "shutil.rmtree": OURS, "open": OURS, "os.open": OURS},
     "archive.close": {"os.path.getsize": KIND, "os.path.isfile": KIND, "os.path.lexists": FOLDER, "tempfile.TemporaryDirectory": OURS, "open": OURS},
     "archive.commands": {"os.path.exists": KIND},
     "archive.config": {"os.listdir": KIND, "os.scandir": KIND},

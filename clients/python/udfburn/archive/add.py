@@ -38,8 +38,6 @@ class AddOptions(NamedTuple):
 
     delete_source: bool = False
     skip_odd: bool = False
-    each: bool = False
-    """Whether each file is acknowledged by itself, and not with its batch."""
     rules: Rules = Rules()
     trust_times: bool = False
     """Whether a file counts as read if an earlier run read it, and its times are the same."""
@@ -87,9 +85,7 @@ class Adder:
         with closing(claims):
             for _, path in sorted(wanted, key=lambda pair: pair[1]):
                 claims.path(path)
-            filler = Filler(
-                self.config, self.catalogue, claims, self.tell, run_text(wanted), self._kept, self._failed, not self.options.each,
-            )
+            filler = Filler(self.config, self.catalogue, claims, self.tell, run_text(wanted), self._kept, self._failed)
             filler.after = self._last_added(path for _, path in wanted)
             self.summary.failures += filler.refused.values()
             self.deleter.refused = self.repeats.content.refused = filler.refused

@@ -12,7 +12,6 @@ from ..local.sources import shown
 from ..protocol.units import Commit
 from ..wire.operations import now
 from . import same_rows
-from .batch import sound_length
 from .catalogue import STATE_CLOSED, STATE_FULL, STATE_NEW, STATE_OPEN, Catalogue, VolumeRow
 from .claims import Claims
 from .close import beside, own_sidecars
@@ -23,6 +22,7 @@ from .lag import forget_seen
 from .names import is_bundle, name_back
 from .remotes import Print, print_of_file
 from .same import rows_on
+from .tail import sound_length
 from .tell import Tell, plural
 from .volume import CLIENTS_MOST, LEDGER, OpenVolume, is_damaged
 

@@ -13,7 +13,6 @@ from ..local.sources import shown
 from ..protocol.units import Commit
 from ..wire.operations import now
 from . import same_rows
-from .batch import tail_note
 from .catalogue import Catalogue, Held, VolumeRow, image_of
 from .close import beside, known_rows, read_payload
 from .config import Config
@@ -25,6 +24,7 @@ from .names import is_bundle
 from .open_copies import Image, OpenCopies, opened_image
 from .remotes import remote_of
 from .same import count_of, rows_on
+from .tail import tail_note
 from .tell import Tell, plural, shown_path
 from .volume import LEDGER, look
 

@@ -75,7 +75,7 @@ def add_writers(subs: "Subs") -> None:
     add.add_argument("folder", nargs="+", metavar="FOLDER", help="a local folder or file")
     add.add_argument("--at", default="/", metavar="PATH", help="the path in the archive: a single FOLDER becomes PATH; if PATH ends with a slash, or there are several, each keeps its name below PATH (default: /)")
     add.add_argument("--delete-source", action="store_true", help="delete each local file, when archive.toml allows it")
-    add.add_argument("--each", action="store_true", help="write each file to the disk before the next one, instead of in batches: slower, and needs no memory for a copy of the volume")
+    add.add_argument("--each", action="store_true", help="changes nothing, and is accepted as before")
     add.add_argument("--skip-odd", action="store_true", help="leave out links, pipes, sockets and devices without counting them as failures")
     add.add_argument("--dry-run", action="store_true", help="print what would be stored, and change nothing")
     add.add_argument("--deletions", action="store_true", help="record which files below PATH are not at the source any more: they stay in the archive, and are shown only as of earlier times")

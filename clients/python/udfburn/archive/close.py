@@ -23,7 +23,6 @@ from ..wire.connection import find_program, run_program
 from ..wire.operations import Operation, now
 from . import same_rows
 from .bag import info, tag_manifest
-from .batch import locked
 from .bundle import is_sound, members_by_bundle
 from .bundle_mending import is_elsewhere, keep_members
 from .catalogue import Catalogue, Copy, Held, STATE_CLOSED, STATE_CLOSING, VolumeRow, image_of
@@ -37,6 +36,7 @@ from .parity import make as make_parity
 from .parity import parity_beside
 from .remotes import Print, Remote, print_of_file, remote_of
 from .same import count_of, rows_on
+from .tail import locked
 from .tell import Tell, plural, shown_path, stamp
 from .volume import OpenVolume
 

@@ -14,12 +14,12 @@ from ..protocol.units import Address, Commit, Moment, Size
 from ..reader import FileType, Medium, NoVolume, Run, State, StateNode, Volume
 from ..reader.basics import address_of, blocks_of
 from ..reader.group import counted_blocks
-from .batch import sound_length
 from .catalogue import Held, mebibytes_of
 from .errors import CannotStore, VolumeDiffers
 from .names import DESCRIPTION, kept_name, read_back, text_of
 from .older_parts import older_start
 from .schema import COMMITS, NUMBERS
+from .tail import sound_length
 
 TITLE = "udfburn-archive 1"
 """The first line of the text that each volume of an archive begins with; its number is that of the layout."""

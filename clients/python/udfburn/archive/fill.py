@@ -19,7 +19,7 @@ from .tell import Tell, plural, shown_path
 from .tree import PlannedTree
 from .volume import OpenVolume, open_new, own_volumes
 
-BATCH_FILES, BATCH_BYTES = 512, 64 * limits.FILE
+LIST_FILES, LIST_BYTES = 512, 64 * limits.FILE
 """Files, and their bytes, that are planned on a volume before they are sent."""
 
 OPEN_TO_WRITE = 4
@@ -35,11 +35,9 @@ Failed = Callable[[VolumeJob, str], None]
 class Filler:
     """The open volumes of a run."""
 
-    def __init__(
-        self, config: Config, catalogue: Catalogue, claims: Claims, tell: Tell, text: str, kept: OnKept, failed: Failed, batches: bool = True,
-    ):
+    def __init__(self, config: Config, catalogue: Catalogue, claims: Claims, tell: Tell, text: str, kept: OnKept, failed: Failed):
         self.config, self.catalogue, self.claims, self.tell, self.text = config, catalogue, claims, tell, text
-        self.kept, self.failed, self.batches = kept, failed, batches
+        self.kept, self.failed = kept, failed
         self.open: List[OpenVolume] = []
         self.planned: Dict[int, List[VolumeJob]] = {}
         self.weights: Dict[int, int] = {}
@@ -51,7 +49,7 @@ class Filler:
         """The run counts as begun after this moment, even where the clock is slow."""
         self._began: Optional[Moment] = None
         # What an earlier run left comes first, so that the catalogue has all that the volumes have.
-        for volume in own_volumes(config, catalogue, claims, batches, self.refused):
+        for volume in own_volumes(config, catalogue, claims, self.refused):
             self.open.append(volume)
 
     def close(self) -> None:
@@ -142,7 +140,7 @@ class Filler:
             volume.plan_marker(self.text, self._began)
 
     def _is_enough(self, volume: OpenVolume) -> bool:
-        return len(self.planned[volume.row.number]) >= BATCH_FILES or self.weights[volume.row.number] >= BATCH_BYTES
+        return len(self.planned[volume.row.number]) >= LIST_FILES or self.weights[volume.row.number] >= LIST_BYTES
 
     def _new(self) -> OpenVolume:
         """A new volume. Where there are too many open ones, what waits for the fullest is sent, and it takes no more."""
@@ -152,7 +150,7 @@ class Filler:
                 self.put(job.source.path[:-1], [job])
             if fullest in self.open:
                 self._full(fullest)
-        volume = open_new(self.config, self.catalogue, self.claims, self.batches)
+        volume = open_new(self.config, self.catalogue, self.claims)
         self.open.append(volume)
         self.tell.say_step(f"opened {volume.row.label}", did="opened", volume=volume.row.label)
         return volume
@@ -216,7 +214,7 @@ class Filler:
         done: List[VolumeJob] = []
         full = False
         try:
-            for outcome in volume.run(Sending(volume, jobs)):
+            for outcome in Sending(volume, jobs).run():
                 self._take(volume, outcome, done)
         except Full:
             full = True

@@ -1,7 +1,7 @@
 """A copy of an open image in a folder: it grows as the image does, by the blocks that were added.
 
-At every moment it is a beginning of the image. While blocks are appended a note beside it says how many of its bytes count, as beside
-the image itself while a batch is written: what is torn by a crash is cut off by the next run, and no reader sees it.
+At every moment it is a beginning of the image. While blocks are appended a note beside it says how many of its bytes count: what is torn by
+a crash is cut off by the next run, and no reader sees it.
 """
 
 from __future__ import annotations
@@ -17,8 +17,8 @@ from ..base.own_files import BytesTold, untold
 from ..local.saving import save_at, write_all
 from ..local.sources import shown
 from ..protocol import limits
-from .batch import tail_note
 from .errors import CopyDiffers, CopyFailed
+from .tail import tail_note
 
 Compared = Dict[str, Tuple[int, int, int]]
 """What was compared in this run of copies, by their names: which file, by its device and inode, and how many of its bytes."""

@@ -13,12 +13,12 @@ from ..base.disk import is_full
 from ..base.own_files import BytesTold, copy_file, untold
 from ..local.sources import shown
 from . import grow
-from .batch import tail_note
 from .catalogue import DISC, Catalogue
 from .errors import CopyFailed
 from .markers import Owner, opened_folder, require_taker
 from .rclone import RcloneRemote
 from .remote import UNREADABLE, Print, Remote, failed, forget, print_of, print_of_file, print_of_open
+from .tail import tail_note
 
 
 class FolderRemote(Remote):

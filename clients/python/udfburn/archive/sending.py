@@ -7,7 +7,6 @@ from typing import Deque, Dict, Iterator, Sequence, Set, Tuple
 
 from ..base.errors import Full
 from ..protocol import Code, Rename
-from ..trees.client import Client
 from ..wire.operations import Operation, Outcome
 from .job import Part, VolumeJob
 from .volume import OpenVolume
@@ -22,15 +21,9 @@ class Sending:
         self._ready: Deque[Tuple[VolumeJob, Part]] = deque()
         self._refused: Set[VolumeJob] = set()
 
-    def size(self) -> int:
-        """The bytes that are sent."""
-        return sum(job.planned_bytes() for job in self.jobs)
-
-    def run(self, client: Client) -> Iterator[Outcome]:
-        """Does all requests, from the first one on."""
-        self._replied, self._refused = {}, set()
-        self._ready.clear()
-        full = None
+    def run(self) -> Iterator[Outcome]:
+        """Does all requests. An outcome comes once its reply is in the ledger."""
+        client, full = self.volume.client, None
         try:
             for outcome in client.run(self._operations()):
                 self._take(outcome)

@@ -10,7 +10,6 @@ from typing import Dict, List, NamedTuple, Optional, Sequence
 from ..base.errors import UsageError
 
 from ..protocol import limits
-from .batch import sound_length
 from .catalogue import FILE_COLUMNS, STATE_CLOSED, STATE_CLOSING, STATE_FULL, STATE_NEW, STATE_RETIRED, Catalogue, Copy, Held, VolumeRow, folder_back, held_row, image_of, is_whole
 from .config import Config, volume_label
 from .errors import LOST, VolumeDiffers
@@ -18,6 +17,7 @@ from .lag import Lag, lags, seen_copies
 from .open_copies import GROWING
 from .same_rows import WithoutBytes
 from .same_rows import lacking as without_bytes
+from .tail import sound_length
 from .tell import plural, shown_path
 from .tree import GREATEST_MANIFEST, most_nodes
 from .volume import look
@@ -166,8 +166,8 @@ def days(count: int) -> str:
     return plural(count // UNITS["d"], "day", "days") if count >= 2 * UNITS["d"] else plural(count // HOUR, "hour", "hours")
 
 
-def batch_words(config: Config, row: VolumeRow) -> List[Need]:
-    """What is to be known of an open image that a batch is being added to, or was when its process was killed."""
+def tail_words(config: Config, row: VolumeRow) -> List[Need]:
+    """What is to be known of an open image to which an earlier version was appending when it was killed."""
     image = image_of(config, row)
     try:
         length = None if image is None else sound_length(image)
@@ -176,7 +176,7 @@ def batch_words(config: Config, row: VolumeRow) -> List[Need]:
     if length is None:
         return []
     where = f"lastblock={length // limits.BLOCK - 1}"
-    return [Need("cut_short", f"a batch is being written to it, or was cut short: run 'add' before you mount it, or mount it with {where}")]
+    return [Need("cut_short", f"an earlier version was cut short while it appended to it: run 'add' before you mount it, or mount it with {where}")]
 
 
 def damaged(config: Config, row: VolumeRow) -> List[Need]:
@@ -207,7 +207,7 @@ def lines(config: Config, catalogue: Catalogue, stale: int = STALE) -> List[Volu
         lost = is_lost(row, config, at_hand, places.get(row.number))
         needed = [Need("lost", loss(row, have, config))] if lost else []
         lagging = lags(catalogue, row, seen, config.copies) if own and row.state in GROWING and row.files else []
-        needed += needs(row, at_hand, have, config, now, stale) + behind(lagging, now, stale) + (batch_words(config, row) or damaged(config, row))
+        needed += needs(row, at_hand, have, config, now, stale) + behind(lagging, now, stale) + (tail_words(config, row) or damaged(config, row))
         found.append(VolumeStatus(row, state, at_hand, fullness(row, config.nodes), have, needed, places.get(row.number), lagging))
     return sorted(found, key=lambda line: (not line.needs, line.row.number))
 

@@ -3,25 +3,23 @@
 from __future__ import annotations
 
 import os
-from contextlib import closing
-from typing import TYPE_CHECKING, Dict, Iterator, List, NamedTuple, Optional, Tuple
+from contextlib import ExitStack, closing
+from typing import Dict, Iterator, NamedTuple, Optional
 
-from ..base.errors import ConnectionFailed, Damaged, DiskFull, DriveFailed, Full, NumberUsedElsewhere, OutOfMemory, ProgramFailed, UsageError, WrongVolume
+from ..base.errors import Damaged, NumberUsedElsewhere, ProgramFailed, UsageError, WrongVolume
 from ..base.manifest import PAYLOAD_FOLDER
 from ..base.own_files import move, new as new_file, remove
 from ..base.unfinished import is_unfinished
 from ..image.blocks import Space
 from ..ledger.digests import Files
-from ..ledger.ledger import KnownVolume, Ledger, MemoryLedger
 from ..protocol import Code, Create, MakeDir, Path, Remove, limits
 from ..protocol.units import Address, Commit, Moment
 from ..reader import FileType
 from ..trees.client import Client
 from ..wire.connection import find_program, run_program
-from ..wire.operations import Operation, Outcome, now
+from ..wire.operations import Operation, now
 from . import same_rows
 from .bag import manifest_size
-from .batch import Batch, NoBatch, cut_tail, has_room, is_worth, memory_folder, sound_length
 from .bundle import lists_on
 from .catalogue import STATE_NEW, STATE_OPEN, Catalogue, VolumeRow, image_of, is_whole
 from .claims import Claims
@@ -31,12 +29,10 @@ from .deletions import events_on, replace_events
 from .errors import LOST, CatalogueError, VolumeDiffers
 from .same import count_of, rows_on
 from .schema import NUMBERS
+from .tail import cut_tail, sound_length
 from .tell import plural, stamp
 from .tree import PlannedTree
 from .unfinished import Unfinished
-
-if TYPE_CHECKING:
-    from .sending import Sending
 
 RUNS_MOST = 480
 """Runs that write to one volume, at most: each has a text in one folder."""
@@ -90,14 +86,13 @@ the place that has them. A closed volume is a bag of RFC 8493:
 class OpenVolume:
     """A volume that this process writes. It has a claim on it."""
 
-    def __init__(self, config: Config, catalogue: Catalogue, row: VolumeRow, batches: bool = True):
+    def __init__(self, config: Config, catalogue: Catalogue, row: VolumeRow):
         self.config, self.catalogue, self.row = config, catalogue, row
-        folder = memory_folder() if batches else None
-        self.copy = os.path.join(folder, f"{row.number}.img") if folder is not None else None
         self.program = find_program()
         self.image = config.path("open", row.label + ".img")
         self.ledger = config.path("open", row.label + ".ledger")
         self.client = Client(f"image:{self.image}", ledger=self.ledger, program=self.program)
+        self._held = ExitStack()
         self.marker: Optional[Operation] = None
         self._sent = False
         self.began, self.last_commit, self.runs = Moment(0), Commit(0), 0
@@ -138,13 +133,14 @@ class OpenVolume:
     # ---- taken up
 
     def take_up(self) -> None:
-        """Finishes what an earlier process began, and has the catalogue agree with the volume."""
+        """Finishes what an earlier process began, and has the catalogue agree with the volume. Nobody else has the image until `close`."""
         self.make()
         self._cut()
+        self._held.enter_context(self.client.held())
         try:
             self.client.resume()
         except NumberUsedElsewhere:
-            # A batch is on the image, and the ledger does not have its replies. All else that it knows of the image is so.
+            # An earlier version was killed between what it appended and its ledger. All else that this knows of the image is so.
             self.client.forget()
         except WrongVolume as error:
             raise VolumeDiffers(
@@ -162,7 +158,7 @@ class OpenVolume:
         self.load()
 
     def _cut(self) -> None:
-        """Takes off what a batch left that was cut short."""
+        """Takes off what an earlier version appended and was cut short."""
         if sound_length(self.image) is not None:
             with closing(Contents(self.image)) as contents:
                 self.require_own(contents)
@@ -286,53 +282,10 @@ class OpenVolume:
 
     # ---- written
 
-    def run(self, sending: "Sending") -> Iterator[Outcome]:
-        """Stores files. An outcome comes once it is durable: with all others of the batch, or, where the files are few or large or there
-        is no room in memory, by itself."""
-        if self.copy is not None and is_worth(len(sending.jobs), sending.size(), self.tree.space.next * limits.BLOCK):
-            try:
-                done, full = self._batch(self.copy, sending)
-            except NoBatch:
-                self.copy = None
-            else:
-                yield from done
-                if full is not None:
-                    raise full
-                return
-        yield from sending.run(self.client)
-
-    def _batch(self, copy: str, sending: "Sending") -> Tuple[List[Outcome], Optional[Full]]:
-        """Stores files on a copy of the image, adds its tail to the image, and has the ledger keep the replies."""
-        ledger, volume = self._in_ledger()
-        if volume is None or not has_room(os.path.dirname(copy), self.tree.space.next * limits.BLOCK):
-            raise NoBatch(f"{copy}: no room")
-        done: List[Outcome] = []
-        full: Optional[Full] = None
-        with Batch(self.image, copy) as batch, closing(MemoryLedger(ledger.client)) as kept:
-            with Client(f"image:{copy}", ledger=kept, program=self.program, patience=0.0) as client:
-                try:
-                    for outcome in sending.run(client):
-                        # The bytes are in the copy.
-                        done.append(outcome._replace(operation=outcome.operation._replace(data=b"")))
-                except Full as error:
-                    full = error
-                except (ConnectionFailed, DiskFull, DriveFailed, OutOfMemory) as error:
-                    raise NoBatch(str(error)) from error
-                if kept.begun(client.session().volume()) != ledger.latest(volume):
-                    raise VolumeDiffers(f"{self.image}: has other requests than its ledger: run the command again")
-                client.line.drop()
-                batch.add_tail()
-                ledger.take(volume, kept)
-        return done, full
-
-    def _in_ledger(self) -> "Tuple[Ledger, Optional[KnownVolume]]":
-        """The ledger, and the volume as it knows it."""
-        ledger = self.client.session().ledger
-        return ledger, ledger.volume(self.client.endpoint.key())
-
     def sent(self) -> Dict[int, bytes]:
         """The SHA-256 of each file that the ledger sent, by the commit that wrote it."""
-        ledger, known = self._in_ledger()
+        ledger = self.client.session().ledger
+        known = ledger.volume(self.client.endpoint.key())
         return {} if known is None else {commit: file.sha256 for commit, file in Files(ledger, known).by_commit.items()}
 
     def plan_marker(self, text: str, began: Moment) -> None:
@@ -357,7 +310,8 @@ class OpenVolume:
         self.tree.space.next = Address(os.path.getsize(self.image) // limits.BLOCK)
 
     def close(self) -> None:
-        """Gives the ledger back."""
+        """Gives the image and the ledger back."""
+        self._held.close()
         self.client.close()
 
 
@@ -379,7 +333,7 @@ class Look(NamedTuple):
 
 
 def look(image: str) -> Look:
-    """Looks at a few blocks of an image, and not at those that a batch is adding."""
+    """Looks at a few blocks of an image, if all of them count."""
     if sound_length(image) is not None:
         return Look(False)
     try:
@@ -409,7 +363,7 @@ def new_row(config: Config, catalogue: Catalogue) -> VolumeRow:
     return row
 
 
-def own_volumes(config: Config, catalogue: Catalogue, claims: Claims, batches: bool, refused: Dict[int, str]) -> Iterator[OpenVolume]:
+def own_volumes(config: Config, catalogue: Catalogue, claims: Claims, refused: Dict[int, str]) -> Iterator[OpenVolume]:
     """The open volumes of this archive's folder that no other process has, each claimed and taken up. `refused` gets the numbers of
     those that cannot be, with why: nothing is written to them, and the others are as good without them."""
     for row in catalogue.volumes():
@@ -420,7 +374,7 @@ def own_volumes(config: Config, catalogue: Catalogue, claims: Claims, batches: b
                 raise CatalogueError(f"{fresh.label} is closed, which the catalogue does not know: it is older than the volumes: {REBUILD}")
             if fresh is not None and (fresh.state == STATE_NEW or fresh.state == STATE_OPEN and image_of(config, fresh)):
                 try:
-                    volume = taken_up(OpenVolume(config, catalogue, fresh, batches))
+                    volume = taken_up(OpenVolume(config, catalogue, fresh))
                 except VolumeDiffers as error:
                     refused[fresh.number] = str(error)
                 else:
@@ -432,13 +386,13 @@ def is_closed(config: Config, row: VolumeRow) -> bool:
     return os.path.lexists(config.path("closed", row.label + ".img"))
 
 
-def open_new(config: Config, catalogue: Catalogue, claims: Claims, batches: bool = True) -> OpenVolume:
+def open_new(config: Config, catalogue: Catalogue, claims: Claims) -> OpenVolume:
     """A new volume. One that another process, which began just now, took up before it was claimed is left to that one."""
     while True:
         row = new_row(config, catalogue)
         fresh = catalogue.volume(row.number) if claims.try_volume(row.number) else None
         if fresh is not None and fresh.state == STATE_NEW:
-            return taken_up(OpenVolume(config, catalogue, fresh, batches))
+            return taken_up(OpenVolume(config, catalogue, fresh))
 
 
 def taken_up(volume: OpenVolume) -> OpenVolume:

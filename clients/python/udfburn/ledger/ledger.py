@@ -337,16 +337,6 @@ class Ledger:
         with self._transaction():
             self._base.executemany(NO_ORIGIN, [(*origin_row(GIVEN_UP), frame_place(volume.id, pending.number)) for pending in waiting])
 
-    def take(self, volume: KnownVolume, other: "MemoryLedger") -> None:
-        """Keeps all that a ledger in memory has of a volume, as one: requests, their replies, and the commit that it is known by."""
-        theirs, *_ = other.volumes()
-        columns = ", ".join(SENT_COLUMNS)
-        rows = other._base.execute(f"SELECT {columns} FROM request WHERE volume = ? AND code IS NOT NULL", (theirs.id,)).fetchall()
-        with self._transaction():
-            self._base.executemany(f"INSERT INTO request (volume, {columns}) VALUES (?{', ?' * len(SENT_COLUMNS)})", [(volume.id, *row) for row in rows])
-            if theirs.identity is not None and theirs.mark is not None:
-                self._base.execute(IDENTIFIED, (*theirs.identity, *theirs.mark, volume.id))
-
     def history(self, volume: KnownVolume) -> List[Tuple[int, str, Optional[int], Optional[Commit], bool]]:
         """Each request that is kept: number, path, code, commit, and whether the tree agreed."""
         return [(sent.number, sent.path, sent.code, sent.commit, sent.confirmed) for sent in self.sent(volume)]
@@ -357,28 +347,6 @@ class Ledger:
         return [
             Sent(n, path, row_facts(path, facts), None if code == NOT_KEPT else code, commit, bool(ok)) for n, path, code, commit, ok, *facts in rows
         ]
-
-
-class MemoryLedger(Ledger):
-    """A ledger that ends with its process: for requests to a copy of an image that ends with it too. What it says of them is taken
-    over by the ledger of the image, where the copy's blocks are."""
-
-    def __init__(self, client: int):
-        self.path, self.client = ":memory:", client
-        self._base = sqlite3.connect(self.path, isolation_level=None)
-        for statement in statements(SCHEMA):
-            self._base.execute(statement)
-        self._base.execute("INSERT INTO ledger VALUES (?, ?)", (LEDGER_VERSION, str(client)))
-        # There is no log to make room in.
-        self._roomy = True
-
-    def files(self) -> Set[Tuple[int, int]]:
-        """None."""
-        return set()
-
-    def close(self) -> None:
-        """Forgets all."""
-        self._base.close()
 
 
 def volume_of(row: Sequence[Any]) -> KnownVolume:
@@ -395,4 +363,4 @@ def pending_of(row: Sequence[Any]) -> Pending:
     return Pending(number, payload, path, row_facts(path, tuple(rest[: len(FACTS)])), row_origin(tuple(rest[len(FACTS) :])))
 
 
-__all__ = ["KnownVolume", "LOG_BYTES", "Ledger", "Lock", "MemoryLedger", "Pending", "Reply", "default_path"]
+__all__ = ["KnownVolume", "LOG_BYTES", "Ledger", "Lock", "Pending", "Reply", "default_path"]
