@@ -1,8 +1,8 @@
 """Measures the archive, and prints rows for docs/MEASURED.md: `python3 -m archive.measure [--rounds N] [--folder DIR] [PART..]`.
 
 It is run from test/, with UDFBURN. The parts are `rates` (one tree stored by one, two and four processes, with SQLite and with
-PostgreSQL, beside restic and borg, in turn), `find` (10^7 rows in SQLite), `find-postgresql` (2 x 10^6) and `rebuild` (50 volumes).
-DIR is on the disk that is measured.
+PostgreSQL, beside restic and borg, in turn; where UDFBURN_LIBRARY names the C library, by that too), `find` (10^7 rows in SQLite),
+`find-postgresql` (2 x 10^6) and `rebuild` (50 volumes). DIR is on the disk that is measured.
 """
 
 from __future__ import annotations
@@ -109,6 +109,8 @@ def rates(case: Room, room: str, rounds: int) -> None:
         make_flat(os.path.join(source, f"part{part}"), FILES // 8, part)
     server = Server(case)
     ways: Dict[str, Way] = {}
+    if os.environ.get("UDFBURN_LIBRARY"):
+        ways["`add --library`, SQLite, 1 process"] = adding(room, source, "", 1, "--library")
     for count in (1, 2, 4):
         ways[f"`add`, SQLite, {count} {'process' if count == 1 else 'processes'}"] = adding(room, source, "", count)
     for count in (1, 2, 4):

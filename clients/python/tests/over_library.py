@@ -11,8 +11,10 @@ import os
 import shutil
 import subprocess
 import sys
+import time
 import unittest
 from typing import List
+from unittest import mock
 
 from udfburn import Client
 from udfburn.base import errors as e
@@ -217,6 +219,66 @@ class Commands(WithLibrary):
             client.create("/a", b"a")
         self.serve()
         self.assertEqual(self.library_words("get", "/a", "-"), "a")
+
+
+@unittest.skipIf(sys.version_info < (3, 11), "the archive takes Python 3.11")
+class Archive(WithLibrary):
+    """`udfburn-archive add --library`."""
+
+    def setUp(self) -> None:
+        super().setUp()
+        self.files = {f"d{index % 3}/f{index}": os.urandom(index * 50) for index in range(90)}
+        self.files["photo"] = os.urandom(2_300_000)
+        for name, data in self.files.items():
+            self.write(f"source/{name}", data)
+        self.run_archive("init", os.path.join(self.room, "archive"), "--label", "T")
+
+    def archive_words(self, *words: str) -> List[str]:
+        place = [] if words[0] == "init" else ["--archive", os.path.join(self.room, "archive")]
+        return [sys.executable, "-m", "udfburn.archive", *words, *place, "--json"]
+
+    def run_archive(self, *words: str, status: int = 0) -> str:
+        done = subprocess.run(self.archive_words(*words), env=self.environment(), capture_output=True, text=True, check=False)
+        self.assertEqual(done.returncode, status, done.stdout + done.stderr)
+        return done.stdout + done.stderr
+
+    def add(self, *words: str) -> "dict[str, int]":
+        found: "dict[str, int]" = json.loads(self.run_archive("add", os.path.join(self.room, "source"), "--at", "/s", *words).splitlines()[-1])
+        return found
+
+    def require_all(self, folder: str) -> None:
+        """Each file comes back as it was, and `rebuild` finds no difference."""
+        self.run_archive("get", "/s", os.path.join(self.room, folder))
+        self.assertEqual({name: self.read(f"{folder}/s/{name}") for name in self.files}, self.files)
+        self.assertEqual(json.loads(self.run_archive("rebuild").splitlines()[-1])["differences"], 0)
+
+    def test_by_turns_with_the_program(self) -> None:
+        self.assertEqual(self.add("--library")["files"], len(self.files))
+        self.require_all("one")
+        for index, words in enumerate(((), ("--library",), ())):
+            self.files[f"new{index}"] = b"%d" % index
+            self.write(f"source/new{index}", self.files[f"new{index}"])
+            self.assertEqual(self.add(*words)["files"], 1)
+        self.require_all("two")
+        self.run_archive("close")
+        self.run_archive("check", "--data")
+
+    def test_killed(self) -> None:
+        """At any moment, and then finished by the program."""
+        for turn in range(8):
+            process = subprocess.Popen(
+                self.archive_words("add", os.path.join(self.room, "source"), "--at", "/s", "--library"), env=self.environment(), stdout=subprocess.DEVNULL,
+            )
+            time.sleep(0.1 + 0.1 * turn)
+            process.kill()
+            process.wait()
+        self.add()
+        self.require_all("back")
+
+    def test_none_is_installed(self) -> None:
+        with mock.patch.dict(os.environ, UDFBURN_LIBRARY="/nonexistent.so"):
+            self.assertIn("cannot be loaded", self.run_archive("add", os.path.join(self.room, "source"), "--library", status=2))
+        self.assertEqual(self.add()["files"], len(self.files))
 
 
 class Killed(test_kills.ClientKilled):

@@ -49,6 +49,8 @@ class AddOptions(NamedTuple):
     """Whether files are stored also if the archive has their bytes."""
     bundle: bool = False
     """Whether the small files of a folder are stored in bundles, where they are many."""
+    library: bool = False
+    """Whether volumes are written in this process, with the C library."""
 
 
 class AddSummary:
@@ -85,7 +87,9 @@ class Adder:
         with closing(claims):
             for _, path in sorted(wanted, key=lambda pair: pair[1]):
                 claims.path(path)
-            filler = Filler(self.config, self.catalogue, claims, self.tell, run_text(wanted), self._kept, self._failed)
+            filler = Filler(
+                self.config, self.catalogue, claims, self.tell, run_text(wanted), self._kept, self._failed, self.options.library,
+            )
             filler.after = self._last_added(path for _, path in wanted)
             self.summary.failures += filler.refused.values()
             self.deleter.refused = self.repeats.content.refused = filler.refused

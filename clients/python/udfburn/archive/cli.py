@@ -27,7 +27,8 @@ EPILOG = """examples:
 
 exit status: 0 everything is done, 1 something is not, 2 usage error,
 130 interrupted.
-environment: UDFBURN (the program udfburn), UDFBURN_ARCHIVE (the archive's folder).
+environment: UDFBURN (the program udfburn), UDFBURN_LIBRARY (the C library),
+UDFBURN_ARCHIVE (the archive's folder).
 docs/ARCHIVE.md has the design, and what to do when something went wrong. The manual page is udfburn-archive(1)."""
 
 
@@ -81,6 +82,7 @@ def add_writers(subs: "Subs") -> None:
     add.add_argument("--deletions", action="store_true", help="record which files below PATH are not at the source any more: they stay in the archive, and are shown only as of earlier times")
     add.add_argument("--bundle", action="store_true", help="store the small files of a folder, where they are many, together in tars; each has its own path, and is given back by itself")
     add.add_argument("--again", action="store_true", help="store each new file, also one whose bytes the archive has under another path or time")
+    add.add_argument("--library", action="store_true", help="write the volumes in this process, with the C library (from UDFBURN_LIBRARY, or where the system finds it): many small files take fewer syncs")
     add.add_argument("--no-copy", action="store_true", help="do not copy to the remotes what the open volumes have more; 'copy' does it later")
     add_rules(add)
 

@@ -85,7 +85,7 @@ def add(arguments: argparse.Namespace) -> int:
         return preview(arguments)
     config, tell = config_of(arguments), tell_of(arguments)
     wanted = archive_targets(arguments.folder, arguments.at)
-    options = AddOptions(arguments.delete_source, arguments.skip_odd, rules_of(arguments), arguments.trust_times, arguments.deletions, not arguments.no_copy, arguments.again, arguments.bundle)
+    options = AddOptions(arguments.delete_source, arguments.skip_odd, rules_of(arguments), arguments.trust_times, arguments.deletions, not arguments.no_copy, arguments.again, arguments.bundle, arguments.library)
     with Catalogue(config) as catalogue:
         adder = Adder(config, catalogue, options, tell)
         try:

@@ -35,9 +35,11 @@ Failed = Callable[[VolumeJob, str], None]
 class Filler:
     """The open volumes of a run."""
 
-    def __init__(self, config: Config, catalogue: Catalogue, claims: Claims, tell: Tell, text: str, kept: OnKept, failed: Failed):
+    def __init__(
+        self, config: Config, catalogue: Catalogue, claims: Claims, tell: Tell, text: str, kept: OnKept, failed: Failed, library: bool = False,
+    ):
         self.config, self.catalogue, self.claims, self.tell, self.text = config, catalogue, claims, tell, text
-        self.kept, self.failed = kept, failed
+        self.kept, self.failed, self.library = kept, failed, library
         self.open: List[OpenVolume] = []
         self.planned: Dict[int, List[VolumeJob]] = {}
         self.weights: Dict[int, int] = {}
@@ -49,7 +51,7 @@ class Filler:
         """The run counts as begun after this moment, even where the clock is slow."""
         self._began: Optional[Moment] = None
         # What an earlier run left comes first, so that the catalogue has all that the volumes have.
-        for volume in own_volumes(config, catalogue, claims, self.refused):
+        for volume in own_volumes(config, catalogue, claims, self.refused, library):
             self.open.append(volume)
 
     def close(self) -> None:
@@ -150,7 +152,7 @@ class Filler:
                 self.put(job.source.path[:-1], [job])
             if fullest in self.open:
                 self._full(fullest)
-        volume = open_new(self.config, self.catalogue, self.claims)
+        volume = open_new(self.config, self.catalogue, self.claims, self.library)
         self.open.append(volume)
         self.tell.say_step(f"opened {volume.row.label}", did="opened", volume=volume.row.label)
         return volume

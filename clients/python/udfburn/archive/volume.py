@@ -84,14 +84,14 @@ the place that has them. A closed volume is a bag of RFC 8493:
 
 
 class OpenVolume:
-    """A volume that this process writes. It has a claim on it."""
+    """A volume that this process writes, by the program or with the C library. It has a claim on it."""
 
-    def __init__(self, config: Config, catalogue: Catalogue, row: VolumeRow):
+    def __init__(self, config: Config, catalogue: Catalogue, row: VolumeRow, library: bool = False):
         self.config, self.catalogue, self.row = config, catalogue, row
         self.program = find_program()
         self.image = config.path("open", row.label + ".img")
         self.ledger = config.path("open", row.label + ".ledger")
-        self.client = Client(f"image:{self.image}", ledger=self.ledger, program=self.program)
+        self.client = Client(f"{'library' if library else 'image'}:{self.image}", ledger=self.ledger, program=self.program)
         self._held = ExitStack()
         self.marker: Optional[Operation] = None
         self._sent = False
@@ -363,7 +363,7 @@ def new_row(config: Config, catalogue: Catalogue) -> VolumeRow:
     return row
 
 
-def own_volumes(config: Config, catalogue: Catalogue, claims: Claims, refused: Dict[int, str]) -> Iterator[OpenVolume]:
+def own_volumes(config: Config, catalogue: Catalogue, claims: Claims, refused: Dict[int, str], library: bool) -> Iterator[OpenVolume]:
     """The open volumes of this archive's folder that no other process has, each claimed and taken up. `refused` gets the numbers of
     those that cannot be, with why: nothing is written to them, and the others are as good without them."""
     for row in catalogue.volumes():
@@ -374,7 +374,7 @@ def own_volumes(config: Config, catalogue: Catalogue, claims: Claims, refused: D
                 raise CatalogueError(f"{fresh.label} is closed, which the catalogue does not know: it is older than the volumes: {REBUILD}")
             if fresh is not None and (fresh.state == STATE_NEW or fresh.state == STATE_OPEN and image_of(config, fresh)):
                 try:
-                    volume = taken_up(OpenVolume(config, catalogue, fresh))
+                    volume = taken_up(OpenVolume(config, catalogue, fresh, library))
                 except VolumeDiffers as error:
                     refused[fresh.number] = str(error)
                 else:
@@ -386,13 +386,13 @@ def is_closed(config: Config, row: VolumeRow) -> bool:
     return os.path.lexists(config.path("closed", row.label + ".img"))
 
 
-def open_new(config: Config, catalogue: Catalogue, claims: Claims) -> OpenVolume:
+def open_new(config: Config, catalogue: Catalogue, claims: Claims, library: bool = False) -> OpenVolume:
     """A new volume. One that another process, which began just now, took up before it was claimed is left to that one."""
     while True:
         row = new_row(config, catalogue)
         fresh = catalogue.volume(row.number) if claims.try_volume(row.number) else None
         if fresh is not None and fresh.state == STATE_NEW:
-            return taken_up(OpenVolume(config, catalogue, fresh))
+            return taken_up(OpenVolume(config, catalogue, fresh, library))
 
 
 def taken_up(volume: OpenVolume) -> OpenVolume:
