@@ -1,4 +1,4 @@
-/* Writes what a program wrote to an image, as a log of its calls has it: the same bytes in the same writes, with the same syncs.
+/* Writes what a program wrote to an image, by the calls of a plan: the program's own, as a log has them, or the fewest.
 
    usage: loop PLAN BLOCKS IMAGE < FRAMES
 

@@ -19,11 +19,15 @@ sys.path.insert(0, str(REPOSITORY / "test"))
 from faults.log import read_log  # noqa: E402
 from faults.programs import compile_shim  # noqa: E402
 from protocol import answers_of, committed  # noqa: E402
-from plans import BEHIND, Plan, plan_of, two_sync_plan  # noqa: E402
+from plans import BEHIND, Plan, group_plan, groups_of, plan_of  # noqa: E402
 from streams import Stream, creations, history  # noqa: E402
 from timing import ENVIRONMENT, Ended, Taken, clocks, difference, least_ratio, load, median_of, processors, ratio, run, sync_time  # noqa: E402
 
 CAPACITY = "450000"
+# So many bytes of its input `apply` reads at a time. What is complete in them is a group.
+PIECE = 65536
+# What is timed on each place: `apply`, and the loops beside it.
+WAYS = {"apply": "`apply`", "group": "Two syncs a group", "calls": "The same calls", "commit": "Two syncs a commit"}
 # How often a quiet moment is looked for, for each round that is asked for.
 TRIES = 20
 STOPS = (signal.SIGTERM, signal.SIGHUP, signal.SIGINT)
@@ -66,29 +70,41 @@ class Tools(NamedTuple):
 
 
 class Case(NamedTuple):
-    """A stream, and how it is reported."""
+    """A stream, how it is reported, and the most that is wanted: syncs a file, and the time on a kind of place beside two syncs a group."""
 
     files: str
-    names: int
     stream: Stream
+    aims: dict[str, float]
 
 
 class Side(NamedTuple):
-    """A program that makes an image out of a formatted one."""
+    """A program that makes an image out of a formatted one, which is one of `WAYS`."""
 
+    way: str
     words: Sequence[str]
     image: str
     # The image that it must make.
     wanted: bytes
-    # Whether it prints what is to be left out of its time.
-    is_loop: bool
 
 
 class Logged(NamedTuple):
-    """What a logged run of `apply` wrote, and how."""
+    """What a logged run wrote, and how."""
 
     image: bytes
     plan: Plan
+
+
+class Made(NamedTuple):
+    """What `apply` made of a stream, the plans of the loops beside it, and all its syncs, that of the folder among them."""
+
+    image: bytes
+    plans: dict[str, Plan]
+    syncs: int
+    groups: int
+
+
+# The times of a program in the rounds that count, by the way.
+Series = dict[str, list[Taken]]
 
 
 def put(path: str, data: bytes) -> str:
@@ -129,50 +145,60 @@ def require_answers(ended: Ended, stream: Stream) -> None:
         raise Wrong("apply ends with status %d, and not each frame was done: %r" % (ended.status, ended.errors))
 
 
-def shimmed(tools: Tools, words: Sequence[str], image: str) -> tuple[Ended, Logged]:
-    """A run of a program on a formatted image, and what it wrote, by the log of the shim."""
+def shimmed(tools: Tools, words: Sequence[str], image: str) -> tuple[Ended, Logged, int]:
+    """A run of a program on a formatted image, what it wrote, by the log of the shim, and how often it synced the folder."""
     log, before = tools.path("log"), formatted(tools)
     put(image, before)
     environment = {**ENVIRONMENT, "LD_PRELOAD": tools.shim, "FAULT_IMAGE": image, "FAULT_LOG": log}
     ended = run(words, tools.path("frames"), tools.path("answers"), environment)
-    made = Logged(bytes_of(image), plan_of(read_log(log), before, bytes_of(image)))
+    records = read_log(log)
+    made = Logged(bytes_of(image), plan_of(records, before, bytes_of(image)))
     os.unlink(log)
     os.unlink(image)
-    return ended, made
+    return ended, made, sum(record.kind == "foldersync" for record in records)
 
 
-def logged(tools: Tools, program: str, stream: Stream) -> Logged:
-    """What a program writes for a stream, and that the loop does the same."""
+def made_by(tools: Tools, program: str, stream: Stream) -> Made:
+    """What a program makes of a stream, and that the loop does the same by the program's own calls."""
     image = tools.path("logged.img")
     put(tools.path("frames"), stream.frames)
-    ended, made = shimmed(tools, [program, "apply", image], image)
+    ended, made, folders = shimmed(tools, [program, "apply", image], image)
     require_answers(ended, stream)
     plan, blocks = put(tools.path("logged.plan"), made.plan.calls), put(tools.path("logged.blocks"), made.image + BEHIND)
-    _, again = shimmed(tools, [tools.loop, plan, blocks, image], image)
+    _, again, _ = shimmed(tools, [tools.loop, plan, blocks, image], image)
     tools.checks.hold("the loop makes other writes and syncs than %s" % program, again == made)
     os.unlink(plan)
     os.unlink(blocks)
-    return made
+    marks = marks_of(tools, made.image)
+    groups = groups_of(made.plan.calls, marks)
+    begin, opening = len(formatted(tools)), made.plan.opening_syncs()
+    plans = {"group": group_plan(begin, groups, opening), "calls": made.plan}
+    tools.checks.hold("%s syncs more often than twice a group" % program, made.plan.syncs <= plans["group"].syncs)
+    # Where each group is one commit, two syncs a commit are the same loop once more.
+    if len(groups) < len(marks):
+        plans["commit"] = group_plan(begin, [[mark] for mark in marks], opening)
+    return Made(made.image, plans, made.plan.syncs + folders, len(groups))
 
 
-def least_plan(tools: Tools, made: Logged) -> Plan:
-    """The plan that writes the same image with two syncs a commit; `udfburn log` has the commits' last blocks, the newest first."""
-    image = put(tools.path("least.img"), made.image)
+def marks_of(tools: Tools, made: bytes) -> list[int]:
+    """The last blocks of the commits after the format, of which `udfburn log` has the newest first."""
+    image = put(tools.path("marks.img"), made)
     listed = subprocess.run([tools.udfburn, "log", image], check=True, stdout=subprocess.PIPE, text=True).stdout
     os.unlink(image)
-    entries = [int(line.split()[1]) for line in reversed(listed.splitlines())]
-    return two_sync_plan(len(formatted(tools)), entries[1:], made.plan.opening_syncs())
+    return [int(line.split()[1]) for line in reversed(listed.splitlines())][1:]
 
 
-def sides_of(tools: Tools, program: str, name: str, made: Logged, place: str) -> list[Side]:
-    """The loop with two syncs a commit, the loop with the program's own calls, and the program, on images of their own."""
-    least = put(tools.path(name + ".least"), least_plan(tools, made).calls)
-    plan = put(tools.path(name + ".plan"), made.plan.calls)
+def sides_of(tools: Tools, program: str, name: str, made: Made, place: str) -> list[Side]:
+    """The loops and the program, on images of their own."""
     blocks = put(tools.path(name + ".blocks"), made.image + BEHIND)
-    images = [os.path.join(place, "%s.%s.img" % (name, side)) for side in ("least", "loop", "apply")]
-    return [Side([tools.loop, least, blocks, images[0]], images[0], made.image, True),
-            Side([tools.loop, plan, blocks, images[1]], images[1], made.image, True),
-            Side([program, "apply", images[2]], images[2], made.image, False)]
+    sides = []
+    for way in ("apply", *made.plans):
+        image = os.path.join(place, "%s.%s.img" % (name, way))
+        words = [program, "apply", image]
+        if way != "apply":
+            words = [tools.loop, put(tools.path("%s.%s" % (name, way)), made.plans[way].calls), blocks, image]
+        sides.append(Side(way, words, image, made.image))
+    return sides
 
 
 def timed(tools: Tools, side: Side) -> Taken:
@@ -180,7 +206,7 @@ def timed(tools: Tools, side: Side) -> Taken:
     ended = run(side.words, tools.path("frames"), tools.path("output"))
     if ended.status:
         raise Wrong("%s ends with status %d: %r" % (side.words[0], ended.status, ended.errors))
-    if not side.is_loop:
+    if side.way == "apply":
         return ended.taken
     clock, processor = (int(word) for word in ended.output.split())
     return Taken(ended.taken.clock - clock, ended.taken.processor - processor)
@@ -228,38 +254,77 @@ def heading(*cells: str) -> None:
     row(*("---" for _ in cells))
 
 
-def measure_apply(tools: Tools, cases: Sequence[Case], places: Sequence[tuple[str, str]]) -> None:
-    """A table of `apply` beside two syncs a commit and beside its own calls, and of the second program beside the first."""
-    lines: list[Sequence[object]] = []
-    heading("Files", "Names a directory", "On", "Program", "Writes, syncs a commit", "Two syncs, ms", "Same calls, ms", "`apply`, ms",
-            "Beside two syncs (of a round)", "Of the least times", "Beside the same calls", "Of processor time", "Rounds", "Load")
+def measure_apply(tools: Tools, cases: Sequence[Case], places: dict[str, str]) -> None:
+    """Tables of `apply` beside the loop with two syncs a group, of all times, and of the second program beside the first."""
+    programs = {"new": tools.udfburn, **({"before": tools.before} if tools.before else {})}
+    times: list[Sequence[object]] = []
+    changes: list[Sequence[object]] = []
+    heading("Files", "Syncs a file", "Aim", "Disk: ratio (of a round)", "Aim", "Memory file system: ratio (of a round)", "Aim")
     for case in cases:
-        programs = [("new", tools.udfburn)] + ([("before", tools.before)] if tools.before else [])
-        made = [logged(tools, program, case.stream) for _, program in programs]
-        for kind, place in places:
-            sides: list[Side] = []
-            for (name, program), one in zip(programs, made):
-                sides += sides_of(tools, program, name, one, place)
-            series = rounds_of(tools, sides, "%s on %s" % (case.files, kind))
-            for number, (name, _) in enumerate(programs):
-                least, loop, apply = series[3 * number:3 * number + 3]
-                plan = made[number].plan
-                calls = "%.2f, %.2f" % (plan.writes / case.stream.commits, plan.syncs / case.stream.commits)
-                row(case.files, case.names, kind, name, calls, median_of(clocks(least)), median_of(clocks(loop)), median_of(clocks(apply)),
-                    ratio(clocks(apply), clocks(least)), least_ratio(clocks(apply), clocks(least)), ratio(clocks(apply), clocks(loop)),
-                    ratio(processors(apply), processors(least)), len(apply), load())
-            if tools.before:
-                for what, new, old in (("`apply`", series[2], series[5]), ("same calls", series[1], series[4]), ("two syncs", series[0], series[3])):
-                    lines.append((case.files, case.names, kind, what, median_of(clocks(old)), median_of(clocks(new)),
-                                  ratio(clocks(new), clocks(old)), least_ratio(clocks(new), clocks(old)),
-                                  difference(clocks(new), clocks(old), case.stream.commits)))
-            tools.checks.hold("the programs make the same image", all(one.image == made[0].image for one in made))
-    if lines:
+        made = {name: made_by(tools, program, case.stream) for name, program in programs.items()}
+        pieces = -(-len(case.stream.frames) // PIECE)
+        tools.checks.hold("%s: more groups than pieces" % case.files, made["new"].groups <= pieces)
+        tools.checks.hold("the programs make the same image", all(one.image == made["new"].image for one in made.values()))
+        taken = {kind: measure_case(tools, case, programs, made, kind, place) for kind, place in places.items()}
+        for name in programs:
+            of = {kind: taken[kind][name] for kind in taken}
+            row(*figures(case, name, made[name], of))
+            times += [times_of(case, name, kind, of[kind]) for kind in of]
+        if tools.before:
+            for kind, both in taken.items():
+                changes += changes_of(case, kind, both["new"], both["before"])
+    print("\nTimes in ms, and ratios of `apply` to the loops\n")
+    heading("Files", "On", *("%s, ms" % way for way in WAYS.values()), "Two syncs a group: of the least times", "Of processor time",
+            "The same calls (of a round)", "Two syncs a commit (of a round)", "Rounds", "Load")
+    for line in times:
+        row(*line)
+    if changes:
         print()
-        heading("Files", "Names a directory", "On", "Side", "Before, ms", "New, ms", "Ratio (of a round)", "Of the least times",
+        heading("Files", "On", "Side", "Before, ms", "New, ms", "Ratio (of a round)", "Of the least times",
                 "More a commit, us: of the medians, of the least times")
-        for line in lines:
+        for line in changes:
             row(*line)
+
+
+def measure_case(tools: Tools, case: Case, programs: dict[str, str], made: dict[str, Made], kind: str, place: str) -> dict[str, Series]:
+    """The times of each program and of the loops beside it, in turn."""
+    sides = {name: sides_of(tools, program, name, made[name], place) for name, program in programs.items()}
+    series = iter(rounds_of(tools, [side for of in sides.values() for side in of], "%s on %s" % (case.files, kind)))
+    return {name: {side.way: next(series) for side in of} for name, of in sides.items()}
+
+
+def named(case: Case, name: str) -> str:
+    return case.files if name == "new" else "%s, %s" % (case.files, name)
+
+
+def figures(case: Case, name: str, made: Made, taken: dict[str, Series]) -> list[str]:
+    """What is wanted, and what came out."""
+    cells = [named(case, name), "%.3f" % (made.syncs / case.stream.files), aim(case, "syncs")]
+    for kind in ("disk", "memory"):
+        cells += [ratio_to("group", taken[kind]) if kind in taken else "-", aim(case, kind)]
+    return cells
+
+
+def aim(case: Case, what: str) -> str:
+    return "%g" % case.aims[what] if what in case.aims else "-"
+
+
+def ratio_to(way: str, series: Series) -> str:
+    return ratio(clocks(series["apply"]), clocks(series[way])) if way in series else "-"
+
+
+def times_of(case: Case, name: str, kind: str, series: Series) -> list[object]:
+    medians = [median_of(clocks(series[way])) if way in series else "-" for way in WAYS]
+    apply, group = series["apply"], series["group"]
+    return [named(case, name), kind, *medians, least_ratio(clocks(apply), clocks(group)), ratio(processors(apply), processors(group)),
+            ratio_to("calls", series), ratio_to("commit", series), len(apply), load()]
+
+
+def changes_of(case: Case, kind: str, new: Series, old: Series) -> list[Sequence[object]]:
+    """The second program beside the first, and the loops beside theirs."""
+    return [(case.files, kind, told, median_of(clocks(old[way])), median_of(clocks(new[way])), ratio(clocks(new[way]), clocks(old[way])),
+             least_ratio(clocks(new[way]), clocks(old[way])), difference(clocks(new[way]), clocks(old[way]), case.stream.commits))
+            for way, told in WAYS.items() if way in new and way in old]
 
 
 def measure_full(tools: Tools, stream: Stream) -> None:
@@ -309,19 +374,27 @@ def measure(asked: argparse.Namespace, disk: str, memory: str, checks: Checks) -
     before = os.path.abspath(asked.before) if asked.before else None
     tools = Tools(os.path.abspath(asked.udfburn), before, compiled(HERE / "loop.c", os.path.join(memory, "loop")),
                   compiled(HERE / "read.c", os.path.join(memory, "read")), shim, memory, checks, asked.rounds, asked.quiet)
-    few, large, many = (20, 2, 200) if asked.small else (asked.files, max(round(asked.files * 0.064), 1), 36000)
-    middle = 4 if asked.small else max(asked.files // 5, 1)
-    names, fewer = (12, 4) if asked.small else (250, 32)
-    cases = [Case("%d of 4 KiB" % few, names, creations(few, names, 4096)),
-             Case("%d of 100 KB" % middle, names, creations(middle, names, 100000)),
-             Case("%d of a mebibyte" % large, 64, creations(large, 64, 1 << 20)),
-             Case("%d of 4 KiB" % few, fewer, creations(few, fewer, 4096))]
     print("%s, %d rounds; disk: %s, memory: %s\n" % (load(), asked.rounds, kind_of(disk), kind_of(memory)))
-    places = [(kind, folder) for kind, folder in (("disk", disk), ("memory", place)) if asked.only in (None, kind)]
+    places = {kind: folder for kind, folder in (("disk", disk), ("memory", place)) if asked.only in (None, kind)}
     if places:
-        measure_apply(tools, cases, places)
+        measure_apply(tools, cases_of(asked), places)
     if asked.only in (None, "full"):
-        measure_full(tools, history(4, 10, many) if asked.small else history(64, 62, many))
+        measure_full(tools, history(4, 10, 200) if asked.small else history(64, 62, 36000))
+
+
+def cases_of(asked: argparse.Namespace) -> list[Case]:
+    """Small files in directories of many names and of fewer, and larger files, of which a piece has hardly one."""
+    if asked.small:
+        return [small_files(20, 12, {}), small_files(20, 4, {}), Case("4 of 100 KB", creations(4, 12, 100000), {}),
+                Case("2 of a mebibyte", creations(2, 64, 1 << 20), {})]
+    fewer, middle, large = (max(round(asked.files * part), 1) for part in (0.25, 0.05, 0.016))
+    return [small_files(asked.files, 250, {"syncs": 0.13, "disk": 1.3, "memory": 1.6}), small_files(fewer, 32, {"disk": 1.3, "memory": 1.6}),
+            Case("%d of 100 KB" % middle, creations(middle, 250, 100000), {"disk": 1.15, "memory": 1.6}),
+            Case("%d of a mebibyte" % large, creations(large, 64, 1 << 20), {"disk": 1.25, "memory": 1.5})]
+
+
+def small_files(files: int, names: int, aims: dict[str, float]) -> Case:
+    return Case("{:,} of 4 KiB, {} names a directory".format(files, names), creations(files, names, 4096), aims)
 
 
 def kind_of(folder: str) -> str:
@@ -335,7 +408,7 @@ def words() -> argparse.Namespace:
     parser.add_argument("udfburn", nargs="?", default=str(REPOSITORY / "crates/udfburn/out/udfburn"))
     parser.add_argument("before", nargs="?", help="an earlier program, timed in turn with the first")
     parser.add_argument("--small", action="store_true", help="few files and commits, so that it takes seconds")
-    parser.add_argument("--files", type=int, default=1000, help="how many files of 4 KiB, and of a mebibyte 64 a thousand (1000)")
+    parser.add_argument("--files", type=int, default=4000, help="how many files of 4 KiB (4000); the other counts become less with it")
     parser.add_argument("--rounds", type=int, help="how often each is run (9, with --small 2)")
     parser.add_argument("--quiet", type=float, default=float("inf"), metavar="US",
                         help="count a round only where a block was written and synced in so many microseconds before and behind it")

@@ -1,4 +1,4 @@
-"""What a program writes to an image, in which writes and with which syncs: from a log of its calls, or with two syncs a commit."""
+"""What a program writes to an image, in which writes and with which syncs: from a log of its calls, or with two syncs a group."""
 from __future__ import annotations
 
 import struct
@@ -60,17 +60,36 @@ def packed(calls: Sequence[tuple[int, int]]) -> bytes:
     return b"".join(struct.pack("=qq", *call) for call in calls)
 
 
-def two_sync_plan(length_before: int, entries: Sequence[int], opening_syncs: int) -> Plan:
-    """The fewest calls by which each commit is on the disk before the next: all its blocks but the last as one write, a sync, the last block,
-    a sync.
+def groups_of(calls: bytes, marks: Sequence[int]) -> list[list[int]]:
+    """The groups that the calls show: the marks, the commits' last blocks, that were written between the same two syncs."""
+    known, groups, given = set(marks), list[list[int]](), list[int]()
+    for offset, length in struct.iter_unpack("=qq", calls):
+        if length > 0:
+            given += [at for at in range(offset // BLOCK, (offset + length) // BLOCK) if at in known]
+        elif length == 0 and given:
+            groups.append(given)
+            given = []
+    if [mark for group in groups for mark in group] != list(marks):
+        raise ValueError("the marks were not all synced, each written once and in order")
+    return groups
 
-    `length_before` is the length of the image in bytes before the first commit, `entries` the addresses of the commits' last blocks
-    in order. The syncs with which a program opens an image come first.
+
+def group_plan(length_before: int, groups: Sequence[Sequence[int]], opening_syncs: int) -> Plan:
+    """The fewest calls by which each group is on the disk before the next, and each block is written once: for each commit of the group all
+    its blocks but the mark as one write, the head of the group, a sync, the marks, a sync.
+
+    `length_before` is the length of the image in bytes before the first commit. The syncs with which a program opens an image come first.
+    As `apply` does, a group of one has no head. The next group overwrites a head, so only the last one is cut off.
     """
     calls = [(0, 0)] * opening_syncs
     begin = length_before
-    for entry in entries:
-        last = entry * BLOCK
-        calls += [(begin, last - begin), (0, 0), (last, BLOCK), (0, 0)]
-        begin = last + BLOCK
-    return Plan(packed(calls), 2 * len(entries), opening_syncs + 2 * len(entries))
+    for marks in groups:
+        for mark in marks:
+            calls.append((begin, mark * BLOCK - begin))
+            begin = (mark + 1) * BLOCK
+        head = [(begin, HEAD_BYTES)] if len(marks) > 1 else []
+        calls += [*head, (0, 0), *((mark * BLOCK, BLOCK) for mark in marks), (0, 0)]
+    if groups and len(groups[-1]) > 1:
+        calls.append((begin, TRUNCATES))
+    lengths = [length for _, length in calls]
+    return Plan(packed(calls), sum(length > 0 for length in lengths), lengths.count(0))
