@@ -1,4 +1,4 @@
-"""Measures the archive beside restic and borg, and `put` beside rsync. bench/beside/run says how."""
+"""Measures the archive beside restic and borg, and `put` and `add` beside what else stores files. bench/beside/run says how."""
 from __future__ import annotations
 
 import argparse
@@ -13,17 +13,31 @@ import tempfile
 import time
 from collections import defaultdict
 from pathlib import Path
-from typing import NoReturn, Sequence
+from typing import NamedTuple, NoReturn, Sequence
 
 TOP = Path(__file__).resolve().parent.parent.parent
 sys.path[:0] = [str(TOP / "bench" / "apply"), str(Path(__file__).resolve().parent)]
 
 from timing import load, ratio  # noqa: E402
-from ways import Step, Way, bytes_of, installed, package, require_same, syncs, timed, ways, without  # noqa: E402
+from ways import ADD, LIBRARY, PIPE, SOCKET, Programs, Step, Way, bytes_of, installed_of, left_out, require_same, stores, syncs, timed, ways  # noqa: E402
 
 PIECE = 1 << 20
 STOPS = (signal.SIGHUP, signal.SIGINT, signal.SIGTERM)
 PARTS = {"small": "{files:,} small files, {size:,.0f} MB", "photos": "{files} photos, {size:,.0f} MB", "large": "{files} large files, {size:,.0f} MB"}
+
+
+class Tree(NamedTuple):
+    """Files of one size that are stored once, and how many syncs a file are wanted at most of a program."""
+
+    name: str
+    files: int
+    size: int
+    aims: dict[str, float]
+
+
+TREES = (Tree("4,000 files of 4 KiB", 4000, 4096, {PIPE: 0.2, SOCKET: 0.2, LIBRARY: 0.2}),
+         Tree("60 photos of 3 MB", 60, 3_000_000, {PIPE: 3, SOCKET: 3, LIBRARY: 1, ADD: 3}),
+         Tree("a file of 700 MB", 1, 700_000_000, {}))
 
 Taken = dict[tuple[str, str], list[float]]
 
@@ -72,13 +86,17 @@ def one_round(way: Way, room: str, source: str, taken: Taken) -> int:
             continue
         os.sync()
         os.makedirs(back, exist_ok=True)
-        taken[way.name, step].append(timed([back if word == "{}" else word for word in words], way.keys))
+        taken[way.name, step].append(timed(into(back, words), way.keys))
         print(f"{way.name} {step}: {taken[way.name, step][-1]:.1f} s", file=sys.stderr)
         if step in ("first", "close"):
             size = bytes_of(os.path.join(room, "kept"))
     require_same(source, back)
     shutil.rmtree(back)
     return size
+
+
+def into(folder: str, words: Step) -> Step:
+    return [word.replace("{}", folder) for word in words]
 
 
 def cell(times: Sequence[float], beside_own: Sequence[float] = ()) -> str:
@@ -109,7 +127,7 @@ def beside(program: str, room: str, part: str, asked: argparse.Namespace) -> Non
     """Prints the rows of a part."""
     source = sources(room, part, asked.shrink)
     files, size = sum(len(names) for _, _, names in os.walk(source)), bytes_of(source)
-    all_ways, taken = ways(program, room, source), defaultdict[tuple[str, str], list[float]](list)
+    all_ways, taken = installed_of(ways(program, room, source)), defaultdict[tuple[str, str], list[float]](list)
     rooms: dict[str, int] = {}
     for turn in range(asked.rounds):
         for way in all_ways[:: -1 if turn % 2 else 1]:
@@ -121,53 +139,64 @@ def beside(program: str, room: str, part: str, asked: argparse.Namespace) -> Non
     shutil.rmtree(source)
 
 
-def print_head(room: str, asked: argparse.Namespace, words: Sequence[str]) -> None:
-    """Prints what repeats the table and what its cells are, and its first rows."""
-    command = " ".join(["bench/beside/run", *("UDFBURN" if word == asked.program else word for word in words)])
+def conditions(room: str, asked: argparse.Namespace, words: Sequence[str], all_ways: Sequence[Way]) -> str:
+    """What repeats a table, and what it was measured with."""
+    names = {asked.library: "LIBRARY", asked.daemon: "UDFBURND", asked.program: "UDFBURN"}
+    command = " ".join(["bench/beside/run", *(names.get(word, word) for word in words)])
     kind = subprocess.check_output(["df", "--output=fstype", room], text=True).split()[-1]
-    restic, borg = (" ".join(subprocess.check_output(list(each), text=True).split()[:2]) for each in (("restic", "version"), ("borg", "--version")))
-    print(f"{asked.rounds} round{'s in turn' if asked.rounds > 1 else ''} on {kind}, {load()}, {restic}, {borg}: `{command}`. What follows `+` is `close`. "
+    tools = {way.tool for way in installed_of(all_ways)}
+    versions = [subprocess.check_output(list(each), text=True).split()[:2] for each in (("borg", "--version"), ("restic", "version")) if each[0] in tools]
+    told = f"{asked.rounds} round{'' if asked.rounds == 1 else 's in turn'} on {kind}, {load()}"
+    return "\n".join([*left_out(all_ways), ", ".join([told, *(" ".join(version) for version in versions)]) + f": `{command}`."])
+
+
+def print_head() -> None:
+    print("What follows `+` is `close`. "
           "`add` runs without `--trust-times`, so its second run reads every file. After it stands a run with `--trust-times`. restic and borg trust times "
           "by themselves, and their second runs are compared with that one. Room is that of the files' bytes; syncs are those of the first and the second run.")
     print("\n| Files | Program | First run | Second run | Restore | Check | Room | Syncs |\n|---|---|---|---|---|---|---|---|", flush=True)
 
 
-# ---- beside rsync
+# ---- what stores a tree once
 
-def put_once(program: str, room: str, source: str, traced: bool) -> tuple[float, str]:
-    """The seconds of a `put` into a new volume, or its syncs, with its commits."""
-    image, keys = os.path.join(room, "disc.img"), {"PYTHONPATH": installed(room), "UDFBURN": program}
-    for name in os.listdir(room):
-        if name.startswith("disc.img"):
-            os.unlink(os.path.join(room, name))
-    subprocess.run([program, "format", image, "BENCH", "0", "450000"], check=True, stdout=subprocess.DEVNULL)
-    words = package("udfburn", "put", "-r", "--split", "--quiet", source, "/t", "--image", image, "--ledger", image + ".ledger")
-    number = syncs(words, keys, room) if traced else timed(words, keys)
-    commits = subprocess.check_output([program, "log", image], text=True).split(maxsplit=1)[0]
-    return number, commits
+def store_once(way: Way, room: str) -> float:
+    """The seconds in which a program stores the tree, where nothing was stored."""
+    begin(way, room)
+    os.sync()
+    seconds = timed(way.store, way.keys)
+    print(f"{way.name}: {seconds:.1f} s", file=sys.stderr)
+    return seconds
 
 
-def copy_once(room: str, source: str, traced: bool) -> float:
-    """The seconds of `rsync -a --fsync` into a new folder, or its syncs."""
-    target = os.path.join(room, "copied")
-    words: Step = ["rsync", "-a", "--fsync", source + "/", target]
-    return without(target, lambda: syncs(words, {}, room) if traced else timed(words, {}))
+def store_counted(way: Way, room: str, source: str) -> int:
+    """The syncs of a program that stores the tree, which is given back and compared."""
+    begin(way, room)
+    count, back = syncs(way.store, way.keys, room), os.path.join(room, "back")
+    os.mkdir(back)
+    timed(into(back, way.back), way.keys)
+    require_same(source, back)
+    shutil.rmtree(back)
+    return count
 
 
-def put_beside(program: str, room: str, asked: argparse.Namespace) -> None:
-    print("\n| `put` of | Seconds | Ratio to `rsync -a --fsync` (of a round) | Commits | Syncs | Those of rsync |\n|---|---|---|---|---|---|")
-    for name, files, size in (("60 photos of 3 MB", 60, 3_000_000), ("a file of 700 MB", 1, 700_000_000)):
-        source = make(os.path.join(room, "source", "put"), files, size // asked.shrink, size // asked.shrink, 60)
-        own: list[int] = []
-        theirs: list[int] = []
+def stored_beside(programs: Programs, room: str, asked: argparse.Namespace) -> None:
+    """Prints the table of what stores a tree once."""
+    print("\n| Files | Program | Time, and its ratio to the first one's (of a round) | Syncs | Syncs a file | Aim |\n|---|---|---|---|---|---|", flush=True)
+    for tree in TREES:
+        # A few large files are made smaller, and many small ones fewer.
+        files, size = (tree.files // asked.shrink, tree.size) if tree.files > 1000 else (tree.files, tree.size // asked.shrink)
+        source = make(os.path.join(room, "source", "put"), files, size, size, 250)
+        all_ways, taken = installed_of(stores(programs, room, source)), defaultdict[str, list[float]](list)
         for turn in range(asked.rounds):
-            for way in (own, theirs)[:: -1 if turn % 2 else 1]:
-                os.sync()
-                way.append(round(1e9 * (put_once(program, room, source, False)[0] if way is own else copy_once(room, source, False))))
-        traced, commits = put_once(program, room, source, True)
-        cells = (f"{name}, {asked.rounds} rounds, {load()}", f"{statistics.median(own) / 1e9:.2f}", ratio(own, theirs), commits, f"{traced:.0f}",
-                 f"{copy_once(room, source, True):.0f}")
-        print(f"| {' | '.join(cells)} |", flush=True)
+            for way in all_ways[:: -1 if turn % 2 else 1]:
+                taken[way.name].append(store_once(way, room))
+        for way in all_ways:
+            own = way is all_ways[0]
+            count = store_counted(way, room, source)
+            times = cell(taken[way.name], () if own else taken[PIPE]) if asked.rounds else "-"
+            cells = [f"{tree.name}{', shrunk' if asked.shrink > 1 else ''}, {load()}" if own else "", way.name, times, f"{count:,}",
+                     f"{count / files:.3f}", f"{tree.aims[way.name]:g}" if way.name in tree.aims else "-"]
+            print(f"| {' | '.join(cells)} |", flush=True)
         shutil.rmtree(source)
 
 
@@ -180,28 +209,32 @@ def stop(number: int, _: object) -> NoReturn:
 
 def main(words: Sequence[str]) -> int:
     parser = argparse.ArgumentParser(prog="bench/beside/run")
-    parser.add_argument("--rounds", type=int, default=5)
+    parser.add_argument("--rounds", type=int, default=5, help="how often each is run (5); with 0 `--part put` only counts syncs")
     parser.add_argument("--part", action="append", choices=[*PARTS, "put"], help="one or several (default: all but put)")
     parser.add_argument("--shrink", type=int, default=1, metavar="N", help="take one of N files or bytes")
     parser.add_argument("--folder", help="where all is made: on the disk that is measured")
+    parser.add_argument("--library", metavar="FILE", help="libudfburn.so, for `put --library`")
     parser.add_argument("program", metavar="UDFBURN")
+    parser.add_argument("daemon", metavar="UDFBURND", nargs="?", default=str(TOP / "crates/udfburnd/out/udfburnd"), help="for `put` by a socket")
     asked = parser.parse_args(words)
     parts = asked.part or list(PARTS)
-    for tool in ("strace", *(("rsync",) if "put" in parts else ()), *(("restic", "borg") if parts != ["put"] else ())):
-        if not shutil.which(tool):
-            parser.error(f"{tool} is not installed")
-    program = os.path.abspath(asked.program)
+    if not shutil.which("strace"):
+        parser.error("strace is not installed")
+    if asked.rounds < (0 if parts == ["put"] else 1):
+        parser.error("too few rounds")
+    programs = Programs(os.path.abspath(asked.program), os.path.abspath(asked.daemon), asked.library and os.path.abspath(asked.library))
     for number in STOPS:
         signal.signal(number, stop)
     with tempfile.TemporaryDirectory(prefix="bench.", dir=os.path.realpath(asked.folder or tempfile.gettempdir())) as room:
+        print(conditions(room, asked, words, stores(programs, room, "") if "put" in parts else ways(programs.udfburn, room, "")))
         if parts != ["put"]:
-            print_head(room, asked, words)
+            print_head()
         for part in sorted(parts, key=[*PARTS, "put"].index):
             begun = time.monotonic()
             if part == "put":
-                put_beside(program, room, asked)
+                stored_beside(programs, room, asked)
             else:
-                beside(program, room, part, asked)
+                beside(programs.udfburn, room, part, asked)
             print(f"{part}: {time.monotonic() - begun:.0f} s", file=sys.stderr)
     return 0
 
