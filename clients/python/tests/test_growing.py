@@ -13,7 +13,7 @@ from udfburn.base import errors as e
 from udfburn import protocol as p
 from udfburn.wire.operations import Operation
 from udfburn.trees.tree import ImportOptions, ImportSummary, put_all
-from udfburn.base.unfinished import UNFINISHED_PREFIX, unfinished_path
+from udfburn.base.unfinished import UNDER_WAY, UNFINISHED_PREFIX, unfinished_path
 from udfburn.protocol.units import Moment
 
 from .model import File, Volume
@@ -155,8 +155,8 @@ class Put(Growing):
     def test_many(self) -> None:
         """Files that grow beside one another, and small ones between."""
         wanted = {}
-        for index in range(9):
-            size = (700, MEBIBYTE + index, PHOTO)[index % 3]
+        for index in range(30):
+            size = (700, MEBIBYTE + index, MEBIBYTE + 1)[index % 3]
             wanted[f"/x/f{index}"] = content(index, size)
             self.write(f"f{index}", wanted[f"/x/f{index}"])
         most = [0]
@@ -166,9 +166,9 @@ class Put(Growing):
             return honestly(payload, answer)
 
         self.server.say = say
-        self.assertEqual(self.put(delete_source=True).deleted, 9)
+        self.assertEqual(self.put(delete_source=True).deleted, 30)
         self.assertEqual(self.files(), wanted)
-        self.assertTrue(1 <= most[0] <= 4, most)
+        self.assertTrue(4 < most[0] <= UNDER_WAY, most)
 
     def test_names_that_are_kept(self) -> None:
         """Nothing of a user's gets a name that unfinished files have: a client would remove it."""
@@ -279,7 +279,7 @@ class Interrupted(Growing):
             return honestly(payload, answer)
 
         # More than is read ahead.
-        data = content(1, 6 * MEBIBYTE)
+        data = content(1, 18 * MEBIBYTE)
         with open(local, "wb") as file:
             file.write(data)
         self.server.say = say

@@ -18,6 +18,11 @@ from .server import is_probe, request_of
 from .with_server import WithServer, await_true, creates
 
 
+def renames(count: int) -> List[Operation]:
+    """Requests of which the tree does not show what became: there is no digest of what they rename."""
+    return [Operation(p.Rename, (f"f{index}",), Moment(1), to=(f"g{index}",)) for index in range(count)]
+
+
 class Ahead(WithServer):
     """Operations that are taken before there is room for them."""
 
@@ -51,7 +56,7 @@ class Ahead(WithServer):
         at_work(creates(200), 0, 64)
         self.assertIn(max(ahead), range(64, 97))
         # And of two groups of two: few are made ready, so that what depends on outcomes comes soon after them.
-        at_work([Operation(p.Remove, (f"f{index}",), Moment(1)) for index in range(40)], 200, 4)
+        at_work(renames(40), 200, 4)
         self.assertIn(max(ahead), range(4, 6))
 
     def groups(self, operations: List[Operation], answers: int = 10 + 23) -> List[int]:
@@ -77,8 +82,9 @@ class Ahead(WithServer):
     def test_a_group_goes_out_while_another_is_under_way(self) -> None:
         """So the server is at work while replies are kept: it never has to wait for all of both."""
         self.assertEqual(self.groups(creates(150)), [32, 32, -32, 32, -32, 32, -32, 22, -32, -22])
-        removals = [Operation(p.Remove, (f"f{index}",), Moment(1)) for index in range(7)]
-        self.assertEqual(self.groups(removals, 10 + 6), [2, 2, -2, 2, -2, 1, -2, -1])
+        self.assertEqual(self.groups(renames(7), 10 + 6 + 6), [2, 2, -2, 2, -2, 1, -2, -1])
+        removals = [Operation(p.Remove, (f"f{index}",), Moment(1)) for index in range(40)]
+        self.assertEqual(self.groups(removals, 10 + 6), [32, 8, -32, -8])
 
     def test_groups_of_large_files(self) -> None:
         """Four mebibytes of data, as four files of the greatest size are; whatever is larger than the rest of it waits."""

@@ -367,7 +367,7 @@ class Interfered(WithWindow):
 
             self.server.say = say
             with self.subTest(change=change), client:
-                with self.assertRaisesRegex(e.ReplyNotKept, "^/x/f17: not known to be stored"):
+                with self.assertRaisesRegex(e.ReplyNotKept, "^/x/f17: not known to be done"):
                     put_all(client, [(sources, ("x",))], ImportOptions(recursive=True, delete_source=True))
                 self.assertTrue(os.path.exists(os.path.join(sources, "f17")))
                 # The same command again stores it, and then nothing is left.

@@ -11,8 +11,9 @@ from ..protocol import Path, limits, show
 UNFINISHED_PREFIX = ".udfburn-unfinished-"
 """How the name of a file in the root begins that is not whole yet."""
 
-UNDER_WAY = 4
-"""Files that are not whole at one time, at most: each is renamed once its pieces are acknowledged, and few requests are under way."""
+UNDER_WAY = 10
+"""Files that are not whole at one time, at most: each is renamed once its pieces are acknowledged, and three parts of 4 MiB go out until
+then. In each of them at most three files begin, and one began before."""
 
 
 def grows(size: int, split: bool) -> bool:

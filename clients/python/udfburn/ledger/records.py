@@ -51,7 +51,8 @@ class KnownVolume(NamedTuple):
 
 
 class Facts(NamedTuple):
-    """What a request asks for: a deed, the SHA-256 of its data where it has some, and the whole file whose last part or piece it is."""
+    """What a request asks for: a deed, the SHA-256 of its data where it has some, and the whole file whose last part or piece it is, or
+    that it gives its name to."""
 
     deed: Deed
     sha256: Optional[bytes] = None
@@ -99,7 +100,7 @@ def facts_of(request: AnyRequest, sha256: Optional[bytes] = None, whole: Optiona
     """The facts of a request. The SHA-256 of its data is computed where it is not given."""
     deed = deed_of(request)
     if not isinstance(request, (Create, Replace, Append)):
-        return Facts(deed)
+        return Facts(deed, None, whole)
     return Facts(deed, sha256 or digest(request.data), whole)
 
 

@@ -3,14 +3,13 @@
 from __future__ import annotations
 
 from collections import deque
-from typing import Deque, Iterable, Iterator, List, Optional, Set
+from typing import Deque, Dict, Iterable, Iterator, List, Optional, Sequence
 
 from ..ledger.records import LARGE_DATA, PLACES, Pending, Reply, facts_of
-from ..protocol import (
-    DAMAGED, FAULT, MEMORY, Code, Committed, Create, MakeDir, Path, Replace, Stat, decode_answer, encode_message, frame, limits, prefix, show,
-)
+from ..protocol import DAMAGED, FAULT, MEMORY, Code, Committed, Path, Stat, decode_answer, encode_message, frame, limits, prefix, show
 from ..wire.connection import Lost
 from ..wire.operations import Operation, Outcome, confirmed, paths_of, surely
+from .together import disturbs, follows, is_shown, takes_away
 
 GROUPS = 2
 """Parts that are under way: while the replies to one and the next one are kept, the program works on the other."""
@@ -20,9 +19,6 @@ GROUP_REQUESTS, GROUP_BYTES = PLACES // GROUPS, 4 * limits.FILE
 
 FEW_REQUESTS = limits.REPLIES // GROUPS
 """Requests in a group where the tree does not show what became of each."""
-
-SHOWN_BY_TREE = (Create, Replace, MakeDir)
-"""Requests of which the tree shows whether they were done, if no other one under way has the path."""
 
 
 class InFlightRequest:
@@ -40,6 +36,7 @@ class InFlightRequest:
         if operation.origin is not None and len(operation.data) >= LARGE_DATA:
             self.pending = self.pending._replace(payload=self.payload[: -len(operation.data)], origin=operation.origin)
         self.paths = paths_of(self.request)
+        self.is_shown = is_shown(self.request, operation.whole)
         # In pieces, since each copy of a mebibyte takes time.
         self.frames = [prefix(self.payload), self.payload, *(frame(encode_message(Stat(path))) for path in self.paths)]
         self.sure = surely(self.request)
@@ -74,25 +71,43 @@ class Group:
 
     def __init__(self) -> None:
         self.requests: Deque[InFlightRequest] = deque()
-        self.paths: Set[Path] = set()
+        self.newest: Dict[Path, InFlightRequest] = {}
+        """The last request under way that has a path, by its paths."""
         self.size = 0
         self.shown = True
+        self.takes_away = False
 
     def __len__(self) -> int:
         return len(self.requests)
 
     def add(self, request: InFlightRequest, shown: bool) -> None:
         self.requests.append(request)
-        self.paths.update(request.paths)
+        self.newest.update(dict.fromkeys(request.paths, request))
         self.size += len(request.operation.data)
         self.shown = self.shown and shown
+        self.takes_away = self.takes_away or takes_away(request.request)
+
+    def pop(self) -> InFlightRequest:
+        """Takes out the first request."""
+        request = self.requests.popleft()
+        for path in request.paths:
+            if self.newest.get(path) is request:
+                del self.newest[path]
+        return request
+
+    def leaves(self, new: InFlightRequest) -> bool:
+        """Whether no request of the group takes away what is above the paths of a new one, and the new one not what is above theirs."""
+        if not self.takes_away and not takes_away(new.request):
+            return True
+        return not any([disturbs(new.request, old.request) or disturbs(old.request, new.request) for old in self.requests])
 
 
 class Window:
     """The groups that are under way, in order.
 
     The volume keeps the replies to a client's last four requests. Where a conversation is lost, nothing else is known of an older one than
-    that it is committed: whether it was done is asked of the tree. So more than four are under way only where the tree shows that of each.
+    that it is committed: whether it was done is asked of the tree. So more than four are under way only where the tree shows that of each
+    (`together`).
     """
 
     def __init__(self) -> None:
@@ -107,7 +122,7 @@ class Window:
     def take(self, group: Group, request: InFlightRequest) -> bool:
         """Adds a request to a group that is to be sent, where there is room for it."""
         together = [*self.groups, group]
-        shown = isinstance(request.request, SHOWN_BY_TREE) and not any([request.paths[0] in other.paths for other in together])
+        shown = request.is_shown and is_shown_beside(request, together)
         if shown and all([other.shown for other in together]):
             fits = len(group) < GROUP_REQUESTS and group.size + len(request.operation.data) <= GROUP_BYTES
         else:
@@ -118,10 +133,19 @@ class Window:
 
     def pop(self) -> InFlightRequest:
         """Takes out the first request, once all its answers came."""
-        request = self.groups[0].requests.popleft()
+        request = self.groups[0].pop()
         if not self.groups[0]:
             self.groups.popleft()
         return request
+
+
+def is_shown_beside(request: InFlightRequest, groups: Sequence[Group]) -> bool:
+    """Whether the tree shows what became of a request also where those of groups are under way."""
+    for path in request.paths:
+        earlier = next((group.newest[path] for group in reversed(groups) if path in group.newest), None)
+        if earlier is not None and not follows(request.request, earlier.request):
+            return False
+    return all([group.leaves(request) for group in groups])
 
 
 class RequestQueue:
@@ -134,7 +158,7 @@ class RequestQueue:
 
     def look_ahead(self, last: int) -> None:
         """Makes ready what is sent next, after the request of this number. Few are taken where more would have to wait for replies: what
-        comes then may be other requests, such as those that rename files."""
+        comes then may be other requests, such as those that give files their names."""
         while self._is_next_near() and self._take(last + len(self.ahead) + 1):
             pass
 
@@ -142,7 +166,7 @@ class RequestQueue:
         if len(self.ahead) < FEW_REQUESTS:
             return True
         size = sum([len(request.operation.data) for request in self.ahead])
-        return len(self.ahead) < GROUP_REQUESTS and size < GROUP_BYTES and all([isinstance(request.request, SHOWN_BY_TREE) for request in self.ahead])
+        return len(self.ahead) < GROUP_REQUESTS and size < GROUP_BYTES and all([request.is_shown for request in self.ahead])
 
     def next(self, number: int, window: Window) -> Group:
         """The requests for which there is room, from this number on."""

@@ -25,6 +25,9 @@ from .shown import Shown
 Done = Dict[int, Tuple[Deed, Committed]]
 """What was done of pending requests, by their numbers."""
 
+Gone = Dict[int, Tuple[Deed, str]]
+"""The requests of which it is not known whether they were done, with their paths, by their numbers."""
+
 
 class Recovery:
     """Requests without a reply, whose conversation was lost or whose process has ended."""
@@ -85,7 +88,7 @@ class Recovery:
         if known is None or not self.ledger.pending(known):
             return {}
         done: Done = {}
-        gone: List[str] = []
+        gone: Gone = {}
         asked: Optional[Connection] = None
         while True:
             try:
@@ -99,20 +102,21 @@ class Recovery:
                 if waiting:
                     self._repeat(connection, waiting[0], done)
                     continue
-                self._confirm(connection, done)
+                self._confirm(connection, done, gone)
                 return self._all(done, gone)
             except Lost as lost:
                 self.line.lost(str(lost))
             except NotCommitted as error:
-                error.replies = self._confirmed_despite(done)
+                error.replies = self._confirmed_despite(done, gone)
                 raise
 
-    def _all(self, done: Done, gone: List[str]) -> Dict[int, Committed]:
+    def _all(self, done: Done, gone: Gone) -> Dict[int, Committed]:
         """The replies by number; raises where it is not known of some request that it was done."""
         replies = {number: reply for number, (_, reply) in done.items()}
         if gone:
+            paths = dict.fromkeys(path for _, path in gone.values())
             error = ReplyNotKept(
-                f"{', '.join(gone)}: not known to be stored. The conversation was lost, the volume has the requests and not their replies any more, and"
+                f"{', '.join(paths)}: not known to be done. The conversation was lost, the volume has the requests and not their replies any more, and"
                 " the tree does not have what they asked for: they were refused, or another client has changed it since. Nothing local was"
                 " deleted because of them. Run the same command again"
             )
@@ -120,7 +124,7 @@ class Recovery:
             raise error
         return replies
 
-    def _settle(self, connection: Connection, waiting: List[Pending], done: Done, gone: List[str]) -> None:
+    def _settle(self, connection: Connection, waiting: List[Pending], done: Done, gone: Gone) -> None:
         """Keeps what became of the requests that the volume has."""
         seen = see(connection, self.ledger.client)
         committed = [pending for pending in waiting if pending.number <= seen.latest]
@@ -139,7 +143,7 @@ class Recovery:
                     self.not_stored[pending.number] = pending.path
             else:
                 kept.append(Reply(pending.number, NOT_KEPT, found.gone[pending.number], False))
-                gone.append(pending.path)
+                gone[pending.number] = deed_in(pending), pending.path
         self.ledger.record(self._volume(), kept, [])
         for pending in committed:
             self.payloads.pop(pending.number, None)
@@ -208,9 +212,12 @@ class Recovery:
             " (--ledger FILE, or --client with a new ledger if the old one is lost), or another image"
         )
 
-    def _confirm(self, connection: Connection, done: Done) -> None:
-        """Sees that the tree has what replies say that came after a lost conversation."""
-        wanted = after_all([(deed, reply.code) for deed, reply in done.values()])
+    def _confirm(self, connection: Connection, done: Done, gone: Gone) -> None:
+        """Sees that the tree has what replies say that came after a lost conversation, as far as no other request has changed it of which
+        that is not known."""
+        deeds: Dict[int, Tuple[Deed, Optional[Code]]] = {number: (deed, None) for number, (deed, _) in gone.items()}
+        deeds.update({number: (deed, reply.code) for number, (deed, reply) in done.items()})
+        wanted = after_all([deeds[number] for number in sorted(deeds)])
         for path, expected in wanted.items():
             if path in self._agreed:
                 continue
@@ -224,11 +231,11 @@ class Recovery:
             self.line.patience.progress()
         self.ledger.confirm(self._volume(), done)
 
-    def _confirmed_despite(self, done: Done) -> Dict[int, Committed]:
+    def _confirmed_despite(self, done: Done, gone: Gone) -> Dict[int, Committed]:
         """The replies that came before a request which was not committed, where the tree agrees with them."""
         while True:
             try:
-                self._confirm(self.line.get(), done)
+                self._confirm(self.line.get(), done, gone)
                 return {number: reply for number, (_, reply) in done.items()}
             except Lost as lost:
                 self.line.lost(str(lost))

@@ -208,7 +208,7 @@ class Importer:
 
     def _operations(self, jobs: List[Job]) -> Iterator[Operation]:
         """The requests of files, which are read as they are sent. One that cannot be read is left out. Those that rename files come
-        once all pieces of these are acknowledged."""
+        once all pieces of these are acknowledged, with pieces of later files."""
         for job, index, data, taken in self._ahead.parts(jobs):
             whole = taken()
             sha256 = job.digests[index]
