@@ -30,8 +30,9 @@ class Server:
         self.say: Say = honestly
         self.before: Callable[[bytes], Optional[Answer]] = lambda payload: None
         self.lost_behind: Optional[int] = None
-        # Whether this conversation ends once nothing more comes.
+        # Whether this conversation ends once nothing more comes, and what is done then, once.
         self.silent = False
+        self.ended: Callable[[], object] = lambda: None
         # As the daemon does, all answers to what was read go out together; else each by itself.
         self.together = True
         self.requests: List[bytes] = []
@@ -57,7 +58,10 @@ class Server:
                     self.serve(connection)
                 except OSError:
                     pass
-                self.silent = False
+                if self.silent:
+                    self.silent = False
+                    self.ended()
+                    self.ended = lambda: None
 
     def serve(self, connection: socket.socket) -> None:
         frames, unsent = Frames(), b""

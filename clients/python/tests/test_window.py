@@ -9,6 +9,7 @@ import os
 import random
 import sys
 import unittest
+from contextlib import suppress
 from typing import Any, Callable, Dict, List, Optional, Tuple
 from unittest import mock
 
@@ -25,79 +26,8 @@ from .model import Directory, File, Volume
 from .programs import PATIENCE
 from .server import honestly, is_probe, request_of
 from .test_kills import killer
-from .with_server import WithServer, creates
-
-EARLIER = Moment(1000)
-
-
-def tree(files: int) -> List[Operation]:
-    """A folder in a folder, and files in both."""
-    folders = [Operation(p.MakeDir, ("d",), EARLIER), Operation(p.MakeDir, ("d", "e"), EARLIER)]
-    made = [Operation(p.Create, ("d", *["e"] * (index % 2), f"f{index}"), EARLIER, bytes(index)) for index in range(files)]
-    return folders + made
-
-
-class WithWindow(WithServer):
-    """Clients whose conversations end, and what became of their requests."""
-
-    def asked(self, volume: Volume, operations: List[Operation]) -> List[Tuple[p.Code, int]]:
-        """What a volume answers to operations, one after another."""
-        replies = [volume.answer(operation.request(1 << 40, number)) for number, operation in enumerate(operations, 1)]
-        known = [(reply.code, int(reply.commit)) for reply in replies if isinstance(reply, p.Committed)]
-        self.assertEqual(len(known), len(operations))
-        return known
-
-    def fresh(self, prepare: Callable[[Volume], None] = lambda volume: None) -> Client:
-        """A client with a new ledger, and a new volume."""
-        self.server.volume = Volume()
-        prepare(self.server.volume)
-        self.count = getattr(self, "count", 0) + 1
-        return self.client(os.path.join(self.room, f"ledger{self.count}.sqlite"))
-
-    def lost_after(self, answers: int) -> None:
-        """The conversation ends after so many answers, once: what came in by then is carried out, and not answered."""
-        left = [answers]
-
-        def say(payload: bytes, answer: p.Answer) -> Optional[bytes]:
-            if is_probe(payload) or left[0] < 0:
-                return honestly(payload, answer)
-            left[0] -= 1
-            return honestly(payload, answer) if left[0] >= 0 else None
-
-        self.server.say = say
-
-    def carried_out_and_lost(self, requests: int, first: type = p.Request) -> None:
-        """From the first request of this kind on the volume carries out so many, of which no answer comes, and then the conversation ends."""
-        left, begun = [requests], [False]
-
-        def say(payload: bytes, answer: p.Answer) -> Optional[bytes]:
-            request = request_of(payload)
-            begun[0] = begun[0] or isinstance(request, first)
-            if left[0] <= 0 or not begun[0] or is_probe(payload):
-                return honestly(payload, answer)
-            left[0] -= request is not None
-            return b"" if left[0] else None
-
-        self.server.say = say
-
-    def silent_after(self, answers: int) -> None:
-        """After so many answers all that comes is carried out and not answered, and then the conversation ends."""
-        left = [answers]
-
-        def say(payload: bytes, answer: p.Answer) -> Optional[bytes]:
-            if self.server.silent:
-                return b""
-            if is_probe(payload) or left[0] < 0:
-                return honestly(payload, answer)
-            left[0] -= 1
-            self.server.silent = left[0] < 0
-            return b"" if self.server.silent else honestly(payload, answer)
-
-        self.server.say = say
-
-    def history(self, client: Client) -> List[Tuple[int, Optional[int], Optional[int], bool]]:
-        session = client.session()
-        return [(number, code, commit, sure) for number, _, code, commit, sure in session.ledger.history(session.volume())]
+from .with_server import creates
+from .with_window import EARLIER, WithWindow, tree
 
 
 class Done(WithWindow):
@@ -302,26 +232,47 @@ class Careful(WithWindow):
         return [(outcome.code, outcome.commit) for outcome in outcomes]
 
     def test_any_requests(self) -> None:
-        """Chains of renames, removals, appends, and a path again and again: all replies are those of one after another."""
-        for seed in range(40):
+        """Chains of renames, removals, appends, and a path again and again: all replies are those of one after another, as far as no more
+        than four were under way. Of others what is called done is so, and what was done is never called unknown."""
+        exactly = 0
+        for seed in range(60):
             chance = random.Random(seed)
             operations = [self.some(chance) for _ in range(60)]
             alone = Volume()
             expected = self.asked(alone, operations)
             answers = chance.randrange(130)
-            with self.subTest(seed=seed):
-                self.assertEqual(self.run_lost(operations, lambda: self.silent_after(answers)), expected)
-                self.assertEqual(self.volume.files(), alone.files())
-                self.assertEqual(self.volume.list(), alone.list())
+            with self.subTest(seed=seed), self.fresh() as client:
+                self.silent_after(answers)
+                outcomes: List[Outcome] = []
+                with suppress(e.ReplyNotKept):
+                    outcomes.extend(client.run(operations))
+                told = {self.number_of(outcome.operation, operations): (outcome.code, outcome.commit) for outcome in outcomes}
+                for number, code, commit, _ in self.history(client):
+                    true, at = expected[number - 1]
+                    self.assertEqual(commit, at)
+                    self.assertEqual(told.get(number, (code, at)), (code, at))
+                    if code != true:
+                        self.assertTrue(code is None and true is not p.Code.DONE or self.is_as_good(operations[number - 1], true, code))
+                exactly += [(outcome.code, outcome.commit) for outcome in outcomes] == expected
+                self.assertEqual(client.resume(), [])
+                if len(told) == len(operations):
+                    self.assertEqual((self.volume.files(), self.volume.list()), (alone.files(), alone.list()))
+        self.assertGreater(exactly, 30)
+
+    def number_of(self, operation: Operation, operations: List[Operation]) -> int:
+        return next(number for number, other in enumerate(operations, 1) if other is operation)
+
+    def is_as_good(self, operation: Operation, true: p.Code, code: Optional[int]) -> bool:
+        """Whether a request that was refused may be called done: the tree had what it asked for."""
+        refusal = p.Code.NOT_FOUND if operation.kind is p.Remove else p.Code.EXISTS
+        return code == p.Code.DONE and true is refusal
 
     def test_each_kind_alone(self) -> None:
         """Each at a path of its own, and files replaced again and again."""
         names = [f"f{index}" for index in range(40)]
         made = [Operation(p.Create, (name,), EARLIER, b"x") for name in names[::2]]
         kinds: List[List[Operation]] = [
-            [Operation(p.Remove, (name,), EARLIER) for name in names],
             [Operation(p.Rename, (name,), EARLIER, to=(f"g{name}",)) for name in names],
-            [Operation(p.Append, (name,), EARLIER, b"y") for name in names],
             [Operation(p.Replace, (name,), EARLIER, bytes([turn])) for name in names[:2] for turn in range(20)],
         ]
         for operations in kinds:

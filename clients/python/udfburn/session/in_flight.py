@@ -14,7 +14,7 @@ from .together import disturbs, follows, is_shown, takes_away
 GROUPS = 2
 """Parts that are under way: while the replies to one and the next one are kept, the program works on the other."""
 
-GROUP_REQUESTS, GROUP_BYTES = PLACES // GROUPS, 4 * limits.FILE
+GROUP_REQUESTS, GROUP_BYTES = 30, 4 * limits.FILE
 """Requests that are kept and sent as one, and the bytes of their data."""
 
 FEW_REQUESTS = limits.REPLIES // GROUPS

@@ -11,7 +11,7 @@ from ..ledger.records import GIVEN_UP, NOT_KEPT, KnownVolume, Pending, Reply, di
 from ..local.sources import data_again
 from ..protocol import (
     CLIENTS_FULL, DAMAGED, FAULT, FULL, MEMORY, Answer, BadAnswer, Code, Committed, Gap, Malformed, Path, Remove, Stale, Stat, decode_message,
-    encode_message, frame, limits, printed,
+    encode_message, frame, limits, printed, show,
 )
 from ..protocol.units import Moment
 from ..wire.connection import Connection, Lost
@@ -26,7 +26,7 @@ Done = Dict[int, Tuple[Deed, Committed]]
 """What was done of pending requests, by their numbers."""
 
 Gone = Dict[int, Tuple[Deed, str]]
-"""The requests of which it is not known whether they were done, with their paths, by their numbers."""
+"""The requests of which it is not known whether they were done, with the paths that they were to change, by their numbers."""
 
 
 class Recovery:
@@ -143,7 +143,8 @@ class Recovery:
                     self.not_stored[pending.number] = pending.path
             else:
                 kept.append(Reply(pending.number, NOT_KEPT, found.gone[pending.number], False))
-                gone[pending.number] = deed_in(pending), pending.path
+                deed = deed_in(pending)
+                gone[pending.number] = deed, show(deed.to or deed.path)
         self.ledger.record(self._volume(), kept, [])
         for pending in committed:
             self.payloads.pop(pending.number, None)
