@@ -52,9 +52,9 @@ class Ahead(WithServer):
             with self.client() as client:
                 self.assertEqual([outcome.number - first for outcome in client.run(operations(wanted))], list(range(1, len(wanted) + 1)))
 
-        # Of two groups of 32 the first is at work, at most a third is made ready, and one more was looked at.
-        at_work(creates(200), 0, 64)
-        self.assertIn(max(ahead), range(64, 97))
+        # Of two groups of 30 the first is at work, at most a third is made ready, and one more was looked at.
+        at_work(creates(200), 0, 60)
+        self.assertIn(max(ahead), range(60, 91))
         # And of two groups of two: few are made ready, so that what depends on outcomes comes soon after them.
         at_work(renames(40), 200, 4)
         self.assertIn(max(ahead), range(4, 6))
@@ -81,33 +81,33 @@ class Ahead(WithServer):
 
     def test_a_group_goes_out_while_another_is_under_way(self) -> None:
         """So the server is at work while replies are kept: it never has to wait for all of both."""
-        self.assertEqual(self.groups(creates(150)), [32, 32, -32, 32, -32, 32, -32, 22, -32, -22])
+        self.assertEqual(self.groups(creates(150)), [30, 30, -30, 30, -30, 30, -30, 30, -30, -30])
         self.assertEqual(self.groups(renames(7), 10 + 6 + 6), [2, 2, -2, 2, -2, 1, -2, -1])
         removals = [Operation(p.Remove, (f"f{index}",), Moment(1)) for index in range(40)]
-        self.assertEqual(self.groups(removals, 10 + 6), [32, 8, -32, -8])
+        self.assertEqual(self.groups(removals, 10 + 6), [30, 10, -30, -10])
 
     def test_groups_of_large_files(self) -> None:
         """Four mebibytes of data, as four files of the greatest size are; whatever is larger than the rest of it waits."""
         large = [Operation(p.Create, (f"g{index}",), Moment(1), bytes(p.limits.FILE)) for index in range(10)]
         self.assertEqual(self.groups(large), [4, 4, -4, 2, -4, -2])
         mixed = [Operation(p.Create, (f"h{index}",), Moment(1), bytes(p.limits.FILE - index % 2)) for index in range(5)] + creates(30)
-        self.assertEqual(self.groups(mixed), [4, 31, -4, -31])
+        self.assertEqual(self.groups(mixed), [4, 30, -4, 1, -30, -1])
 
     def test_another_volume_between_two_turns(self) -> None:
         """Nothing is sent to it: what was acknowledged before is not there."""
         client, first = self.client(), self.volume
 
         def before(payload: bytes) -> None:
-            if is_probe(payload) and payload[9:17] == b"\xff" * 8 and first.commits == 64:
+            if is_probe(payload) and payload[9:17] == b"\xff" * 8 and first.commits == 60:
                 self.server.volume = Volume()
 
         self.server.before = before
         done: List[p.Path] = []
         # Each turn is over at once, also by a clock that stands still.
-        with mock.patch("udfburn.wire.retrying.TURN", -1.0), self.assertRaisesRegex(e.EmptyVolume, "empty .*up to 64 .*--forget"):
+        with mock.patch("udfburn.wire.retrying.TURN", -1.0), self.assertRaisesRegex(e.EmptyVolume, "empty .*up to 60 .*--forget"):
             done.extend(outcome.operation.path for outcome in client.run(creates(100)))
-        self.assertEqual(done, [(f"f{index}",) for index in range(64)])
-        self.assertEqual((first.commits, self.volume.commits), (64, 0))
+        self.assertEqual(done, [(f"f{index}",) for index in range(60)])
+        self.assertEqual((first.commits, self.volume.commits), (60, 0))
 
 
 if __name__ == "__main__":

@@ -51,7 +51,7 @@ class Done(WithWindow):
 
     def test_no_answer_to_what_was_carried_out(self) -> None:
         """The replies to all but the last four are gone."""
-        for requests in (1, 3, 4, 5, 6, 31, 32, 33, 40, 63, 64):
+        for requests in (1, 3, 4, 5, 6, 29, 30, 31, 40, 59, 60):
             client = self.fresh()
             self.carried_out_and_lost(requests)
             with self.subTest(requests=requests), client:
@@ -95,8 +95,8 @@ class Done(WithWindow):
 
     def test_another_process_finishes_it(self) -> None:
         """It learns of each what became of it, as the first one would have."""
-        operations = tree(62)
-        for requests in (0, 1, 20, 60, 64):
+        operations = tree(58)
+        for requests in (0, 1, 20, 56, 60):
             client = self.fresh()
             self.server.before = lambda payload: p.FAULT if self.volume.commits >= requests and request_of(payload) else None
             self.server.say = lambda payload, answer: honestly(payload, answer) if is_probe(payload) else b"" if answer != p.FAULT else None
@@ -111,11 +111,11 @@ class Done(WithWindow):
                 replies, wanted = second.resume(), [(n, p.show(o.path), p.Code.DONE, n) for n, o in enumerate(operations, 1)]
                 # The first one may have had some replies.
                 self.assertEqual(replies, wanted[-len(replies) :])
-                self.assertGreaterEqual(len(replies), 60)
-                self.assertEqual((self.volume.commits, second.resume()), (64, []))
-                self.assertEqual([known[:3] for known in self.history(second)], [(number, 0, number) for number in range(1, 65)])
+                self.assertGreaterEqual(len(replies), 56)
+                self.assertEqual((self.volume.commits, second.resume()), (60, []))
+                self.assertEqual([known[:3] for known in self.history(second)], [(number, 0, number) for number in range(1, 61)])
                 self.assertTrue(all(sure for *_, sure in self.history(second)[-len(replies) :]))
-                self.assertEqual(second.create("/after", b""), 65)
+                self.assertEqual(second.create("/after", b""), 61)
 
     def test_beside_the_commits_of_others(self) -> None:
         """Those before and after the conversation. The commits of requests whose replies are gone are their own."""
@@ -174,7 +174,7 @@ class Refused(WithWindow):
         refused = {index for index, (code, _) in enumerate(expected) if code is not p.Code.DONE}
         self.assertEqual(len(refused), 8)
         stale = 0
-        for requests in (0, 2, 5, 8, 20, 40, 52, 55, 58, 60, 64):
+        for requests in (0, 2, 5, 8, 20, 40, 52, 55, 57, 58, 60):
             client = self.fresh(self.others)
             self.carried_out_and_lost(requests)
             gone = {index for index in refused if index < requests - 4}

@@ -4,7 +4,7 @@ from __future__ import annotations
 
 import argparse
 import os
-from typing import TYPE_CHECKING, List, Set, Tuple
+from typing import TYPE_CHECKING, Dict, List, Set, Tuple
 
 from ..base.errors import Exists, IntoItself, IsRoot, NoParent, NotDirectory, NotEmpty, UsageError
 from ..base.escape import encode
@@ -230,21 +230,26 @@ def mv(arguments: argparse.Namespace) -> int:
 
 
 def rm(arguments: argparse.Namespace) -> int:
-    """Removes."""
+    """Removes, once all paths were found."""
     progress = progress_of(arguments)
     with writer(arguments) as client, client.held():
         finish_first(client, arguments)
         planned: Set[Path] = set()
+        found: Dict[Path, None] = {}
         for path in map(path_of, arguments.path):
             paths = paths_below(client, path, arguments)
+            found.update(dict.fromkeys(paths))
             if arguments.dry_run:
                 would_remove(client, paths, planned)
                 for gone in paths:
                     progress.told("would remove", gone, 0, 0)
-            elif paths != [path]:
-                remove_paths(client, paths, progress.told)
-            else:
-                progress.told("removed", path, 0, client.remove(path))
+        if arguments.dry_run:
+            return 0
+        if len(found) == 1:
+            (path,) = found
+            progress.told("removed", path, 0, client.remove(path))
+        else:
+            remove_paths(client, found, progress.told)
     return 0
 
 

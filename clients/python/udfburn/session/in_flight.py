@@ -5,7 +5,7 @@ from __future__ import annotations
 from collections import deque
 from typing import Deque, Dict, Iterable, Iterator, List, Optional, Sequence
 
-from ..ledger.records import LARGE_DATA, PLACES, Pending, Reply, facts_of
+from ..ledger.records import LARGE_DATA, Pending, Reply, facts_of
 from ..protocol import DAMAGED, FAULT, MEMORY, Code, Committed, Path, Stat, decode_answer, encode_message, frame, limits, prefix, show
 from ..wire.connection import Lost
 from ..wire.operations import Operation, Outcome, confirmed, paths_of, surely
@@ -15,7 +15,8 @@ GROUPS = 2
 """Parts that are under way: while the replies to one and the next one are kept, the program works on the other."""
 
 GROUP_REQUESTS, GROUP_BYTES = 30, 4 * limits.FILE
-"""Requests that are kept and sent as one, and the bytes of their data."""
+"""Requests that are kept and sent as one, and the bytes of their data. The program reads 64 KiB of a pipe at once, and answers these
+together: 30 files of 4 KiB with their questions fill two such pieces. 32 would begin a third, which takes two more synchronisations."""
 
 FEW_REQUESTS = limits.REPLIES // GROUPS
 """Requests in a group where the tree does not show what became of each."""

@@ -115,8 +115,8 @@ class Client:
 
     def run(self, operations: Iterable[Operation]) -> Iterator[Outcome]:
         """Does operations in order, and yields the outcome of each: once its reply is in the ledger and the tree agrees with it. A
-        refusal is an outcome too. Up to 64 operations are under way at once, and 32 more are read ahead; up to four and two, where the tree
-        does not show what became of each (`udfburn.session.in_flight`)."""
+        refusal is an outcome too. Up to 60 operations are under way at once, and 30 more are read ahead; up to four and two, where the tree
+        does not show what became of each (`udfburn.session.together`)."""
         with self.held():
             yield from self.session().run(operations)
 

@@ -30,8 +30,8 @@ FILES_AT_ONCE = 64
 """Files that are stored before the first of them are read back or deleted, or what an earlier one left is removed."""
 
 LIST_FILES, LIST_BYTES = 1024, 64 * limits.FILE
-"""Files that are stored as one list of requests where nothing is done with them afterwards, and their bytes, which memory has
-where other clients make the same paths."""
+"""Files that are stored as one list of requests where nothing is done with them afterwards, and the bytes of files in a list. Memory has those
+of files that other clients make too, but none of files that grow."""
 
 
 class Importer:
@@ -145,15 +145,17 @@ class Importer:
     def _chunks(self, jobs: Iterable[Job]) -> Iterator[List[Job]]:
         """The files that are stored together: the fewer lists, the less often nothing is under way."""
         options = self.options
-        most = FILES_AT_ONCE if options.verify or options.delete_source or options.split else LIST_FILES
+        is_done_later = options.verify or options.delete_source or options.split
+        most = FILES_AT_ONCE if is_done_later else LIST_FILES
         chunk: List[Job] = []
         size = 0
         for job in jobs:
-            if chunk and (len(chunk) == most or size + job.source.identity.size > LIST_BYTES):
+            counted: int = job.source.identity.size if is_done_later or not job.grows else 0
+            if chunk and (len(chunk) == most or size + counted > LIST_BYTES):
                 yield chunk
                 chunk, size = [], 0
             chunk.append(job)
-            size += job.source.identity.size
+            size += counted
         if chunk:
             yield chunk
 

@@ -2,10 +2,11 @@
 
 from __future__ import annotations
 
+from itertools import takewhile
 from typing import TYPE_CHECKING, Callable, Iterable, Iterator, List, Tuple
 
 from ..protocol import Code, List as ListQuery, Name, Names, Node, NodeKind, Path, Remove, Stat
-from ..wire.operations import Operation, now
+from ..wire.operations import Operation, Outcome, now
 from ..wire.refusals import expected, refusal
 from .preflight import Present
 
@@ -62,13 +63,18 @@ def remove_tree(client: Client, path: Path, told: StepTold = quiet) -> int:
 
 
 def remove_paths(client: Client, paths: Iterable[Path], told: StepTold = quiet) -> int:
-    """Removes files and empty directories in this order. Gives how many went; one that is gone already is as good."""
+    """Removes files and empty directories in this order. Gives how many went; one that is gone already is as good. After a refusal only
+    those go that are under way by then: they are told, and then the refusal is raised."""
     count = 0
-    for outcome in client.run(Operation(Remove, path, now()) for path in paths):
-        if outcome.code not in (Code.DONE, Code.NOT_FOUND):
-            raise refusal(outcome)
-        told("removed", outcome.operation.path, 0, outcome.commit)
-        count += 1
+    refused: List[Outcome] = []
+    for outcome in client.run(Operation(Remove, path, now()) for path in takewhile(lambda _: not refused, paths)):
+        if outcome.code in (Code.DONE, Code.NOT_FOUND):
+            told("removed", outcome.operation.path, 0, outcome.commit)
+            count += 1
+        else:
+            refused.append(outcome)
+    if refused:
+        raise refusal(refused[0])
     return count
 
 

@@ -19,8 +19,8 @@ SOCKET_PIECE = 1 << 18
 LONGEST_WAIT = 1e6
 """The longest wait for an answer, in seconds: the system counts them in milliseconds of 32 bits."""
 
-SEND_BUFFER = 1 << 20
-"""Bytes that may be on their way to a daemon, if the system allows it."""
+SEND_BUFFER = 1 << 22
+"""Bytes that may be on their way to a daemon, if the system allows it: it answers what is there when it looks together."""
 
 
 class Lost(Exception):
