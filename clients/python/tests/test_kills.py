@@ -12,11 +12,13 @@ import sys
 import threading
 import time
 import unittest
+from contextlib import closing
 from typing import Any, Dict, Iterator, List, Optional, Set
 
 import udfburn
 from udfburn import Client
 from udfburn import protocol as p
+from udfburn.ledger.ledger import Ledger
 from udfburn.ledger.records import LARGE_DATA
 from udfburn.protocol.units import Moment
 from udfburn.wire.operations import Operation
@@ -34,7 +36,7 @@ BATCH, BATCHES = 100, 40
 CODE = os.path.dirname(udfburn.__file__)
 NAMES = (
     "session/session.py", "session/conversation.py", "session/recovery.py", "session/in_flight.py", "session/shown.py", "session/recognition.py", "image/identity.py", "ledger/ledger.py", "ledger/file.py", "ledger/records.py", "ledger/schema.py", "trees/tree.py", "wire/connection.py",
-    "trees/seal.py", "local/sources.py", "trees/ahead.py", "wire/library.py",
+    "trees/seal.py", "local/sources.py", "trees/ahead.py", "wire/library.py", "session/together.py",
 )
 TRACED = {os.path.join(CODE, name) for name in NAMES}
 
@@ -118,6 +120,8 @@ class ClientKilled(WithPrograms):
         self.batches = 0
         self.chance = random.Random(2)
         self.longest = 0.12
+        # An import of all files of a folder takes some 33,000 lines, and sends its first request after 5,000 of them.
+        self.most_lines = 33_000.0
 
     def sources(self) -> None:
         """A folder of files that are not stored yet; where the volume has no room for further names the last ones come again, which
@@ -143,15 +147,20 @@ class ClientKilled(WithPrograms):
         os.kill(child, signal.SIGKILL)
         killed = os.WIFSIGNALED(os.waitpid(child, 0)[1])
         # However fast or slow the machine is, it is seldom at its end, and not at its beginning alone.
-        self.longest *= 1.03 if killed else 0.8
+        self.longest *= 1.1 if killed else 0.8
         return killed
 
     def killed_by_line(self, verify: bool) -> bool:
         """The same; it kills itself between two statements."""
+        # Drawn here: what a child draws, the next one would draw again.
+        lines = self.chance.randrange(1, int(self.most_lines))
         child = os.fork()
         if not child:
-            self.child(verify, self.chance.randrange(1, 4000))
-        return os.WIFSIGNALED(os.waitpid(child, 0)[1])
+            self.child(verify, lines)
+        killed = os.WIFSIGNALED(os.waitpid(child, 0)[1])
+        # The fewer files are left, the fewer lines it takes.
+        self.most_lines *= 1.1 if killed else 0.8
+        return killed
 
     def child(self, verify: bool, lines: Optional[int]) -> None:
         status = 1
@@ -174,12 +183,20 @@ class ClientKilled(WithPrograms):
             self.assertEqual(answer, p.Data(content(self.files[local])), local)
         self.gone.update(gone)
 
-    def kill_often(self, kills: int, kill: Any) -> None:
+    def requests(self) -> int:
+        """How many requests the ledger has."""
+        with closing(Ledger(self.ledger, wait=PATIENCE)) as ledger:
+            return sum(len(ledger.sent(volume)) for volume in ledger.volumes())
+
+    def kill_often(self, kills: int, kill: Any) -> int:
+        """Kills so many imports, and gives how many of them had sent requests by then."""
         self.sources()
-        killed = 0
+        killed = at_work = 0
         while killed < kills:
+            before = self.requests()
             ended = not kill(verify=killed % 2 == 0)
             killed += not ended
+            at_work += not ended and self.requests() > before
             if killed % 10 == 0 or ended:
                 self.check_gone()
             if ended:
@@ -198,6 +215,7 @@ class ClientKilled(WithPrograms):
         self.assertEqual({code for _, _, code, _, _ in history}, {0})
         paths: List[str] = [path for _, path, *_ in history]
         self.assertEqual(len(set(paths)), len(paths), "each request once")
+        return at_work
 
     def test_by_time_over_the_socket(self) -> None:
         self.serve()
@@ -207,7 +225,7 @@ class ClientKilled(WithPrograms):
     def test_by_line_over_the_socket(self) -> None:
         self.serve()
         self.way = f"unix:{self.path}"
-        self.kill_often(KILLS, self.killed_by_line)
+        self.assertGreater(self.kill_often(KILLS, self.killed_by_line), KILLS // 4)
 
     def test_by_time_on_an_image(self) -> None:
         """The program goes on with what it has read, while the next one waits for the image."""
@@ -217,7 +235,7 @@ class ClientKilled(WithPrograms):
 
     def test_by_line_on_an_image(self) -> None:
         self.way = f"image:{self.image}"
-        self.kill_often(KILLS // 10, self.killed_by_line)
+        self.assertGreater(self.kill_often(KILLS // 10, self.killed_by_line), KILLS // 40)
 
     def test_both_are_killed(self) -> None:
         daemon: Daemon = self.serve()
