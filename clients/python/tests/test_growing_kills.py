@@ -33,6 +33,7 @@ from udfburn.protocol.units import Moment
 
 from .model import Volume
 from .programs import PATIENCE, UDFBURN, WithPrograms
+from .relay import Relay
 from .with_server import WithServer
 
 PHOTOS = {name: random.Random(name).randbytes(2 * p.limits.FILE + 950_000) for name in ("a.jpg", "b.jpg")}
@@ -169,6 +170,29 @@ class OverADaemon(OnAnImage):
         daemon = getattr(self, "daemon", None)
         if daemon is not None:
             daemon.kill()
+
+
+class Lost(OverADaemon):
+    """The same process goes on, where a conversation ends after so many answers, and all that was sent is carried out."""
+
+    def test_each_call(self) -> None:
+        """After each answer."""
+        answers, cut = 0, True
+        while cut:
+            self.anew(answers)
+            self.sources()
+            relay = Relay(os.path.join(self.room, "relay"), self.path, answers)
+            self.way = f"unix:{relay.path}"
+            try:
+                with self.subTest(answers=answers):
+                    self.assertFalse(self.put(0))
+            finally:
+                relay.close()
+            self.way = f"unix:{self.path}"
+            self.check(False)
+            answers, cut = answers + 1, relay.cut
+        # To each request and to the question after it, and to those by which the volume is known.
+        assert answers > 2 * REQUESTS, answers
 
 
 class Known(WithPrograms):
