@@ -216,6 +216,19 @@ class Commands(Local):
         self.assertEqual(self.words("rm", "--dry-run", "/d/a", "/d/e", "/d"), ["would remove /d/a", "would remove /d/e", "would remove /d"])
         self.assertEqual(self.words("ls", "/d"), ["d e", "f a"])
 
+    def test_rm_of_many(self) -> None:
+        """They go out together; nothing goes where one is missing, and what is refused stays."""
+        self.words("mkdir", "/d", *(f"/d/e{index}" for index in range(40)))
+        names = [f"/d/e{index}" for index in range(40)]
+        self.words("put", self.write("a"), "/d/e7/a")
+        self.assertIn("/d/missing", self.words("rm", *names[:5], "/d/missing", status=1)[0])
+        self.assertEqual(len(self.words("ls", "/d")), 40)
+        told = self.words("rm", *names, *names[:2], status=1)
+        self.assertIn("udfburn-client: /d/e7: is a directory with names (rm -r removes them too)", told)
+        gone = {line.split()[1] for line in told if line.startswith("removed ")}
+        self.assertTrue(set(names[:7]) <= gone <= set(names) - {"/d/e7"})
+        self.assertEqual(self.words("rm", "-r", "/d", "/d/e7")[-1], "removed /d")
+
     def test_resume(self) -> None:
         self.server.before = lambda payload: p.FAULT if request_of(payload) else None
         local = self.write("a")

@@ -306,6 +306,25 @@ class Interrupted(Growing):
         self.assertEqual(self.put(delete_source=True).deleted, 1)
         self.assertEqual(self.files(), {"/x/photo": content(1)})
 
+    def test_full_after_a_whole_one(self) -> None:
+        """What is whole by then has its name."""
+        self.write("a", content(1))
+        self.write("b", content(2))
+
+        def before(payload: bytes) -> Optional[p.Answer]:
+            request = request_of(payload)
+            return p.FULL if isinstance(request, p.Append) and len(self.unfinished()) == 2 else None
+
+        self.server.before = before
+        with self.assertRaises(e.Full):
+            self.put(delete_source=True)
+        self.assertEqual(len(self.unfinished()), 1)
+        self.assertEqual(self.files()["/x/a"], content(1))
+        self.assertEqual(sorted(os.listdir(self.folder)), ["a", "b"])
+        self.server.before = lambda payload: None
+        self.assertEqual(self.put(delete_source=True).deleted, 2)
+        self.assertEqual(self.files(), {"/x/a": content(1), "/x/b": content(2)})
+
     def test_a_piece_that_is_refused(self) -> None:
         """Somebody changes the file between two pieces: it does not get its name, its source stays, and the same command begins anew."""
         for refused in (MEBIBYTE, 2 * MEBIBYTE):

@@ -12,8 +12,9 @@ from udfburn import Client
 from udfburn import protocol as p
 from udfburn.base import errors as e
 from udfburn.base.unfinished import is_unfinished
+from udfburn.ledger.records import PLACES
 from udfburn.protocol.units import Moment, Size
-from udfburn.session.in_flight import Group, InFlightRequest, Window
+from udfburn.session.in_flight import GROUP_REQUESTS, GROUPS, Group, InFlightRequest, Window
 from udfburn.trees.growing import naming, piece_request
 from udfburn.trees.tree import ImportOptions, put_all
 from udfburn.wire.operations import Operation, Outcome, Whole
@@ -318,6 +319,9 @@ class Together(unittest.TestCase):
             with self.subTest(pair=[operation.kind.__name__ for operation in pair]):
                 self.assertEqual(self.under_way(*pair), 1)
         self.assertEqual(self.under_way(plain), 0)
+
+    def test_the_ledger_has_a_place_for_each(self) -> None:
+        self.assertLessEqual(GROUPS * GROUP_REQUESTS, PLACES)
 
     def test_what_has_its_reply_is_no_matter(self) -> None:
         window, group = Window(), Group()

@@ -6,7 +6,7 @@ from collections import deque
 from contextlib import closing, suppress
 from typing import TYPE_CHECKING, Callable, Deque, Iterable, Iterator, List, Optional, Tuple, Type
 
-from ..base.errors import Differs, DoesNotFit, SourceError, UsageError
+from ..base.errors import Differs, DoesNotFit, Full, SourceError, UsageError
 from ..base.split import stays_in_parts, stored_paths
 from ..base.unfinished import grows, unfinished_path
 from ..local.sources import Folder, Scan, delete, origin_of, scan, shown
@@ -257,14 +257,26 @@ class Importer:
         again: Deque[Operation] = deque()
         for _ in range(5):
             again.clear()
-            for outcome in outcomes:
-                self._take(outcome, again)
+            self._take_all(outcomes, again)
             once_more = [operation for refused in again for operation in self._once_more(refused)] + list(self._renames())
             if not once_more:
                 return
             outcomes = self.client.run(once_more)
         for operation in again:
             operation.tag[0].fail(f"{printed(operation.path)}: another client makes and removes it all the time")
+
+    def _take_all(self, outcomes: Iterable[Outcome], again: Deque[Operation]) -> None:
+        """Takes outcomes. Where there is no room for more, what is whole gets its name before that is raised, if nothing is removed for it:
+        there may be no room for the name then."""
+        try:
+            for outcome in outcomes:
+                self._take(outcome, again)
+        except Full:
+            self._whole = deque([job for job in self._whole if job.source.path not in self.present.kinds])
+            names = list(self._renames())
+            if names:
+                self._take_all(self.client.run(names), again)
+            raise
 
     def _take(self, outcome: Outcome, again: Deque[Operation]) -> None:
         operation = outcome.operation
