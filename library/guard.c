@@ -79,11 +79,26 @@ static int32_t refused(int32_t status) {
     return status;
 }
 
-int32_t udfburn_enter(struct udfburn_call *call, udfburn *handle) {
+int32_t udfburn_enter_lost(struct udfburn_call *call, udfburn *handle) {
     if (!handle) return refused(UDFBURN_ARGUMENT);
     if (!udfburn_is_own(handle) || __atomic_exchange_n(&handle->is_busy, 1, __ATOMIC_ACQUIRE)) return refused(UDFBURN_MISUSE);
     begin_call(call, handle, NULL);
     return UDFBURN_OK;
+}
+
+static void end_call(const struct udfburn_call *call) {
+    current = call->outer;
+    if (call->handle) __atomic_store_n(&call->handle->is_busy, 0, __ATOMIC_RELEASE);
+}
+
+int32_t udfburn_enter(struct udfburn_call *call, udfburn *handle) {
+    int32_t status = udfburn_enter_lost(call, handle);
+    if (status == UDFBURN_OK && handle->group_lost != UDFBURN_OK) {
+        /* What is told of why stays that of the call that lost the group. */
+        status = handle->group_lost;
+        end_call(call);
+    }
+    return status;
 }
 
 int32_t udfburn_leave(struct udfburn_call *call, int32_t status) {
@@ -96,8 +111,7 @@ int32_t udfburn_leave(struct udfburn_call *call, int32_t status) {
         why->call = call->failed;
         if (!handle) put_path(why, call->path);
     }
-    current = call->outer;
-    if (handle) __atomic_store_n(&handle->is_busy, 0, __ATOMIC_RELEASE);
+    end_call(call);
     return status;
 }
 
@@ -115,6 +129,8 @@ void udfburn_note(const char *failed, int32_t error) {
     int is_full = error == ENOSPC || error == EDQUOT || error == EFBIG, is_forbidden = error == EROFS || error == EACCES || error == EPERM;
     udfburn_note_as(!is_of_system ? UDFBURN_DEVICE : is_full ? UDFBURN_NO_SPACE : is_forbidden ? UDFBURN_READ_ONLY : UDFBURN_DEVICE, failed, error);
 }
+
+int32_t udfburn_why_lost(void) { return current && current->failed ? current->status : UDFBURN_MEMORY; }
 
 void udfburn_note_lock(int fd) {
     if (current) current->locked = fd;
@@ -135,7 +151,7 @@ int32_t udfburn_reason(udfburn *handle, struct udfburn_reason *reason) {
     struct udfburn_reason told;
     struct udfburn_call call;
     if (!reason || !udfburn_has_room(reason->size, sizeof told)) return UDFBURN_ARGUMENT;
-    if (handle && udfburn_enter(&call, handle) != UDFBURN_OK) return UDFBURN_MISUSE;
+    if (handle && udfburn_enter_lost(&call, handle) != UDFBURN_OK) return UDFBURN_MISUSE;
     const struct udfburn_why *why = handle ? &handle->why : &last;
     memset(&told, 0, sizeof told);
     told.size = reason->size;

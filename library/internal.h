@@ -29,9 +29,12 @@ struct udfburn_call {
     struct udfburn_call *outer;
 };
 
-/* Begins a call. UDFBURN_ARGUMENT without a handle, and UDFBURN_MISUSE where another call is on it, or its process is the parent of
- * this one: the call must not be ended then. */
+/* Begins a call. UDFBURN_ARGUMENT without a handle, UDFBURN_MISUSE where another call is on it, or its process is the parent of
+ * this one, and why the open group is lost where it is: the call must not be ended then. */
 int32_t udfburn_enter(struct udfburn_call *call, udfburn *handle);
+
+/* The same for a call that may be made where the group is lost. */
+int32_t udfburn_enter_lost(struct udfburn_call *call, udfburn *handle);
 
 /* The same for a call that has no handle: it succeeds. */
 void udfburn_enter_without(struct udfburn_call *call, const char *path);
@@ -44,6 +47,10 @@ void udfburn_note(const char *failed, int32_t error);
 
 /* The same, where UDFBURN_DEVICE is to be this status. */
 void udfburn_note_as(int32_t status, const char *failed, int32_t error);
+
+/* Why a group was lost where the core says UDFBURN_DEVICE: by the call of the system that failed. Where none did, memory was short for
+ * what the core keeps of a group. */
+int32_t udfburn_why_lost(void);
 
 /* The descriptor that is locked: what udfburn_call.locked says. */
 void udfburn_note_lock(int fd);
@@ -85,6 +92,8 @@ struct udfburn {
     struct udfburn_file file;
     int32_t ended;              /* what udfburn_answer() returns from now on, or UDFBURN_OK */
     int32_t lost;               /* the file is not there any more, or the drive gives another volume: no answer is given */
+    int32_t in_group;           /* udfburn_begin() was called, and udfburn_settle() not yet */
+    int32_t group_lost;         /* why the group was taken back, or UDFBURN_OK */
     unsigned length_bytes;      /* of the frame that has begun: how many bytes of its length came */
     uint32_t length;            /* these bytes, and then how many bytes of its payload are missing */
     uint8_t *kept;              /* answers of a core that was replaced, or NULL */
@@ -122,6 +131,9 @@ int32_t udfburn_has_bytes(udfburn *handle, const char *path, uint64_t offset, co
 
 /* Has the identity of a handle known. */
 int32_t udfburn_identify(udfburn *handle);
+
+/* Takes the open group back before the handle is closed. */
+void udfburn_drop_group(udfburn *handle);
 
 /* UDFBURN_DEVICE, from then on, where the file lost its name, or the descriptor is not of this file any more. */
 int32_t udfburn_check_file(udfburn *handle);
@@ -230,6 +242,9 @@ int32_t udfburn_core_open_fd(void *handle, int32_t fd);
 int32_t udfburn_core_open_drive(void *handle, int32_t number);
 int32_t udfburn_core_open_memory(void *handle, const uint8_t *label, size_t label_length, uint64_t moment, uint32_t capacity);
 int32_t udfburn_core_answer(void *handle, const uint8_t *bytes, size_t count);
+void udfburn_core_begin(void *handle);
+int32_t udfburn_core_settle(void *handle);
+void udfburn_core_take_back(void *handle);
 size_t udfburn_core_answered(void *handle);
 size_t udfburn_core_take(void *handle, uint8_t *into, size_t room);
 int32_t udfburn_core_next_block(void *handle, uint32_t *address, uint8_t *block);

@@ -185,7 +185,8 @@ static void close_of_parent(udfburn *handle) {
 void udfburn_close(udfburn *handle) {
     struct udfburn_call call;
     if (handle && !udfburn_is_own(handle)) close_of_parent(handle);
-    else if (handle && udfburn_enter(&call, handle) == UDFBURN_OK) {
+    else if (handle && udfburn_enter_lost(&call, handle) == UDFBURN_OK) {
+        udfburn_drop_group(handle);
         /* The number may be that of another file by mistake, whose lock is not ours. */
         if (!udfburn_is_file(&handle->file)) call.locked = -1;
         call.handle = NULL;
@@ -276,17 +277,23 @@ int udfburn_between_frames(const udfburn *handle) {
 
 int32_t udfburn_answer_in(udfburn *handle, const void *bytes, size_t count) {
     const uint8_t *from = bytes;
+    int32_t status = UDFBURN_OK;
+    if (handle->group_lost != UDFBURN_OK) return handle->group_lost;
     if (handle->ended != UDFBURN_OK || udfburn_check_file(handle) != UDFBURN_OK) return handle->ended;
     /* To a drive one message after another, since it may go on elsewhere after each commit. */
-    while (count > 0 && handle->ended == UDFBURN_OK) {
+    while (count > 0 && status == UDFBURN_OK) {
         size_t part = handle->port ? follow(handle, from, count) : follow_all(handle, from, count);
-        handle->ended = udfburn_core_answer(handle->core, from, part);
-        if (handle->ended == UDFBURN_OK) handle->ended = udfburn_follow_drive(handle);
+        status = udfburn_core_answer(handle->core, from, part);
+        if (status == UDFBURN_OK) status = udfburn_follow_drive(handle);
         from += part;
         count -= part;
     }
+    /* Where the core took the open group back the stream goes on after the group. */
+    if (status != UDFBURN_OK && handle->in_group && handle->file.fd >= 0)
+        status = handle->group_lost = status == UDFBURN_DEVICE ? udfburn_why_lost() : status;
+    else handle->ended = status;
     /* An answer is of no use where nobody can find the file any more. */
-    return udfburn_check_file(handle) == UDFBURN_OK ? handle->ended : UDFBURN_DEVICE;
+    return udfburn_check_file(handle) == UDFBURN_OK ? status : UDFBURN_DEVICE;
 }
 
 int32_t udfburn_answer(udfburn *handle, const void *bytes, size_t count) {
@@ -294,6 +301,7 @@ int32_t udfburn_answer(udfburn *handle, const void *bytes, size_t count) {
     int32_t status = udfburn_enter(&call, handle);
     if (status != UDFBURN_OK) return status;
     int is_wrong = (!bytes && count > 0) || count > PTRDIFF_MAX;
+    if (handle->in_group) return udfburn_leave(&call, UDFBURN_MISUSE);
     return udfburn_leave(&call, is_wrong ? UDFBURN_ARGUMENT : udfburn_answer_in(handle, bytes, count));
 }
 

@@ -3,9 +3,10 @@
  * SPDX-License-Identifier: MIT OR Apache-2.0
  *
  * A volume is one growing file tree. Its blocks are written once, in order of address. You open it and send requests. When
- * a request returns UDFBURN_OK, it is on the medium: you may delete the source. After a crash or a loss of power the
- * volume holds the state after the last committed request, and no acknowledged request is lost. That a file keeps what
- * was synced, and a drive what it acknowledged, is for the system and the drive to keep. The library is for Linux on x86-64.
+ * a request returns UDFBURN_OK, it is on the medium: you may delete the source. (In a group it is when udfburn_settle() returns
+ * UDFBURN_OK.) After a crash or a loss of power the volume holds the state after the last committed request, and no acknowledged
+ * request is lost. That a file keeps what was synced, and a drive what it acknowledged, is for the system and the drive to keep.
+ * The library is for Linux on x86-64.
  *
  *     udfburn *disc;
  *     struct udfburn_request request = { .client = 7, .moment = 1700000000000000 };
@@ -96,7 +97,8 @@ enum udfburn_code {
     UDFBURN_VOLUME = 5,         /* no volume, a damaged one, or one that cannot be made with this moment or capacity */
     UDFBURN_ARGUMENT = 6,       /* NULL, or another argument that the call does not accept */
     UDFBURN_NONE = 7,           /* there is none: no block waits, or no commit comes before */
-    UDFBURN_MISUSE = 8,         /* another call is on the handle, or it is a handle of the parent: nothing was done */
+    UDFBURN_MISUSE = 8,         /* another call is on the handle, or it is a handle of the parent, or the call does not fit the
+                                 * group that is open, or that none is: nothing was done */
     UDFBURN_BUSY = 9,           /* another handle or another process has the file or the drive */
     UDFBURN_NO_IMAGE = 10,      /* there is no file of this name in its folder */
     UDFBURN_NO_SPACE = 11,      /* the disk, its quota or RLIMIT_FSIZE has no room for the file; else as UDFBURN_DEVICE */
@@ -207,7 +209,8 @@ int32_t udfburn_expect(udfburn *handle, uint32_t commit);
 int32_t udfburn_open_memory(const char *label, uint64_t moment, uint32_t capacity, udfburn **out);
 
 /* Close a volume, give its lock up and free the handle. Nothing is written: all that was acknowledged is on the medium
- * already. NULL is allowed. While another call is on the handle, nothing is done: close it again afterwards. */
+ * already. A group that is open is taken back: nothing of it is there. NULL is allowed. While another call is on the handle,
+ * nothing is done: close it again afterwards. */
 void udfburn_close(udfburn *handle);
 
 /* ---- Requests ------------------------------------------------------------------------------------------------------
@@ -226,8 +229,8 @@ void udfburn_close(udfburn *handle);
  *     whether they were refused: before you delete a source, send its request again, or look at the tree.
  *
  * The calls return UDFBURN_OK when the change is committed and durable (of a volume in memory: when its blocks can be
- * taken), 33 to 42 when the request is committed and refused, and the other statuses as said above. UDFBURN_ARGUMENT: also
- * client 0, a moment past the limit, or more than UDFBURN_FILE_LIMIT bytes. */
+ * taken; in a group: see there), 33 to 42 when the request is committed and refused, and the other statuses as said above.
+ * UDFBURN_ARGUMENT: also client 0, a moment past the limit, or more than UDFBURN_FILE_LIMIT bytes. */
 struct udfburn_request {
     uint64_t client;            /* above 0 */
     uint64_t number;            /* above 0; or 0: the client's next number, which the call writes here */
@@ -285,6 +288,34 @@ int32_t udfburn_remove(udfburn *handle, struct udfburn_request *request, const c
 
 /* The number of the client's last committed request, done or refused. `*number` is 0 if the volume knows none of it. */
 int32_t udfburn_last_number(udfburn *handle, uint64_t client, uint64_t *number);
+
+/* ---- Groups --------------------------------------------------------------------------------------------------------
+ *
+ * A request on a file takes two syncs of the disk. Those between udfburn_begin() and udfburn_settle() take two together:
+ *
+ *     int32_t status = udfburn_begin(disc);
+ *     for (i = 0; i < count && status == UDFBURN_OK; i++) status = udfburn_create(disc, &requests[i], paths[i], ..);
+ *     int32_t settled = udfburn_settle(disc);
+ *
+ * Each is a commit of its own, and its call returns its status at once, by the tree that those before it left. Queries see that
+ * tree too. But nothing of a group is promised until udfburn_settle() has returned UDFBURN_OK: keep the sources until then. After
+ * a crash, a loss of power or udfburn_close() the group is there as a whole, or nothing of it is.
+ *   A long group is several: the call after the 64th commit settles these first. What is settled stays, whatever becomes of the rest.
+ *   If the disk cannot have the group, or there is no memory for it, it is taken back. The call that finds that out returns
+ * UDFBURN_DEVICE, UDFBURN_NO_SPACE, UDFBURN_READ_ONLY or UDFBURN_MEMORY. So does every call on the handle after it, up to
+ * udfburn_settle(), which ends the group; only udfburn_reason() and udfburn_close() do their work. Then the handle is as after an
+ * open. For each client udfburn_last_number() gives the last request that is there, as after a crash, and the calls up to it have
+ * returned what became of them. Send those after it again, in order, with their numbers and moments: each runs once.
+ *   On a drive of yours, in a recorder and in memory writes are in order anyway: each request is as without a group, and
+ * udfburn_settle() returns UDFBURN_OK. */
+
+/* Begin a group. UDFBURN_MISUSE: one is open. UDFBURN_READ_ONLY: the handle only reads. UDFBURN_ARGUMENT: NULL, or a frame is
+ * incomplete, or answers wait. UDFBURN_DEVICE, UDFBURN_MEMORY. */
+int32_t udfburn_begin(udfburn *handle);
+
+/* End the group that is open. UDFBURN_OK: the disk has all of it. Otherwise all that was not settled before is taken back.
+ * UDFBURN_MISUSE: none is open. UDFBURN_DEVICE, UDFBURN_NO_SPACE, UDFBURN_READ_ONLY, UDFBURN_MEMORY, UDFBURN_ARGUMENT. */
+int32_t udfburn_settle(udfburn *handle);
 
 /* ---- Queries ------------------------------------------------------------------------------------------------------- */
 
@@ -406,7 +437,7 @@ int32_t udfburn_log(udfburn *handle, struct udfburn_commit *commit);
  * the handle and open the volume again, and repeat each request that has no answer, with its number.
  *   UDFBURN_DEVICE: the file lost its name. No answer waits, and every later call returns the same. Other failures of the
  * file or the drive are answers.
- *   UDFBURN_ARGUMENT: NULL. The stream goes on. UDFBURN_MISUSE: nothing was taken. */
+ *   UDFBURN_ARGUMENT: NULL. The stream goes on. UDFBURN_MISUSE: nothing was taken; also in a group of udfburn_begin(). */
 int32_t udfburn_answer(udfburn *handle, const void *bytes, size_t count);
 
 /* How many bytes of answers wait; 0 for a misuse too. */

@@ -46,10 +46,10 @@ def syncs(trace: str) -> int:
 
 
 class Rounds:
-    """Runs of each in turn, every one into a new file. What was stored is read back."""
+    """Runs of each in turn, every one into a new file, with so many files in a group. What was stored is read back."""
 
-    def __init__(self, program: str, folder: str, files: int) -> None:
-        self.program, self.folder, self.files = program, folder, files
+    def __init__(self, program: str, folder: str, files: int, group: int) -> None:
+        self.program, self.folder, self.files, self.group = program, folder, files, group
         self.taken: Dict[str, List[int]] = {way: [] for way in WAYS}
 
     def stored(self, way: str, *before: str) -> int:
@@ -59,7 +59,7 @@ class Rounds:
             Path(path + end).unlink(missing_ok=True)
         os.sync()
         words = [self.program, way, path, str(self.files)]
-        taken = int(subprocess.check_output([*before, *words]))
+        taken = int(subprocess.check_output([*before, *words, str(self.group)]))
         subprocess.run([*words, "read"], check=True, stdout=subprocess.DEVNULL)
         return taken
 
@@ -76,24 +76,31 @@ class Rounds:
             counts.append(syncs(Path(trace).read_text(errors="replace")))
         return (counts[1] - counts[0]) / files
 
+    def tell(self) -> None:
+        print("%s:" % ("each by itself" if self.group == 1 else "in groups of %d" % self.group))
+        for way in WAYS:
+            times = self.taken[way]
+            print("    %s: %.3f syncs a file, %.0f us a file (%.0f to %.0f), ratio to udfburn %s" % (
+                way, self.syncs(way), statistics.median(times) / self.files / 1e3, min(times) / self.files / 1e3, max(times) / self.files / 1e3,
+                ratio(times, self.taken["udfburn"])))
+
 
 def main() -> int:
     parser = argparse.ArgumentParser(prog="bench/library/beside")
     parser.add_argument("--rounds", type=int, default=7)
     parser.add_argument("--files", type=int, default=2000)
+    parser.add_argument("--group", type=int, default=64, help="how many files become durable together, after rounds of each by itself")
     parser.add_argument("--folder", default=None, help="where the files lie")
     parser.add_argument("library", help="the folder that packaging/library/build.sh made")
     asked = parser.parse_args()
     with tempfile.TemporaryDirectory(prefix="bench.", dir=asked.folder) as folder:
-        rounds = Rounds(compiled(asked.library, folder), folder, asked.files)
-        for _ in range(asked.rounds):
-            rounds.one()
+        program = compiled(asked.library, folder)
         print("%d files of 4 KiB, %d rounds, in %s, %s; a sync takes %.0f us" % (asked.files, asked.rounds, folder, load(), sync_time(folder)))
-        for way in WAYS:
-            times = rounds.taken[way]
-            print("%s: %.2f syncs a file, %.0f us a file (%.0f to %.0f), ratio to udfburn %s" % (
-                way, rounds.syncs(way), statistics.median(times) / asked.files / 1e3, min(times) / asked.files / 1e3, max(times) / asked.files / 1e3,
-                ratio(times, rounds.taken["udfburn"])))
+        for group in (1, asked.group):
+            rounds = Rounds(program, folder, asked.files, group)
+            for _ in range(asked.rounds):
+                rounds.one()
+            rounds.tell()
     return 0
 
 

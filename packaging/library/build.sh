@@ -54,7 +54,7 @@ compile() {
             ${CFLAGS:-} -fvisibility=default -fno-lto -DUDFBURN_VERSION="\"$version\"" -c "library/$name.c" -o "$room/$name.o"
     done
 }
-compile udfburn guard files requests put entries room told view port drive drive_check vat_icb sg_io mmc open_mmc
+compile udfburn guard group files requests put entries room told view port drive drive_check vat_icb sg_io mmc open_mmc
 
 # What the header declares, apart from what is only in the library with drives.
 names() {
@@ -85,7 +85,7 @@ for call in pread pwrite lseek fsync ftruncate flock posix_fadvise close; do
 done
 objcopy "$@" "$room/core.all.o" "$room/core.port.o"
 
-set -- "$room/udfburn.o" "$room/guard.o" "$room/files.o" "$room/requests.o" "$room/put.o" "$room/entries.o" \
+set -- "$room/udfburn.o" "$room/guard.o" "$room/group.o" "$room/files.o" "$room/requests.o" "$room/put.o" "$room/entries.o" \
     "$room/room.o" "$room/told.o" "$room/view.o" "$room/port.o" "$room/core.port.o"
 merge "$room/libudfburn.o" "$room/names.plain" "$@"
 merge "$room/libudfburn_drive.o" "$room/names" "$@" "$room/drive.o" "$room/drive_check.o" "$room/vat_icb.o" \

@@ -49,7 +49,10 @@ fn main(rt: HostRuntime) -> ExitCode {
         let _ = exports::udfburn_core_open_fd(out, -1);
         let _ = exports::udfburn_core_open_drive(out, -1);
         let _ = exports::udfburn_core_open_memory(out, b"MEM", 0, 3000);
+        exports::udfburn_core_begin(out);
         let _ = exports::udfburn_core_answer(out, &[0u8; 4]);
+        let _ = exports::udfburn_core_settle(out);
+        exports::udfburn_core_take_back(out);
         let _ = exports::udfburn_core_answered(out);
         let _ = exports::udfburn_core_take(out, &mut block);
         let _ = exports::udfburn_core_next_block(out, &mut address, &mut block);

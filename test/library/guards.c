@@ -111,6 +111,8 @@ static int goes_on(udfburn *handle) {
     int stored = 0;
     for (int i = 0; i < FILES; i++) stored += create(handle, 1, i) != UDFBURN_MISUSE;
     stored += udfburn_status(handle, &status) != UDFBURN_MISUSE;
+    stored += udfburn_begin(handle) != UDFBURN_MISUSE;
+    stored += udfburn_settle(handle) != UDFBURN_MISUSE;
     reason.size = sizeof reason;
     stored += udfburn_reason(NULL, &reason) != UDFBURN_OK || reason.status != UDFBURN_MISUSE;
     return stored;
@@ -254,6 +256,8 @@ static void try_all(udfburn *handle) {
     STATUS(UDFBURN_MISUSE, udfburn_mkdir(handle, &request, "/again"));
     STATUS(UDFBURN_MISUSE, udfburn_rename(handle, &request, "/a", "/again"));
     STATUS(UDFBURN_MISUSE, udfburn_remove(handle, &request, "/a"));
+    STATUS(UDFBURN_MISUSE, udfburn_begin(handle));
+    STATUS(UDFBURN_MISUSE, udfburn_settle(handle));
     STATUS(UDFBURN_MISUSE, udfburn_last_number(handle, 9, &number));
     STATUS(UDFBURN_MISUSE, udfburn_stat(handle, "/", &node));
     STATUS(UDFBURN_MISUSE, udfburn_get(handle, "/a", bytes, sizeof bytes, &count));

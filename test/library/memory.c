@@ -68,6 +68,17 @@ static int32_t put(void) {
     return udfburn_put(handle, &request, "/z", give, NULL);
 }
 
+/* A group that lost a request is taken back: all of it is sent again. */
+static int32_t group(void) {
+    struct udfburn_request request = request_of(1);
+    request.client = 9;
+    int32_t status = udfburn_begin(handle);
+    if (status == UDFBURN_OK) status = udfburn_mkdir(handle, &request, "/g");
+    request.number = 2;
+    if (status == UDFBURN_OK) status = udfburn_create(handle, &request, "/g/x", data, sizeof data);
+    return status == UDFBURN_OK ? udfburn_settle(handle) : status;
+}
+
 static int32_t get(void) {
     uint8_t bytes[5];
     size_t count;
@@ -80,7 +91,8 @@ static int32_t list(void) {
     struct udfburn_name *names;
     size_t count;
     int32_t status = udfburn_list(handle, "/", &names, &count);
-    EXPECT(status == UDFBURN_OK ? count == 2 && !strcmp(names[0].name, "y") && !strcmp(names[1].name, "z") : !names && count == 0);
+    int is_all = count == 3 && !strcmp(names[0].name, "y") && !strcmp(names[1].name, "z") && !strcmp(names[2].name, "g");
+    EXPECT(status == UDFBURN_OK ? is_all : !names && count == 0);
     udfburn_free(names);
     return status;
 }
@@ -92,7 +104,7 @@ static int32_t look(void) {
     return outcome;
 }
 
-/* The format, the five requests, and the three of the stream. */
+/* The format, the five requests, the three of the stream, and the two of the group. */
 static int32_t all_commits(void) {
     struct udfburn_commit commit = {0, 0, 0, 0, 0};
     struct udfburn_status volume;
@@ -100,9 +112,9 @@ static int32_t all_commits(void) {
     uint32_t count = 0;
     while ((outcome = udfburn_log(handle, &commit)) == UDFBURN_OK) count++;
     if (outcome != UDFBURN_NONE) return outcome;
-    EXPECT(count == 9 && commit.number == 0);
+    EXPECT(count == 11 && commit.number == 0);
     outcome = udfburn_status(handle, &volume);
-    EXPECT(outcome != UDFBURN_OK || volume.commits == 8);
+    EXPECT(outcome != UDFBURN_OK || volume.commits == 10);
     return outcome;
 }
 
@@ -132,8 +144,8 @@ static int is_done(step step) {
 }
 
 int main(int argc, char **argv) {
-    static const step steps[] = {format, open_again, make_directory, create, replace, rename_it, remove_it, put, get, list, look, all_commits,
-                                 in_memory};
+    static const step steps[] = {format, open_again, make_directory, create, replace, rename_it, remove_it, put, group, get, list, look,
+                                 all_commits, in_memory};
     if (argc != 2) return EXIT_FAILURE;
     image = argv[1];
     size_t done = 0;

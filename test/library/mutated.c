@@ -74,7 +74,7 @@ static void call(udfburn *handle) {
     const char *given = chance(50) ? path : NULL;
     struct udfburn_request *asked = chance(50) ? &request : NULL;
     size_t bytes = chance(sizeof data);
-    switch (chance(21)) {
+    switch (chance(23)) {
     case 0: known(udfburn_create(handle, asked, given, data, bytes)); break;
     case 1: known(udfburn_create(handle, asked, given, chance(20) ? data : NULL, chance(20) ? bytes : 0)); break;
     case 2: known(udfburn_replace(handle, asked, given, data, bytes)); break;
@@ -109,6 +109,8 @@ static void call(udfburn *handle) {
     case 17: known(udfburn_append(handle, asked, given, chance(4) ? 0 : a_number(), chance(20) ? data : NULL, bytes)); break;
     case 18: known(udfburn_read(handle, given, chance(4) ? chance(5000) : a_number(), data, bytes, chance(20) ? &count : NULL)); break;
     case 19: known(udfburn_answer(handle, image + chance((uint32_t)length - 3000), chance(40) ? 0 : chance(3000))); break;
+    case 20: known(udfburn_begin(handle)); break;
+    case 21: known(udfburn_settle(handle)); break;
     default:
         known(udfburn_answer(handle, get_a, sizeof get_a));
         while (udfburn_take(handle, data, sizeof data) > 0) continue;

@@ -55,9 +55,11 @@ static void *work(void *unused) {
     make_folders(handle, path);
     strcat(strcpy(moved, path), "/moved");
     strcat(path, "/file");
+    STATUS(UDFBURN_OK, udfburn_begin(handle));
     STATUS(UDFBURN_OK, udfburn_create(handle, &request, path, data, sizeof data));
     request.number = 0;
     STATUS(UDFBURN_OK, udfburn_rename(handle, &request, path, moved));
+    STATUS(UDFBURN_OK, udfburn_settle(handle));
     request.number = 0;
     STATUS(UDFBURN_OK, udfburn_replace(handle, &request, moved, data, 3000));
     STATUS(UDFBURN_OK, udfburn_get(handle, moved, data, sizeof data, &count));

@@ -144,10 +144,12 @@ class FromPython(Case):
         asked, node, names, count = AskedRequest(8, 0, MOMENT), Node(), POINTER(Name)(), c_size_t()
         steps: List[Tuple[Any, ...]] = [("mkdir", b"/d"), ("create", b"/d/x", b"data", c_size_t(4)), ("replace", b"/d/x", b"other", c_size_t(5)),
                  ("rename", b"/d/x", b"/d/y"), ("remove", b"/a")]
+        self.assertEqual(self.call("begin", handle), OK)
         for number, (name, *words) in enumerate(steps, 1):
             asked.number = 0
             self.assertEqual(self.call(name, handle, byref(asked), *words), OK)
             self.assertEqual((asked.number, asked.commit, asked.repeated), (number, number + 1, 0))
+        self.assertEqual(self.call("settle", handle), OK)
         asked.number = 0
         self.assertEqual(self.call("create", handle, byref(asked), b"/d", None, c_size_t(0)), EXISTS)
         self.assertEqual(self.call("stat", handle, b"/d/y", byref(node)), OK)

@@ -112,8 +112,26 @@ class RandomCalls(Case):
         status = self.library.udfburn_stat(handle, path, byref(node))
         return status, struct.pack("<BQQ", node.kind, node.moment, node.size)
 
-    def test_random_calls(self) -> None:
-        chance = random.Random(SEED)
+    def sent(self, messages: List[Tuple[bytes, Any]], answers: List[Answer], turns: List[bool]) -> None:
+        """Sends the messages by calls. At each turn a group begins, or the one that is open is settled."""
+        handle, is_open = c_void_p(), False
+        self.assertEqual(self.library.udfburn_open(bytes(self.folder / "other.img"), byref(handle)), 0)
+        for (_, message), answer, turn in zip(messages, answers, turns):
+            if turn:
+                self.assertEqual((self.library.udfburn_settle if is_open else self.library.udfburn_begin)(handle), 0)
+                is_open = not is_open
+            with self.subTest(message=message[:4]):
+                if isinstance(message, Request):
+                    self.ask_for(handle, message, answer)
+                else:
+                    self.look_at(handle, message[0], message[1], answer)
+        if is_open:
+            self.assertEqual(self.library.udfburn_settle(handle), 0)
+        self.library.udfburn_close(handle)
+
+    def same_as_apply(self, seed: int, turns: float) -> None:
+        """Calls with turns of groups at random leave the bytes that `apply` leaves."""
+        chance = random.Random(seed)
         made = self.udfburn("format", "new.img", "DISC", "0", "3000")
         self.assertEqual((made.returncode, made.stderr), (0, b""))
         new = (self.folder / "new.img").read_bytes()
@@ -123,15 +141,13 @@ class RandomCalls(Case):
                 (self.folder / name).write_bytes(new)
             done = self.udfburn("apply", "one.img", stdin=b"".join(frame for frame, _ in messages))
             self.assertEqual((done.returncode, done.stderr), (0, b""))
-            handle = c_void_p()
-            self.assertEqual(self.library.udfburn_open(bytes(self.folder / "other.img"), byref(handle)), 0)
-            for (_, message), answer in zip(messages, answers_of(done.stdout)):
-                with self.subTest(number=number, message=message[:4]):
-                    if isinstance(message, Request):
-                        self.ask_for(handle, message, answer)
-                    else:
-                        self.look_at(handle, message[0], message[1], answer)
-            self.library.udfburn_close(handle)
             with self.subTest(number=number):
+                self.sent(messages, answers_of(done.stdout), [chance.random() < turns for _ in messages])
                 self.assertEqual((self.folder / "other.img").read_bytes(), (self.folder / "one.img").read_bytes())
         self.assertLessEqual(MET, self.met)
+
+    def test_random_calls(self) -> None:
+        self.same_as_apply(SEED, 0)
+
+    def test_random_calls_in_groups(self) -> None:
+        self.same_as_apply(SEED + 1, 0.3)

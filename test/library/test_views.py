@@ -9,8 +9,8 @@ from library.running import DRIVES, VALGRIND, Running, version
 
 LARGE = os.environ.get("LARGE") == "1"
 # Of images that are changed at random, under AddressSanitizer and as they are shipped.
-SECONDS = "300" if LARGE else "12"
-SECONDS_PLAIN = "100" if LARGE else "6"
+SECONDS = "300" if LARGE else "45"
+SECONDS_PLAIN = "100" if LARGE else "15"
 SEED = "20261129"
 ROUNDS = "2000" if LARGE else "20"
 

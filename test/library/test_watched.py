@@ -40,4 +40,4 @@ class Watched(Running):
     def test_the_stack(self) -> None:
         program = self.compiled("stack.c")
         said = self.ran(program, *self.words("stack.c"), str(STACK))
-        self.assertRegex(said, r"^stack: \d+ bytes\nstack: 35 expected, 0 failed\n$")
+        self.assertRegex(said, r"^stack: \d+ bytes\nstack: 37 expected, 0 failed\n$")

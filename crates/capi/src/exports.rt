@@ -10,7 +10,8 @@ ghost use Rattle.embedding.specs.declared.session.Session.{Session};
 ghost use Rattle.embedding.specs.contracts.session.Session.{the_row};
 ghost use Rattle.embedding.specs.Numbers.{status};
 ghost use Rattle.embedding.specs.Formats.{FormatsFile};
-ghost use Rattle.embedding.specs.Calls.{OpensVolume, OpensNewVolume, AnswersBytes, Counts, ShowsBlock, GivesBlock, Ended};
+ghost use Rattle.embedding.specs.Calls.{OpensVolume, OpensNewVolume, AnswersBytes, SettlesOpenGroup, Counts, ShowsBlock, GivesBlock, Ended};
+ghost use Rattle.embedding.specs.Grouped.{BeginsGroup, TakesGroupBack};
 ghost use Rattle.embedding.specs.Handing.{HandsOut, handed_at};
 ghost use Rattle.embedding.specs.Commits.{AsksCommit};
 ghost use Rattle.embedding.specs.Questions.{LastNumber};
@@ -97,6 +98,37 @@ pub unsafe extern "C" fn udfburn_core_answer(handle: *mut u8, bytes: &[u8]) -> i
     ensures* { sem 𝓛 (fex ((s : Session) × AnswersBytes bytes.now result held s) (λ s. points_to the_row handle s.0)) }
 {
     calls::answer(unsafe { &mut *handle.cast::<Session>() }, bytes)
+}
+
+/// Begins a group on an image file, unless one is open: the disk need not have what is answered before
+/// `udfburn_core_settle`.
+#[unsafe(no_mangle)]
+pub unsafe extern "C" fn udfburn_core_begin(handle: *mut u8)
+    ghost held: { Session }
+    requires* { sem 𝓛 (points_to the_row handle held) }
+    ensures* { sem 𝓛 (fex ((s : Session) × BeginsGroup held s) (λ s. points_to the_row handle s.0)) }
+{
+    calls::begin(unsafe { &mut *handle.cast::<Session>() });
+}
+
+/// Gives the disk what the open group has, and ends it.
+#[unsafe(no_mangle)]
+pub unsafe extern "C" fn udfburn_core_settle(handle: *mut u8) -> i32
+    ghost held: { Session }
+    requires* { sem 𝓛 (points_to the_row handle held) }
+    ensures* { sem 𝓛 (fex ((s : Session) × SettlesOpenGroup result held s) (λ s. points_to the_row handle s.0)) }
+{
+    calls::settle(unsafe { &mut *handle.cast::<Session>() })
+}
+
+/// Ends the open group as if its messages had not come.
+#[unsafe(no_mangle)]
+pub unsafe extern "C" fn udfburn_core_take_back(handle: *mut u8)
+    ghost held: { Session }
+    requires* { sem 𝓛 (points_to the_row handle held) }
+    ensures* { sem 𝓛 (fex ((s : Session) × TakesGroupBack held s) (λ s. points_to the_row handle s.0)) }
+{
+    calls::take_back(unsafe { &mut *handle.cast::<Session>() });
 }
 
 /// How many bytes of answers wait.

@@ -24,15 +24,16 @@ module _ (first engine : Engine) (before afterwards : Medium) (s : Session) (eng
   honest_is : IsTrue (seen s).honest → IsTrue (honest_on afterwards)
   honest_is h = subst (λ (x : Situation). IsTrue x.honest) seen_is h
 
-  pub opened : s.frames ≡ Some [] → waiting s ≡ [] → s.given ≡ 0 → s.ended ≡ None → first.store ≡ None → (store : Store) × IsOpen (seen_by engine afterwards) store
+  pub opened : s.frames ≡ Some [] → waiting s ≡ [] → s.given ≡ 0 → s.ended ≡ None → s.group ≡ None → first.store ≡ None → (store : Store) × IsOpen (seen_by engine afterwards) store
       → journal_on afterwards ≡ journal_on before → writes_on afterwards ≡ writes_on before → capacity_on afterwards ≡ capacity_on before → (IsTrue (honest_on afterwards) → IsTrue (honest_on before)) → in_memory afterwards ≡ in_memory before
       → (IsTrue (honest_on afterwards) → HoldsNothing (seen_by first before) → ⊥)
       → ((volume : ℕ) (S : State) → IsTrue (honest_on afterwards) → HoldsState volume S (seen_by first before) → HoldsState volume S (seen_by engine afterwards)) → Opened before s
-  opened frames waits given ended none kept journal writes capacity honest kind nothing holds = record {
+  opened frames waits given ended group none kept journal writes capacity honest kind nothing holds = record {
     frames = frames;
     waits = waits;
     given = given;
     ended = ended;
+    group = group;
     kept = (kept.0, subst (λ (x : Situation). IsOpen x kept.0) (sym seen_is) kept.1);
     journal = ap (λ (x : Situation). x.journal) seen_is ∙ journal;
     writes = ap (λ (x : Situation). x.writes) seen_is ∙ writes;

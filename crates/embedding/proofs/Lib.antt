@@ -3,6 +3,7 @@ pub mod Handing
 pub mod Replying
 pub mod Beginning
 pub mod Asking
+pub mod GroupCalls
 pub mod Logging
 pub mod Labels
 pub mod Wording

@@ -46,13 +46,13 @@ module _ (bytes : List ℕ) (old new : Session) (P : Option (InRun bytes old new
   by_open outcome None heard refused = by_heard outcome (heard refl)
   by_open outcome (Some fault) heard refused = none (refused fault refl)
 
-  brings : (outcome : Result ⊤ Fault) (h : AnswersStream outcome bytes old new) → P (run_of outcome bytes old new h)
-  brings outcome h = by_open outcome old.ended h.heard (λ fault is. ap (λ (s : Session). seen s) (h.refused fault is).1)
+  brings : (outcome : Result ⊤ Fault) (h : AnswersStream outcome bytes old new) (alone : old.group ≡ None) → P (run_of outcome bytes old new h alone)
+  brings outcome h alone = by_open outcome old.ended (λ free. h.heard free alone) (λ fault is. ap (λ (s : Session). seen s) (h.refused fault is).1)
 
 -- a medium that is honest after a call was so before
 call_honest : (call : Call) (old new : Session) → IsCalled call old new → IsTrue (seen new).honest → IsTrue (seen old).honest
-call_honest (Bring bytes) old new (outcome, h) honest =
-    brings bytes old new (λ run. IsTrue (seen old).honest) (λ same. subst (λ (s : Situation). IsTrue s.honest) same honest) (λ run. groups_honest run.groups (seen old) (gathering_in old) (seen new) (gathering_in new) run.are honest) outcome h
+call_honest (Bring bytes) old new (outcome, h, alone) honest =
+    brings bytes old new (λ run. IsTrue (seen old).honest) (λ same. subst (λ (s : Situation). IsTrue s.honest) same honest) (λ run. groups_honest run.groups (seen old) (gathering_in old) (seen new) (gathering_in new) run.are honest) outcome h alone
 call_honest Ask old new h honest = h.honest honest
 call_honest Take old new h honest = subst (λ (s : Situation). IsTrue s.honest) h.seen_is honest
 
@@ -80,10 +80,10 @@ module _ (volume : ℕ) where
       let (done, cuts, there) = (run.lives volume S honest at).0 in
       record { done = done; cuts = cuts; at = there; room = groups_room run.groups (seen old) (gathering_in old) (seen new) (gathering_in new) run.are }
 
-  goes_bring : (S : State) (bytes : List ℕ) (old new : Session) (outcome : Result ⊤ Fault) (h : AnswersStream outcome bytes old new) → IsTrue (seen new).honest → HoldsState volume S (seen old)
-      → GoesOn volume S old new (lives_of_run bytes old new (run_of outcome bytes old new h))
-  goes_bring S bytes old new outcome h honest at =
-      brings bytes old new (λ run. GoesOn volume S old new (lives_of_run bytes old new run)) (λ same. goes_same S old new same at) (λ run. goes_run S bytes old new run honest at) outcome h
+  goes_bring : (S : State) (bytes : List ℕ) (old new : Session) (outcome : Result ⊤ Fault) (h : AnswersStream outcome bytes old new) (alone : old.group ≡ None) → IsTrue (seen new).honest → HoldsState volume S (seen old)
+      → GoesOn volume S old new (lives_of_run bytes old new (run_of outcome bytes old new h alone))
+  goes_bring S bytes old new outcome h alone honest at =
+      brings bytes old new (λ run. GoesOn volume S old new (lives_of_run bytes old new run)) (λ same. goes_same S old new same at) (λ run. goes_run S bytes old new run honest at) outcome h alone
 
   goes_then : (S : State) (old between new : Session) (first second : List Life) (one : GoesOn volume S old between first) → GoesOn volume (after S one.done) between new second → GoesOn volume S old new (first ++ second)
   goes_then S old between new first second one more = record {
@@ -97,9 +97,9 @@ module _ (volume : ℕ) where
   -- calls that ended
   goes_calls : (calls : List Call) (S : State) (old new : Session) (called : AllCalled calls old new) → IsTrue (seen new).honest → HoldsState volume S (seen old) → GoesOn volume S old new (lives_in calls old new called)
   goes_calls [] S old new same honest at = goes_same S old new (ap (λ (s : Session). seen s) same) at
-  goes_calls (Bring bytes ∷ calls) S old new (between, (outcome, h), rest) honest at =
-      let one = goes_bring S bytes old between outcome h (all_honest calls between new rest honest) at in
-      goes_then S old between new (lives_of_run bytes old between (run_of outcome bytes old between h)) (lives_in calls between new rest) one (goes_calls calls (after S one.done) between new rest honest one.at)
+  goes_calls (Bring bytes ∷ calls) S old new (between, (outcome, h, alone), rest) honest at =
+      let one = goes_bring S bytes old between outcome h alone (all_honest calls between new rest honest) at in
+      goes_then S old between new (lives_of_run bytes old between (run_of outcome bytes old between h alone)) (lives_in calls between new rest) one (goes_calls calls (after S one.done) between new rest honest one.at)
   goes_calls (Ask ∷ calls) S old new (between, h, rest) honest at =
       let one = goes_nowhere S old between h.journal h.capacity (h.holds volume S (all_honest calls between new rest honest) at) in
       goes_then S old between new [] (lives_in calls between new rest) one (goes_calls calls (after S one.done) between new rest honest one.at)
@@ -134,12 +134,12 @@ module _ (volume : ℕ) where
   lost_calls : (calls : List Call) (S : State) (old new : Session) (called : AllCalled calls old new) → IsTrue (seen new).honest → HoldsState volume S (seen old) → (lost : List Event) (loses : LosesCalls calls old new called lost)
       → Lost S old lost (LivesUntil calls old new called lost loses)
   lost_calls [] S old new called honest at lost loses = absurd loses
-  lost_calls (Bring bytes ∷ calls) S old new (between, (outcome, h), rest) honest at lost (inl here) =
-      let c = lost_run S bytes old between (run_of outcome bytes old between h) (all_honest calls between new rest honest) at lost here in
+  lost_calls (Bring bytes ∷ calls) S old new (between, (outcome, h, alone), rest) honest at lost (inl here) =
+      let c = lost_run S bytes old between (run_of outcome bytes old between h alone) (all_honest calls between new rest honest) at lost here in
       record { lives = c.lives; done = c.done; are = c.are; cuts = c.cuts }
-  lost_calls (Bring bytes ∷ calls) S old new (between, (outcome, h), rest) honest at lost (inr there) =
-      let one = goes_bring S bytes old between outcome h (all_honest calls between new rest honest) at in
-      lost_then S old between (lives_of_run bytes old between (run_of outcome bytes old between h)) one lost (LivesUntil (Bring bytes ∷ calls) old new (between, (outcome, h), rest) lost (inr there)) (LivesUntil calls between new rest lost there)
+  lost_calls (Bring bytes ∷ calls) S old new (between, (outcome, h, alone), rest) honest at lost (inr there) =
+      let one = goes_bring S bytes old between outcome h alone (all_honest calls between new rest honest) at in
+      lost_then S old between (lives_of_run bytes old between (run_of outcome bytes old between h alone)) one lost (LivesUntil (Bring bytes ∷ calls) old new (between, (outcome, h, alone), rest) lost (inr there)) (LivesUntil calls between new rest lost there)
       (λ later are. (later, refl, are)) (lost_calls calls (after S one.done) between new rest honest one.at lost there)
   lost_calls (Ask ∷ calls) S old new (between, h, rest) honest at lost loses =
       let one = goes_nowhere S old between h.journal h.capacity (h.holds volume S (all_honest calls between new rest honest) at) in

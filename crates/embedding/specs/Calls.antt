@@ -3,6 +3,7 @@ use Rattle.std.specs.Prelude.{◌≡◌, ⊤, ℕ, ℤ, pos, Bool, true, false, 
 use Rattle.embedding.specs.declared.fault.Fault.{Fault}
 use Rattle.embedding.specs.declared.fault.Fault.TheVariants.{Device, Nothing}
 use Rattle.embedding.specs.declared.session.Session.{Session}
+use Rattle.embedding.specs.Grouped.{AddsToGroup, SettlesGroup}
 use Rattle.embedding.specs.Media.{in_memory}
 use Rattle.embedding.specs.Numbers.{status, number_of}
 use Rattle.embedding.specs.Opens.{OpensFile, OpensMemory}
@@ -18,7 +19,11 @@ OpensNewVolume label moment capacity number old new = (outcome : Result ⊤ Faul
 
 -- bytes of messages came, and the number says what became of them
 abbrev pub AnswersBytes : List ℕ → ℤ → Session → Session → Type 0
-AnswersBytes bytes number old new = (outcome : Result ⊤ Fault) × (number ≡ status outcome) × AnswersStream outcome bytes old new
+AnswersBytes bytes number old new = (outcome : Result ⊤ Fault) × (number ≡ status outcome) × AnswersStream outcome bytes old new × AddsToGroup outcome bytes old new
+
+-- the open group was settled, or taken back, and the number says which
+abbrev pub SettlesOpenGroup : ℤ → Session → Session → Type 0
+SettlesOpenGroup number old new = (outcome : Result ⊤ Fault) × (number ≡ status outcome) × SettlesGroup outcome old new
 
 -- so many bytes of answers wait
 abbrev pub Counts : ℕ → Session → Session → Type 0
@@ -44,3 +49,4 @@ pub record Ended (s : Session) : Type 0 where
   pub frames : s.frames ≡ Some []
   pub waits : waiting s ≡ []
   pub ended : s.ended ≡ Some Device
+  pub group : s.group ≡ None

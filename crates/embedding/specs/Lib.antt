@@ -3,6 +3,7 @@ pub mod Ready
 pub mod Numbers
 pub mod Replies
 pub mod Sessions
+pub mod Grouped
 pub mod Formats
 pub mod Opens
 pub mod Calls

@@ -35,6 +35,7 @@ pub record Opened (medium : Medium) (s : Session) : Type 0 where
   pub waits : waiting s ≡ []
   pub given : s.given ≡ 0
   pub ended : s.ended ≡ None
+  pub group : s.group ≡ None
   pub kept : (store : Store) × IsOpen (seen s) store
   pub journal : (seen s).journal ≡ journal_on medium
   pub writes : (seen s).writes ≡ writes_on medium

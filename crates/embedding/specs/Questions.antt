@@ -20,6 +20,7 @@ pub record Asked (old new : Session) : Type 0 where
   pub waits : waiting new ≡ waiting old
   pub given : new.given ≡ old.given
   pub ended : new.ended ≡ old.ended
+  pub group : new.group ≡ old.group
   pub journal : (seen new).journal ≡ (seen old).journal
   pub writes : (seen new).writes ≡ (seen old).writes
   pub capacity : (seen new).capacity ≡ (seen old).capacity

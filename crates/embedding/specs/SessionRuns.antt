@@ -20,7 +20,8 @@ use Rattle.embedding.specs.Questions.{Asked}
 use Rattle.embedding.specs.Replies.{AnswersInRun}
 use Rattle.embedding.specs.Sessions.{AnswersStream, HearsBy, SameSession, StopsBy, gathering_in, seen}
 
--- a call of an open session: it brings bytes of messages, asks what the volume tells beside them, or takes bytes of answers
+-- A call of an open session: it brings bytes of messages, while no group is open; asks what the volume tells beside them; or takes bytes
+-- of answers.
 pub data Call : Type 0 where
   Bring : (bytes : List ℕ) → Call
   Ask : Call
@@ -28,7 +29,7 @@ pub data Call : Type 0 where
 
 -- what it did, as the contract of its function says
 abbrev pub IsCalled : Call → Session → Session → Type 0
-IsCalled (Bring bytes) old new = (outcome : Result ⊤ Fault) × AnswersStream outcome bytes old new
+IsCalled (Bring bytes) old new = (outcome : Result ⊤ Fault) × AnswersStream outcome bytes old new × (old.group ≡ None)
 IsCalled Ask old new = Asked old new
 IsCalled Take old new = SameSession old new
 
@@ -61,8 +62,8 @@ abbrev pub run_of_open : {R : Type 0} (ended : Option Fault) → (ended ≡ None
 run_of_open None heard = heard refl
 run_of_open (Some fault) heard = None
 
-abbrev pub run_of : (outcome : Result ⊤ Fault) (bytes : List ℕ) (old new : Session) → AnswersStream outcome bytes old new → Option (InRun bytes old new)
-run_of outcome bytes old new h = run_of_open old.ended (λ free. run_of_heard outcome bytes old new (h.heard free))
+abbrev pub run_of : (outcome : Result ⊤ Fault) (bytes : List ℕ) (old new : Session) → AnswersStream outcome bytes old new → old.group ≡ None → Option (InRun bytes old new)
+run_of outcome bytes old new h alone = run_of_open old.ended (λ free. run_of_heard outcome bytes old new (h.heard free alone))
 
 abbrev pub lives_of_run : (bytes : List ℕ) (old new : Session) → Option (InRun bytes old new) → List Life
 lives_of_run bytes old new None = []
@@ -71,7 +72,7 @@ lives_of_run bytes old new (Some run) = map life_in run.groups
 -- those of all calls, in order
 abbrev pub lives_in : (calls : List Call) (old new : Session) → AllCalled calls old new → List Life
 lives_in [] old new called = []
-lives_in (Bring bytes ∷ calls) old new (between, (outcome, one), rest) = lives_of_run bytes old between (run_of outcome bytes old between one) ++ lives_in calls between new rest
+lives_in (Bring bytes ∷ calls) old new (between, (outcome, one, alone), rest) = lives_of_run bytes old between (run_of outcome bytes old between one alone) ++ lives_in calls between new rest
 lives_in (Ask ∷ calls) old new (between, one, rest) = lives_in calls between new rest
 lives_in (Take ∷ calls) old new (between, one, rest) = lives_in calls between new rest
 
@@ -85,7 +86,7 @@ LosesRun bytes old new (Some run) lost = LosesGroups run.groups (seen old) (gath
 -- so it was lost in one of these calls
 abbrev pub LosesCalls : (calls : List Call) (old new : Session) → AllCalled calls old new → List Event → Type 0
 LosesCalls [] old new called lost = ⊥
-LosesCalls (Bring bytes ∷ calls) old new (between, (outcome, one), rest) lost = LosesRun bytes old between (run_of outcome bytes old between one) lost ⊎ LosesCalls calls between new rest lost
+LosesCalls (Bring bytes ∷ calls) old new (between, (outcome, one, alone), rest) lost = LosesRun bytes old between (run_of outcome bytes old between one alone) lost ⊎ LosesCalls calls between new rest lost
 LosesCalls (Ask ∷ calls) old new (between, one, rest) lost = LosesCalls calls between new rest lost
 LosesCalls (Take ∷ calls) old new (between, one, rest) lost = LosesCalls calls between new rest lost
 
@@ -96,9 +97,9 @@ IsRunUntil bytes old new (Some run) lost loses lives = GroupsUntil run.groups (s
 -- the lives up to there
 abbrev pub LivesUntil : (calls : List Call) (old new : Session) (called : AllCalled calls old new) (lost : List Event) → LosesCalls calls old new called lost → List Life → Type 0
 LivesUntil [] old new called lost loses lives = ⊥
-LivesUntil (Bring bytes ∷ calls) old new (between, (outcome, one), rest) lost (inl here) lives = IsRunUntil bytes old between (run_of outcome bytes old between one) lost here lives
-LivesUntil (Bring bytes ∷ calls) old new (between, (outcome, one), rest) lost (inr there) lives =
-    (later : List Life) × (lives ≡ lives_of_run bytes old between (run_of outcome bytes old between one) ++ later) × LivesUntil calls between new rest lost there later
+LivesUntil (Bring bytes ∷ calls) old new (between, (outcome, one, alone), rest) lost (inl here) lives = IsRunUntil bytes old between (run_of outcome bytes old between one alone) lost here lives
+LivesUntil (Bring bytes ∷ calls) old new (between, (outcome, one, alone), rest) lost (inr there) lives =
+    (later : List Life) × (lives ≡ lives_of_run bytes old between (run_of outcome bytes old between one alone) ++ later) × LivesUntil calls between new rest lost there later
 LivesUntil (Ask ∷ calls) old new (between, one, rest) lost loses lives = LivesUntil calls between new rest lost loses lives
 LivesUntil (Take ∷ calls) old new (between, one, rest) lost loses lives = LivesUntil calls between new rest lost loses lives
 

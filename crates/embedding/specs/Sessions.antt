@@ -31,6 +31,7 @@ pub record SameSession (old new : Session) : Type 0 where
   pub seen_is : seen new ≡ seen old
   pub frames : new.frames ≡ old.frames
   pub ended : new.ended ≡ old.ended
+  pub group : new.group ≡ old.group
 
 -- ---- messages
 
@@ -64,12 +65,13 @@ abbrev pub ended_by : {T : Type 0} → Result T Fault → Option Fault
 ended_by (Ok x) = None
 ended_by (Err fault) = Some fault
 
--- Bytes of the stream of messages came. A refusal ends the stream: each later call is refused alike, and does nothing. What
--- was taken is as it was.
+-- Bytes of the stream of messages came while no group was open. A refusal ends the stream: each later call is refused alike, and does
+-- nothing. What was taken is as it was. (What becomes of bytes that come while a group is open, `AddsToGroup` says.)
 pub record AnswersStream {T : Type 0} (outcome : Result T Fault) (bytes : List ℕ) (old new : Session) : Type 0 where
   pub refused : (fault : Fault) → old.ended ≡ Some fault → (ended_by outcome ≡ Some fault) × (new ≡ old)
-  pub heard : old.ended ≡ None → HearsBy outcome bytes old new
-  pub ended : new.ended ≡ ended_by outcome
+  pub heard : old.ended ≡ None → old.group ≡ None → HearsBy outcome bytes old new
+  pub ended : old.group ≡ None → new.ended ≡ ended_by outcome
+  pub group : old.group ≡ None → new.group ≡ None
   pub given : new.given ≡ old.given
   pub kind : in_memory new.medium ≡ in_memory old.medium
 

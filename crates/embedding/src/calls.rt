@@ -1,7 +1,8 @@
 //! The calls of C, on the session of a handle. Each returns its outcome as a number.
 
 ghost use Rattle.std.specs.Prelude.{◌≡◌, true, false};
-ghost use Rattle.embedding.specs.Calls.{OpensVolume, OpensNewVolume, AnswersBytes, Counts, ShowsBlock, GivesBlock, Ended, presence_number};
+ghost use Rattle.embedding.specs.Calls.{OpensVolume, OpensNewVolume, AnswersBytes, SettlesOpenGroup, Counts, ShowsBlock, GivesBlock, Ended, presence_number};
+ghost use Rattle.embedding.specs.Grouped.{BeginsGroup, TakesGroupBack};
 ghost use Rattle.embedding.specs.Handing.{HandsOut};
 ghost use Rattle.embedding.specs.Commits.{AsksCommit};
 ghost use Rattle.embedding.specs.Questions.{LastNumber};
@@ -52,6 +53,27 @@ pub fn answer(session: &mut Session, bytes: &[u8]) -> i32
     ensures { AnswersBytes bytes.now result session.old session.new }
 {
     status_of(session.answer(bytes))
+}
+
+/// Begins a group on an image file, unless one is open.
+pub fn begin(session: &mut Session)
+    ensures { BeginsGroup session.old session.new }
+{
+    session.begin();
+}
+
+/// Gives the disk what the open group has, and ends it.
+pub fn settle(session: &mut Session) -> i32
+    ensures { SettlesOpenGroup result session.old session.new }
+{
+    status_of(session.settle())
+}
+
+/// Ends the open group as if its messages had not come.
+pub fn take_back(session: &mut Session)
+    ensures { TakesGroupBack session.old session.new }
+{
+    session.take_back();
 }
 
 /// How many bytes of answers wait.

@@ -6,13 +6,16 @@ ghost use Rattle.embedding.specs.Media.{seen_by};
 ghost use Rattle.embedding.specs.Ready.{ready_prop};
 
 use crate::fault::{Fault, fault_of};
-use crate::lending::{answer_on, commit_by, open_on, status_by};
+use crate::lending::{
+    answer_next_on, answer_on, begin_on, commit_by, open_on, settle_on, status_by, take_back_on,
+};
 use crate::medium::{Medium, medium_under};
 use crate::questions::last_of;
 use crate::told::{CommitStatus, Status};
 use crate::volumes::format_memory;
 use drive::MemDrive;
 use engine::Engine;
+use grouping::OpenGroup;
 use limits::Block;
 use request::Frames;
 use std::alloc::Global;
@@ -31,13 +34,17 @@ pub struct Session {
     pub(crate) given: usize,
     /// Why no further message is answered.
     pub(crate) ended: Option<Fault>,
+    /// The group that is open: its messages are answered, but the disk need not have them yet.
+    pub(crate) group: Option<OpenGroup>,
     ghost within: { taken ≤ vec_len answers },
     ghost ready: { IsReady (seen_by engine medium) } by { ready_prop engine medium },
 }
 
 impl Session {
-    ghost use Rattle.std.specs.Prelude.{◌≡◌, ◌≤◌, Some, None, [], length, IfErr, OnOk};
+    ghost use Rattle.std.specs.Prelude.{◌≡◌, ◌≤◌, Some, None, [], length, IfErr, IfOk, OnOk};
+    ghost use Rattle.request.specs.Frames.{fed};
     ghost use Rattle.embedding.specs.Calls.{Ended};
+    ghost use Rattle.embedding.specs.Grouped.{AddsNext, AddsToGroup, AnswersInGroup, BeginsGroup, FailsToAnswer, FailsToSettle, LosesGroup, SettlesGroup, TakesGroupBack, TurnsOver, shown};
     ghost use Rattle.embedding.specs.Sessions.{seen, waiting, SameSession, AnswersMessages, StopsBy, AnswersStream, Took, Shows, GivesOneBlock};
     ghost use Rattle.embedding.specs.Media.{seen_by, in_memory};
     ghost use Rattle.embedding.specs.Commits.{CommitIs};
@@ -108,6 +115,7 @@ impl Session {
             taken: 0,
             given: 0,
             ended: Some(Fault::Device),
+            group: None,
         }
     }
 
@@ -120,6 +128,7 @@ impl Session {
         ensures waiting { waiting result ≡ [] }
         ensures given { result.given ≡ 0 }
         ensures ended { result.ended ≡ None }
+        ensures group { result.group ≡ None }
     {
         Session {
             alloc,
@@ -130,23 +139,135 @@ impl Session {
             taken: 0,
             given: 0,
             ended: None,
+            group: None,
         }
     }
 
     /// Takes bytes of the stream of messages, and answers the messages that are complete. Their answers wait after
     /// those that wait already. A refusal ends the stream: each later call is refused with the same fault, and takes
     /// nothing.
+    ///
+    /// While a group is open the next message alone is answered, in the group. A refusal takes the group back, and does
+    /// not end the stream.
     pub fn answer(&mut self, bytes: &[u8]) -> Result<(), Fault>
-        ensures { AnswersStream result bytes.now self.old self.new }
+        ensures stream { AnswersStream result bytes.now self.old self.new }
+        ensures group { AddsToGroup result bytes.now self.old self.new }
     {
         if let Some(fault) = self.ended {
             return Err(fault);
+        }
+        if let Some(group) = self.group.take() {
+            return self.answer_in_group(group, bytes);
         }
         let outcome = self.take_in(bytes);
         if let Err(fault) = outcome {
             self.ended = Some(fault);
         }
         outcome
+    }
+
+    /// Begins a group on an image file, unless one is open: from now on the disk need not have what is answered before
+    /// `settle`. On another medium nothing changes.
+    pub fn begin(&mut self)
+        ensures { BeginsGroup self.old self.new }
+    {
+        if self.group.is_none() {
+            self.group = begin_on(self.alloc, &mut self.medium);
+        }
+    }
+
+    /// Gives the disk what the open group has, and ends it. `Device` if the disk cannot have it: then nothing of the group
+    /// is there, as if its messages had not come.
+    pub fn settle(&mut self) -> Result<(), Fault>
+        ensures { SettlesGroup result self.old self.new }
+    {
+        match self.group.take() {
+            Some(group) => settle_on(&group, &mut self.medium, &mut self.engine),
+            None => Ok(()),
+        }
+    }
+
+    /// Ends the open group as if its messages had not come.
+    pub fn take_back(&mut self)
+        ensures { TakesGroupBack self.old self.new }
+    {
+        if let Some(group) = self.group.take() {
+            take_back_on(&group, &mut self.medium, &mut self.engine);
+        }
+    }
+
+    /// Takes bytes of the stream of messages, and answers the next message, if one is complete, in the group that was open,
+    /// or in another one where that is full: it is settled before. After a fault no group is open: what was not settled
+    /// was taken back. The stream goes on.
+    fn answer_in_group(&mut self, group: OpenGroup, bytes: &[u8]) -> Result<(), Fault>
+        requires { self.old.group ≡ None }
+        ensures ok { OnOk result (AddsNext group (fed self.old.frames bytes.now) (shown self.old) (shown self.new) self.new.group) }
+        ensures err { IfErr result (λ fault. LosesGroup fault group (fed self.old.frames bytes.now) (shown self.old) (shown self.new) self.new.group) }
+        ensures ended { self.new.ended ≡ self.old.ended }
+        ensures given { self.new.given ≡ self.old.given }
+        ensures kind { in_memory self.new.medium ≡ in_memory self.old.medium }
+    {
+        if self.frames.feed(bytes).is_err() {
+            take_back_on(&group, &mut self.medium, &mut self.engine);
+            return Err(Fault::Memory);
+        }
+        let turned = match self.turn_over(group) {
+            Ok(turned) => turned,
+            Err(fault) => return Err(fault),
+        };
+        match self.answer_next(turned) {
+            Ok(added) => {
+                self.group = Some(added);
+                Ok(())
+            }
+            Err(fault) => Err(fault),
+        }
+    }
+
+    /// The group of the next message: this one, or another one if this one is full, which is then settled. If the disk
+    /// cannot have it, the message is left out.
+    fn turn_over(&mut self, group: OpenGroup) -> Result<OpenGroup, Fault>
+        ensures ok { IfOk result (λ turned. TurnsOver group turned (shown self.old) (shown self.new)) }
+        ensures err { IfErr result (λ fault. FailsToSettle fault group (shown self.old) (shown self.new)) }
+        ensures ended { self.new.ended ≡ self.old.ended }
+        ensures group { self.new.group ≡ self.old.group }
+        ensures given { self.new.given ≡ self.old.given }
+        ensures kind { in_memory self.new.medium ≡ in_memory self.old.medium }
+    {
+        if !group.is_full() {
+            return Ok(group);
+        }
+        if let Err(fault) = settle_on(&group, &mut self.medium, &mut self.engine) {
+            self.frames.skip();
+            return Err(fault);
+        }
+        match begin_on(self.alloc, &mut self.medium) {
+            Some(other) => Ok(other),
+            None => Ok(group),
+        }
+    }
+
+    /// Answers the next message, if one is complete, in a group.
+    fn answer_next(&mut self, group: OpenGroup) -> Result<OpenGroup, Fault>
+        ensures ok { IfOk result (λ added. AnswersInGroup group added (shown self.old) (shown self.new)) }
+        ensures err { IfErr result (λ fault. FailsToAnswer fault group (shown self.old) (shown self.new)) }
+        ensures ended { self.new.ended ≡ self.old.ended }
+        ensures group { self.new.group ≡ self.old.group }
+        ensures given { self.new.given ≡ self.old.given }
+        ensures kind { in_memory self.new.medium ≡ in_memory self.old.medium }
+    {
+        let mut group = group;
+        match answer_next_on(
+            self.alloc,
+            &mut group,
+            &mut self.medium,
+            &mut self.frames,
+            &mut self.answers,
+            &mut self.engine,
+        ) {
+            Ok(()) => Ok(group),
+            Err(fault) => Err(fault),
+        }
     }
 
     /// Takes bytes of the stream of messages, and answers the messages that are complete. `Memory` if there is none,
@@ -156,6 +277,7 @@ impl Session {
         ensures err { IfErr result (λ fault. StopsBy fault bytes.now self.old self.new) }
         ensures ended { self.new.ended ≡ self.old.ended }
         ensures given { self.new.given ≡ self.old.given }
+        ensures group { self.new.group ≡ self.old.group }
         ensures kind { in_memory self.new.medium ≡ in_memory self.old.medium }
     {
         if self.frames.feed(bytes).is_err() {

@@ -2,6 +2,7 @@ pub mod Answers
 pub mod Back
 pub mod Settled
 pub mod Going
+pub mod Opening
 pub mod Ending
 pub mod Phases
 pub mod Withstanding

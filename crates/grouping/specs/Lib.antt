@@ -4,3 +4,4 @@ pub mod Phases
 pub mod Served
 pub mod Losses
 pub mod Streams
+pub mod OpenGroups

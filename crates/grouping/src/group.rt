@@ -20,7 +20,7 @@ use settling::Settles;
 use std::alloc::{AllocError, Global};
 
 /// A group ends after so many commits.
-const GROUP_COMMITS: usize = 64;
+pub(crate) const GROUP_COMMITS: usize = 64;
 
 /// A group ends after so many bytes of answers.
 const GROUP_BYTES: usize = 65_536;
@@ -108,14 +108,14 @@ fn is_full(commits: usize, bytes: usize) -> bool {
 }
 
 /// Whether the drive failed.
-fn is_fault(answer: &Answer) -> bool
+pub(crate) fn is_fault(answer: &Answer) -> bool
     ensures { faults answer.now ≡ one_if result }
 {
     matches!(answer, Answer::Fault)
 }
 
 /// If blocks came after the first `before`, the last of them is a mark. It is a failure if there is no memory for it.
-fn end_commit<D: Settles>(
+pub(crate) fn end_commit<D: Settles>(
     drive: &mut D,
     marks: &mut Vec<u32>,
     before: u32,

@@ -8,9 +8,11 @@
 mod group;
 mod held;
 mod laws;
+mod open_group;
 mod serving;
 
 pub use group::answer_group;
 pub use held::answer_groups_held;
 pub use laws::{phases_are_of_commits, taking_back_holds};
+pub use open_group::{GroupFault, OpenGroup};
 pub use serving::serve_groups;

@@ -7,7 +7,7 @@ use Rattle.embedding.proofs.session.Session.open.Goals as goal
 pub returns-in-Ok : goal.returns-in-Ok
 returns-in-Ok c =
     let o = c.in-Ok.ensures in let s = c.of.ensures in
-    opened c.new-engine.result c.open_on.new.engine c.args.medium c.open_on.new.medium c.of.result s.engine s.medium s.frames s.waiting s.given s.ended c.new-engine.ensures
+    opened c.new-engine.result c.open_on.new.engine c.args.medium c.open_on.new.medium c.of.result s.engine s.medium s.frames s.waiting s.given s.ended s.group c.new-engine.ensures
     o.open o.journal o.writes o.capacity o.honest o.kind o.nothing o.holds
 
 pub returns-in-Err : goal.returns-in-Err
