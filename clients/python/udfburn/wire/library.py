@@ -128,10 +128,12 @@ class LibraryVolume:
 
 
 class LibraryConnection(Connection):
-    """A conversation with the C library in this process. Messages are answered while they are sent."""
+    """A conversation with the C library in this process. What was sent is answered when an answer is asked for: the library makes a
+    group of all of it, which the disk has with two syncs."""
 
     def __init__(self, image: str, library: Library, timeout: float = 120.0):
         super().__init__(timeout)
+        self._sent = bytearray()
         # The library opens no symbolic link.
         self.image = os.path.realpath(image)
         try:
@@ -149,13 +151,16 @@ class LibraryConnection(Connection):
         return not writing, writing
 
     def _read(self, most: int) -> Optional[bytes]:
+        frames, self._sent = bytes(self._sent), bytearray()
+        if frames:
+            try:
+                self.volume.answer(frames)
+            except CallRefused as refused:
+                raise self._told(refused) from refused
         return self.volume.take(most)
 
     def _write(self, data: memoryview) -> int:
-        try:
-            self.volume.answer(bytes(data))
-        except CallRefused as refused:
-            raise self._told(refused) from refused
+        self._sent += data
         return len(data)
 
     def _told(self, refused: CallRefused) -> Exception:
