@@ -31,7 +31,7 @@ from udfburn.protocol.units import Commit, Moment, Size  # noqa: E402
 
 ONE_BY_ONE = """
 from udfburn.archive import fill
-fill.LIST_FILES = 1
+fill.PLANNED_FILES = 1
 """
 
 

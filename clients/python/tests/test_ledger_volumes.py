@@ -159,7 +159,7 @@ class Volumes(WithServer):
             self.assertEqual(replies.get(outcome.number), outcome.commit)
 
     def test_what_is_pending(self) -> None:
-        """At every request the ledger has that request and at most 64 without a reply; where the tree does not show what became of each, at
+        """At every request the ledger has that request and at most 60 without a reply; where the tree does not show what became of each, at
         most four."""
         files = creates(240)
         renames = [Operation(p.Rename, file.path, Moment(1), to=(f"g{index}",)) for index, file in enumerate(files[:12])]
@@ -167,11 +167,11 @@ class Volumes(WithServer):
         again = [file._replace(kind=p.Replace) for file in files[-12:] for _ in range(2)]
         appends = [Operation(p.Append, file.path, Moment(3), b"x") for file in files[100:112]]
         folders = [Operation(p.MakeDir, (f"d{index}",), Moment(4)) for index in range(70)]
-        cases = ((files, 64), (renames, 4), (removals, 4), (again[::2] + again[::2], 12), (again, 4), (appends, 4), (folders, 64))
+        cases = ((files, 60), (renames, 4), (removals, 12), (again[::2] + again[::2], 12), (again, 4), (appends, 12), (folders, 60))
         for operations, most in cases:
             self.check_pending(operations, most)
         # One that takes care, among others: all those that were sent are answered before it goes.
-        self.check_pending(creates(40, 300) + [Operation(p.Remove, ("f300",), Moment(1))] + creates(40, 400), 40)
+        self.check_pending(creates(40, 300) + [Operation(p.Rename, ("f300",), Moment(1), to=("g300",))] + creates(40, 400), 40)
 
     def check_pending(self, operations: List[Operation], most: int) -> None:
         client = self.client()

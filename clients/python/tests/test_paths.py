@@ -61,7 +61,7 @@ ALLOWED: Dict[str, Dict[str, str]] = {
     "commands.disc": {"os.path.getsize": KIND, "os.path.lexists": KIND, "os.stat": KIND},
     "wire.endpoint": {"os.path.isfile": KIND},
     "image.identity": {"os.listdir": SYSTEM, "os.stat": "it finds which file of /proc is the one that the user named, and opens none"},
-    "ledger.ledger": {"os.rename": OWN, "os.stat": OWN, "sqlite3.connect": OWN},
+    "ledger.ledger": {"os.rename": OWN, "os.stat": OWN},
     "base.durable": {"os.open": OWN, "os.path.isdir": OWN, "os.mkdir": OWN},
     "ledger.file": {"os.open": OWN, "os.unlink": OWN, "os.stat": OWN, "sqlite3.connect": OWN},
     "ledger.reading": {"tempfile.TemporaryDirectory": OURS, "os.open": OWN, "os.path.exists": OWN, "shutil.copyfile": OWN},

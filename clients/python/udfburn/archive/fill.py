@@ -19,7 +19,7 @@ from .tell import Tell, plural, shown_path
 from .tree import PlannedTree
 from .volume import OpenVolume, open_new, own_volumes
 
-LIST_FILES, LIST_BYTES = 512, 64 * limits.FILE
+PLANNED_FILES, PLANNED_BYTES = 512, 64 * limits.FILE
 """Files, and their bytes, that are planned on a volume before they are sent."""
 
 OPEN_TO_WRITE = 4
@@ -142,7 +142,7 @@ class Filler:
             volume.plan_marker(self.text, self._began)
 
     def _is_enough(self, volume: OpenVolume) -> bool:
-        return len(self.planned[volume.row.number]) >= LIST_FILES or self.weights[volume.row.number] >= LIST_BYTES
+        return len(self.planned[volume.row.number]) >= PLANNED_FILES or self.weights[volume.row.number] >= PLANNED_BYTES
 
     def _new(self) -> OpenVolume:
         """A new volume. Where there are too many open ones, what waits for the fullest is sent, and it takes no more."""

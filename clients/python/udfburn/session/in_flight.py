@@ -9,7 +9,7 @@ from ..ledger.records import LARGE_DATA, Pending, Reply, facts_of
 from ..protocol import DAMAGED, FAULT, MEMORY, Code, Committed, Path, Stat, decode_answer, encode_message, frame, limits, prefix, show
 from ..wire.connection import Lost
 from ..wire.operations import Operation, Outcome, confirmed, paths_of, surely
-from .together import disturbs, follows, is_shown, takes_away
+from .together import disturbs, is_shown, may_follow, takes_away
 
 GROUPS = 2
 """Parts that are under way: while the replies to one and the next one are kept, the program works on the other."""
@@ -144,7 +144,7 @@ def is_shown_beside(request: InFlightRequest, groups: Sequence[Group]) -> bool:
     """Whether the tree shows what became of a request also where those of groups are under way."""
     for path in request.paths:
         earlier = next((group.newest[path] for group in reversed(groups) if path in group.newest), None)
-        if earlier is not None and not follows(request.request, earlier.request):
+        if earlier is not None and not may_follow(request.request, earlier.request):
             return False
     return all([group.leaves(request) for group in groups])
 

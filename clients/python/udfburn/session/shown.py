@@ -94,14 +94,14 @@ def tree_has(connection: Connection, waiting: Pending, committed: Sequence[Pendi
     if deed.kind is Kind.RENAME:
         return facts.whole is not None and has_name(connection, deed.path, deed.to, facts.whole)
     if deed.kind in FILE_KINDS:
-        return has_bytes(connection, facts, [other.facts for other in committed if other.facts is not None and other.number >= waiting.number])
+        return has_piece(connection, facts, [other.facts for other in committed if other.facts is not None and other.number >= waiting.number])
     (node,) = exchange(connection, [Stat(deed.path)])
     if deed.kind is Kind.REMOVE:
         return node == NOT_FOUND
     return isinstance(node, Node) and node.kind is NodeKind.DIRECTORY
 
 
-def has_bytes(connection: Connection, facts: Facts, later: Sequence[Facts]) -> bool:
+def has_piece(connection: Connection, facts: Facts, later: Sequence[Facts]) -> bool:
     """Whether a file has the data of a request, and is as this one or a later piece of the file left it."""
     deed = facts.deed
     after = [other.deed for other in later if other.deed.kind in FILE_KINDS and other.deed.path == deed.path]

@@ -16,13 +16,13 @@ from typing import Optional
 from ..protocol import AnyRequest, Append, Create, MakeDir, Path, Remove, Rename, Replace
 from ..wire.operations import Whole, paths_of, size_after
 
-SHOWN = (Create, Replace, MakeDir, Append, Remove)
+SHOWN_BY_TREE = (Create, Replace, MakeDir, Append, Remove)
 
 
 def is_shown(request: AnyRequest, whole: Optional[Whole]) -> bool:
     """Whether the tree shows what became of a request, if no other one under way has to do with its paths. `whole` is the file that a
     rename gives its name to."""
-    return isinstance(request, SHOWN) or whole is not None
+    return isinstance(request, SHOWN_BY_TREE) or whole is not None
 
 
 def takes_away(request: AnyRequest) -> bool:
@@ -30,7 +30,7 @@ def takes_away(request: AnyRequest) -> bool:
     return isinstance(request, (Remove, Rename))
 
 
-def follows(request: AnyRequest, earlier: AnyRequest) -> bool:
+def may_follow(request: AnyRequest, earlier: AnyRequest) -> bool:
     """Whether a request may be under way with an earlier one that has a path of it."""
     if isinstance(request, Append):
         return isinstance(earlier, (Create, Replace, Append)) and size_after(earlier) == request.offset
@@ -49,4 +49,4 @@ def is_above(path: Path, below: Path) -> bool:
     return len(path) < len(below) and below[: len(path)] == path
 
 
-__all__ = ["disturbs", "follows", "is_shown", "takes_away"]
+__all__ = ["disturbs", "is_shown", "may_follow", "takes_away"]
