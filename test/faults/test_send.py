@@ -233,17 +233,16 @@ class Killed(Case):
 
     def test_more_than_wait(self) -> None:
         """Neither side goes on, until the daemon lets go: that is reported, and what was answered is done. The next parts go on from there."""
-        if waiting(len(self.LARGE)) == len(self.LARGE):
-            lacks("a socket holds more answers than are asked for")
         self.fresh(capacity=60000)
         with Daemon(self.folder) as daemon:
             daemon.client().close()
-            ran = self.udfburn("send", "s", stdin=b"".join(map(encode, self.LARGE)))
+            # The socket holds four of the answers to the queries.
+            ran = self.udfburn("send", "s", stdin=b"".join(encode(request) + query("get", request.path) for request in self.LARGE))
             self.assertEqual(ran.status, 1)
             self.assertIn(ran.errors, [READ, WRITE])
             self.assertEqual(daemon.errors(), b"udfburnd: 92 Write\n")
-            answers, _ = split_answers(ran.output)
-            self.assertGreaterEqual(len(answers), waiting(250))
+            answers = [answer for answer in split_answers(ran.output)[0] if answer.is_commit]
+            self.assertGreater(len(answers), 0)
             self.assertLess(len(answers), len(self.LARGE))
             self.assertEqual([answer.commit for answer in answers], list(range(1, len(answers) + 1)))
             # The last one whose answer came is within the replies that are kept.
