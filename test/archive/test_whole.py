@@ -218,10 +218,10 @@ class Cut(Whole):
 
     def test_another_source(self) -> None:
         """The source is another by now, by one byte of what was stored: what there is of the old one goes."""
-        path, data = self.write("photo", 9_000_000), content(9_000_000)
+        path, data = self.write("photo", 20_000_000), content(20_000_000)
         self.cut(1)
         (name,) = self.unfinished()
-        self.assertLess(files_of(self.image())[name], 9_000_000)
+        self.assertLess(files_of(self.image())[name], 20_000_000)
         write(path, data[: MEBIBYTE + 7] + bytes((data[MEBIBYTE + 7] ^ 1,)) + data[MEBIBYTE + 8 :])
         self.add()
         self.assertEqual(self.unfinished(), [])
@@ -267,7 +267,7 @@ class Cut(Whole):
 
     def test_the_source_changes_meanwhile(self) -> None:
         """It does not get its name, no source goes, and the next run stores it as it is then."""
-        path, run = self.write("photo", 9_000_000), Client.run
+        path, run = self.write("photo", 20_000_000), Client.run
 
         def changing(client: Client, operations: Sequence[Operation]) -> object:
             for outcome in run(client, operations):

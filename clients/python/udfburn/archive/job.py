@@ -50,6 +50,8 @@ class Part:
         self.place, self.unfinished = place, unfinished
         self.start, self.size, self.left = start, size, left
         self.stored = False
+        self.read: Optional[Whole] = None
+        """What was read of it, once all was."""
 
     def grows(self) -> bool:
         return self.size > limits.FILE
@@ -243,14 +245,14 @@ class VolumeJob:
             last = index + 1 == part.count()
             if last:
                 self._require_as_read(part, whole.digest())
+                part.read = Whole(part.place.path, part.size, digest.digest())
             if index < part.left.pieces():
                 if sha256(data).digest() != part.left.digests[index]:
                     raise changed(self.source)
                 continue
             origin = origin_of(self.source, part.start + index * limits.FILE)
             if part.grows():
-                ended = Whole(part.place.path, part.size, digest.digest()) if last else None
-                yield piece_request(part.unfinished, index, data, self.source.moment(), tag=(self, part), whole=ended, origin=origin)
+                yield piece_request(part.unfinished, index, data, self.source.moment(), tag=(self, part), whole=part.read, origin=origin)
             else:
                 yield Operation(Create, part.place.path, self.source.moment(), data, tag=(self, part), origin=origin)
 
@@ -263,7 +265,7 @@ class VolumeJob:
 
     def name(self, part: Part) -> Operation:
         """The request by which a part gets its own path."""
-        return naming(part.unfinished, part.place.path, self.source.moment(), tag=(self, part))
+        return naming(part.unfinished, part.place.path, self.source.moment(), tag=(self, part), whole=part.read)
 
     def take(self, part: Optional[Part], operation: Operation, commit: Commit) -> None:
         """A request was done. The file's commit is that which wrote its entry: its description, or its last piece."""
