@@ -9,10 +9,17 @@ enum {
     PARENT = 40, IDENTIFIER = 38, LEAST_FILLED = 1720,          /* bytes of a directory's identifiers */
     TABLE_HEAD = 196, RECORD = 48, ADDRESS = 4,                 /* bytes of a table */
     PARTITION = 257,
+    IN_ENTRY = 117, IN_BLOCK = 125,     /* extents of a file that its entry has room for, and how many more with each descriptor block */
     FILLED = 34                 /* blocks after a commit by which a packet is filled up: to 32 of them, with three copies at least */
 };
 
 static uint64_t blocks_for(uint64_t bytes) { return (bytes + UDFBURN_BLOCK - 1) / UDFBURN_BLOCK; }
+
+/* The descriptor blocks that an append writes which leaves a file of so many bytes. */
+static uint64_t descriptor_blocks(uint64_t size) {
+    uint64_t extents = (size + UDFBURN_FILE_LIMIT - 1) / UDFBURN_FILE_LIMIT;
+    return extents > IN_ENTRY ? (extents - IN_ENTRY + IN_BLOCK - 1) / IN_BLOCK : 0;
+}
 
 /* The bytes of a directory's identifier of this name: one byte for each character, or two where one is above U+00FF. */
 static uint64_t identifier_size(const char *name) {
@@ -137,8 +144,8 @@ static int32_t has_room_for_pieces(udfburn *handle, uint64_t size, uint64_t pare
     if (status != UDFBURN_OK) return status;
     int is_enough = is_taken(&blocks, 0, root);
     for (uint64_t at = 0; at < size; at += piece) {
-        uint64_t data = blocks_for(size - at < piece ? size - at : piece);
-        is_enough &= is_taken(&blocks, data, at == 0 ? 1 + root : 1);
+        uint64_t bytes = size - at < piece ? size - at : piece;
+        is_enough &= is_taken(&blocks, blocks_for(bytes), 1 + (at == 0 ? root : descriptor_blocks(at + bytes)));
     }
     return is_enough && is_taken(&blocks, 0, root + parent) ? UDFBURN_OK : UDFBURN_FULL;
 }

@@ -64,7 +64,7 @@ extern "C" {
 #define UDFBURN_LEAST_CAPACITY 512                    /* blocks of a volume */
 #define UDFBURN_GREATEST_CAPACITY 450000              /* blocks of a volume */
 #define UDFBURN_FILE_LIMIT 1048576                    /* bytes that one request gives a file */
-#define UDFBURN_GREATEST_FILE 122683392               /* bytes of a file, with all that was appended to it */
+#define UDFBURN_GREATEST_FILE 921698304               /* bytes of a file, with all that was appended to it */
 #define UDFBURN_NODES 4096                            /* files and directories of a volume, the root included */
 #define UDFBURN_NAMES 512                             /* names of a directory */
 #define UDFBURN_DEPTH 16                              /* names of a path */

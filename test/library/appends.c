@@ -1,5 +1,5 @@
 /* Files that grow by pieces: udfburn_append and udfburn_read.
- * usage: appends FOLDER [most]; with `most` a file gets as many bytes as one may have. */
+ * usage: appends FOLDER [most]; with `most` a file gets more pieces than its entry can list. */
 #ifndef _GNU_SOURCE
 #define _GNU_SOURCE
 #endif
@@ -217,18 +217,52 @@ static void repeats(void) {
     udfburn_close(handle);
 }
 
-/* 117 pieces. */
-static void the_most(void) {
-    udfburn *handle = in_memory(70000);
+/* A volume in memory whose file has one piece. */
+static udfburn *begun(uint32_t capacity) {
+    udfburn *handle = in_memory(capacity);
     STATUS(UDFBURN_OK, create(handle, "/a", PIECE));
-    for (uint64_t offset = PIECE; offset < UDFBURN_GREATEST_FILE; offset += PIECE) {
+    return handle;
+}
+
+static uint32_t next_of(udfburn *handle) {
+    struct udfburn_status status;
+    STATUS(UDFBURN_OK, udfburn_status(handle, &status));
+    return status.next;
+}
+
+/* 244 pieces: an entry has room for 117 extents, and each descriptor block for 125 more. An append takes 514 blocks and as many
+ * descriptor blocks as its file has then, and asks for 514 more. */
+static void many_pieces(void) {
+    enum { MANY = 244 };
+    static const uint64_t borders[] = {117, 118, 119, 242, 243, 244};
+    uint32_t before[MANY + 1];
+    udfburn *handle = begun(140000);
+    for (uint64_t count = 2; count <= MANY; count++) {
+        uint64_t offset = (count - 1) * PIECE;
+        uint32_t descriptors = count > 242 ? 2 : count > 117;
+        before[count] = next_of(handle);
         STATUS(UDFBURN_OK, append(handle, "/a", offset, PIECE));
+        EXPECT(next_of(handle) == before[count] + 515 + descriptors);
     }
-    EXPECT(size_of(handle, "/a") == UDFBURN_GREATEST_FILE && UDFBURN_GREATEST_FILE == 117 * PIECE);
-    STATUS(UDFBURN_TREE_FULL, append(handle, "/a", UDFBURN_GREATEST_FILE, 1));
-    EXPECT(size_of(handle, "/a") == UDFBURN_GREATEST_FILE);
-    EXPECT(reads(handle, "/a", UDFBURN_GREATEST_FILE - 5, 9, bytes + PIECE - 5, 5));
+    EXPECT(size_of(handle, "/a") == (uint64_t)MANY * PIECE);
+    for (size_t i = 0; i < sizeof borders / sizeof *borders; i++) {
+        uint64_t end = borders[i] * PIECE;
+        EXPECT(reads(handle, "/a", end - 5, 5, bytes + (end - 5) % PIECE, 5));
+        EXPECT(reads(handle, "/a", end - PIECE, PIECE, bytes, PIECE));
+    }
+    STATUS(UDFBURN_EXISTS, append(handle, "/a", UDFBURN_GREATEST_FILE, 1));
     udfburn_close(handle);
+    for (size_t i = 0; i < 2; i++) {
+        uint64_t count = 117 + i, offset = (count - 1) * PIECE;
+        uint32_t needed = before[count] + 1028 + (uint32_t)i;
+        for (uint32_t lacking = 0; lacking < 2; lacking++) {
+            handle = begun(needed - lacking);
+            for (uint64_t at = PIECE; at < offset; at += PIECE) STATUS(UDFBURN_OK, append(handle, "/a", at, PIECE));
+            STATUS(lacking ? UDFBURN_FULL : UDFBURN_OK, append(handle, "/a", offset, PIECE));
+            EXPECT(size_of(handle, "/a") == offset + (lacking ? 0 : PIECE));
+            udfburn_close(handle);
+        }
+    }
 }
 
 int main(int argc, char **argv) {
@@ -238,6 +272,6 @@ int main(int argc, char **argv) {
     refused();
     arguments();
     repeats();
-    if (argc > 2) the_most();
+    if (argc > 2) many_pieces();
     return finish("appends");
 }

@@ -1,5 +1,5 @@
 /* Files from streams: udfburn_put, and what udfburn_room says of them.
- * usage: puts FOLDER [most]; with `most` also files of as many bytes as one may have, and of one more. */
+ * usage: puts FOLDER [most]; with `most` also files of which the entry cannot list all pieces. */
 #ifndef _GNU_SOURCE
 #define _GNU_SOURCE
 #endif
@@ -381,18 +381,62 @@ static void what_room_says(void) {
 
 /* ---- Limits ---- */
 
+/* The least volume that by udfburn_room has room for a file of so many pieces. */
+static uint32_t least_capacity(uint64_t pieces) {
+    uint32_t low = 512, high = 450000;
+    while (low < high) {
+        uint32_t middle = low + (high - low) / 2;
+        udfburn *handle = made("least.img", middle);
+        if (udfburn_room(handle, "/a", pieces * PIECE) == UDFBURN_OK) high = middle;
+        else low = middle + 1;
+        udfburn_close(handle);
+    }
+    unlink("least.img");
+    return low;
+}
+
+/* Files of which the entry cannot list all extents. With one piece more there must be as many more blocks as that takes. */
+static void many_pieces(void) {
+    enum { MANY = 243 };
+    static const uint64_t counts[] = {116, 117, 118, 241, 242};
+    static uint8_t piece[PIECE];
+    uint32_t after[MANY + 1];
+    struct udfburn_status status;
+    udfburn *handle = made("most.img", 140000);
+    for (uint64_t count = 1; count <= MANY; count++) {
+        struct udfburn_request next = {7, 0, MOMENT, 0, 0};
+        if (count == 1) STATUS(UDFBURN_OK, udfburn_create(handle, &next, "/a", piece, PIECE));
+        else STATUS(UDFBURN_OK, udfburn_append(handle, &next, "/a", (count - 1) * PIECE, piece, PIECE));
+        STATUS(UDFBURN_OK, udfburn_status(handle, &status));
+        after[count] = status.next;
+    }
+    udfburn_close(handle);
+    for (size_t i = 0; i < sizeof counts / sizeof *counts; i++) {
+        uint64_t count = counts[i];
+        EXPECT(least_capacity(count + 1) - least_capacity(count) == after[count + 1] - after[count]);
+    }
+    for (uint64_t count = 118; count <= MANY; count += MANY - 118) {
+        struct stream stream = stream_of(1, count * PIECE);
+        handle = made("most.img", least_capacity(count));
+        STATUS(UDFBURN_OK, udfburn_room(handle, "/a", stream.size));
+        STATUS(UDFBURN_FULL, udfburn_room(handle, "/a", stream.size + PIECE));
+        STATUS(UDFBURN_OK, put_stream(handle, "/a", &stream, &request));
+        EXPECT(has_stream(handle, "/a", &stream) && names_of_root(handle) == 1);
+        STATUS(UDFBURN_OK, put_stream(handle, "/a", &stream, &request));
+        EXPECT(request.repeated == 1);
+        stream.size++;
+        STATUS(UDFBURN_EXISTS, put_stream(handle, "/a", &stream, &request));
+        udfburn_close(handle);
+    }
+    unlink("most.img");
+}
+
+/* The greatest file is larger than what any volume has room for. */
 static void the_most(void) {
-    udfburn *handle = made("most.img", 130000);
-    struct stream stream = stream_of(1, UDFBURN_GREATEST_FILE);
-    STATUS(UDFBURN_OK, udfburn_room(handle, "/a", UDFBURN_GREATEST_FILE));
-    STATUS(UDFBURN_OK, put_stream(handle, "/a", &stream, &request));
-    EXPECT(has_stream(handle, "/a", &stream) && names_of_root(handle) == 1);
-    STATUS(UDFBURN_OK, put_stream(handle, "/a", &stream, &request));
-    EXPECT(request.repeated == 1);
-    stream.size++;
-    STATUS(UDFBURN_EXISTS, put_stream(handle, "/a", &stream, &request));
-    STATUS(UDFBURN_TOO_LONG, put_stream(handle, "/b", &stream, &request));
-    EXPECT(request.commit == 0 && names_of_root(handle) == 1);
+    udfburn *handle = made("most.img", UDFBURN_GREATEST_CAPACITY);
+    STATUS(UDFBURN_OK, udfburn_room(handle, "/a", (uint64_t)850 * PIECE));
+    STATUS(UDFBURN_FULL, udfburn_room(handle, "/a", UDFBURN_GREATEST_FILE));
+    STATUS(UDFBURN_ARGUMENT, udfburn_room(handle, "/a", (uint64_t)UDFBURN_GREATEST_FILE + 1));
     udfburn_close(handle);
     unlink("most.img");
 }
@@ -436,6 +480,7 @@ int main(int argc, char **argv) {
         room();
         room_beside_names();
         many_names();
+        many_pieces();
         the_most();
     }
     return finish("puts");

@@ -25,7 +25,6 @@ from udfburn.reader import FileType, Medium, Volume  # noqa: E402
 
 PIECE = 1 << 20
 """Bytes by which a recording grows (examples/record.c)."""
-GREATEST_FILE = 117 * PIECE
 PROGRAMS: Dict[str, Tuple[str, ...]] = {"record": (), "author": (), "recorder": ("-lburn",), "packet": ()}
 """The examples, and what each is linked with beside the library. test/disc.sh runs `packet`."""
 SHIM = "shim.so"
@@ -179,14 +178,15 @@ class Record(WithImage):
             done = self.run_example("record", "disc.img", name, data=b"one")
             self.assertEqual((done.returncode, done.stdout), (2, b""))
 
-    def test_the_longest_recording(self) -> None:
-        """What is above it is not stored, and is told to be recorded elsewhere."""
-        self.start_anew(70000)
-        stream = random.Random(4).randbytes(1 << 16) * (GREATEST_FILE >> 16)
-        done = self.record(stream + b"more", 0)
-        self.assertEqual((done.returncode, done.stdout.split()[-1]), (1, b"%d" % GREATEST_FILE))
-        self.assertEqual(done.stderr, b"record: /talk takes no more: record the rest under another name\n")
-        self.check_recorded(stream)
+    def test_a_long_recording(self) -> None:
+        """More pieces than the entry of its file can list, up to the end of the medium."""
+        self.start_anew(64000)
+        stream = random.Random(4).randbytes(1 << 16) * (130 << 4)
+        done = self.record(stream, 0)
+        self.assertEqual((done.returncode, done.stderr), (1, b"record: UDFBURN_FULL\n"))
+        stored = int(done.stdout.split()[-1])
+        self.assertGreater(stored, 120 * PIECE)
+        self.check_recorded(stream[:stored])
 
     def test_killed_at_each_call(self) -> None:
         """The process is killed before and after each write and sync of the image, and what is left is recorded then."""

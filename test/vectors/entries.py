@@ -1,8 +1,10 @@
 """File entries and file set descriptors (entry.txt)."""
 
 import layouts
-from layouts import Changes, ENTRY, EXTENT as EXTENT_BYTES, FILE_SET, changed, file_entry, long_ad, seal, several
-from writing import Vectors, padded
+from layouts import (
+    BLOCK, Changes, ENTRY, EXTENT as EXTENT_BYTES, FILE_SET, GREATEST, LAST, changed, file_entry, leading, long_ad, seal, several,
+)
+from writing import Vectors, digits, padded, repeated
 
 OLD = "codec_tests::entries::"
 FIRST = "codec_tests::first_faults::"
@@ -75,11 +77,12 @@ def _sizes(v: Vectors) -> None:
         _entry(v, f"in-an-extent-{size}", OLD + "files_of_each_size_in_extents", block, 2,
                f"file links 1 unique 16 moment 0 size {size} extent 5")
     _several(v)
+    _leading(v)
 
 
 def _several(v: Vectors) -> None:
-    v.about("Files in several extents, each but the last of 1,048,576 bytes: up to 117, as many as there is room for.")
-    size, last = EXTENT_BYTES + 1, 449_742
+    v.about("Files in several extents, each but the last of 1,048,576 bytes: the descriptors of up to 117, as many as there is room for.")
+    size, last = EXTENT_BYTES + 1, LAST
     for name, size, firsts in [("in-two-extents", size, [7, 600]), ("in-two-whole-extents", 2 * EXTENT_BYTES, [600, 7]),
                                ("in-117-extents", 117 * EXTENT_BYTES, [7] * 117), ("in-two-extents-up-to-the-last-block", size, [7, last])]:
         block = file_entry("file", 1, 16, size, several(size, *firsts), 2)
@@ -87,7 +90,7 @@ def _several(v: Vectors) -> None:
     whole, size = long_ad(EXTENT_BYTES, 7), EXTENT_BYTES + 1
     two = several(size, 7, 600)
     for name, fault, size, descriptors in [
-        ("a-byte-more-than-117-extents", LENGTHS, 117 * EXTENT_BYTES + 1, [whole] * 117), ("one-extent-of-two", LENGTHS, size, [whole]),
+        ("a-byte-more-than-117-extents", EXTENT, 117 * EXTENT_BYTES + 1, [whole] * 117), ("one-extent-of-two", LENGTHS, size, [whole]),
         ("three-extents-of-two", LENGTHS, size, two + [long_ad(1, 601)]), ("one-extent-of-all-bytes", LENGTHS, size, [long_ad(size, 7)]),
         ("a-first-extent-of-a-block-less", LENGTHS, size, [long_ad(EXTENT_BYTES - 2048, 7), long_ad(2049, 600)]),
         ("a-last-extent-that-is-whole", EXTENT, size, [whole, whole]), ("a-last-extent-of-no-byte", EXTENT, size, [whole, long_ad(0, 600)]),
@@ -103,6 +106,87 @@ def _several(v: Vectors) -> None:
     _fault(v, "a-byte-after-two-extents", "", TAIL, changed(block, [(208, 1)]), 2)
     for kind, links, unique in [("directory", 1, 16), ("table", 0, 0)]:
         _fault(v, f"a-{kind}-in-two-extents", "", LENGTHS, file_entry(kind, links, unique, EXTENT_BYTES + 1, two, 2), 2)
+
+
+FIRSTS = [5 + 600 * index for index in range(116)]
+OWN = several(GREATEST, *FIRSTS)
+"""The descriptors of the first 116 extents of a file that has descriptor blocks."""
+
+
+def _listed(block: bytes) -> str:
+    return "bytes " + repeated(block, 176, "first-116", b"".join(OWN))
+
+
+def _long(v: Vectors, name: str, size: int, listed: "list[bytes]", answer: str, changes: Changes = []) -> None:
+    """The entry of a file that has descriptor blocks."""
+    block = file_entry("file", 1, 16, size, listed, 2)
+    if changes:
+        block = resealed(block, changes, 176 + 16 * len(listed), 2)
+    v.case(name, "", _listed(block), f"entry 2 -> {answer}")
+
+
+def _told(size: int, number: int, extents: str = "{first-116}") -> str:
+    return f"file links 1 unique 16 moment 0 size {size} extents {extents} next {number}"
+
+
+def _leading(v: Vectors) -> None:
+    v.about("Files in more than 117 extents: the entry has the descriptors of the first 116, and one that leads to the first descriptor "
+            "block: kind 3, 2,048 bytes. There are 1 to 7, one after another, which end with the last block of the largest partition.")
+    v.let("first-116", digits(b"".join(OWN)))
+    v.words("first-116", " ".join(map(str, FIRSTS)))
+    assert leading(0x11223344) == bytes.fromhex("000800C0 44332211 0000 000000000000")
+    for count, blocks in ((118, 1), (119, 1), (241, 1), (242, 1), (243, 2), (367, 2), (368, 3), (867, 6), (868, 7), (878, 7), (879, 7)):
+        assert blocks == -(-(count - 117) // 125)
+        for least, ends in ((True, "of-a-byte"), (False, "whole")):
+            size = (count - 1) * EXTENT_BYTES + (1 if least else EXTENT_BYTES)
+            name = f"in-{count}-extents-the-last-{ends}"
+            _long(v, name, size, OWN + [leading(70_000)], _told(size, 70_000))
+            if count in (118, 242, 243, 879):
+                _long(v, f"{name}-up-to-the-last-block", size, OWN + [leading(LAST + 1 - blocks)], _told(size, LAST + 1 - blocks))
+                _long(v, f"{name}-past-the-partition", size, OWN + [leading(LAST + 2 - blocks)], f"fault {EXTENT}")
+    _long_faults(v, OWN)
+
+
+def _long_faults(v: Vectors, own: "list[bytes]") -> None:
+    size, kind, number = 117 * EXTENT_BYTES + 1, 1 << 30, 70_000
+    v.about("Faults of the descriptor that leads on, of a file in 118 extents: its kind, its length, its partition, its implementation use.")
+    for name, one in [
+        ("kind-0", long_ad(BLOCK, number)), ("kind-1", long_ad(kind | BLOCK, number)), ("kind-2", long_ad(2 * kind | BLOCK, number)),
+        ("no-byte", long_ad(3 * kind, number)), ("a-byte-less", long_ad(3 * kind | BLOCK - 1, number)),
+        ("a-byte-more", long_ad(3 * kind | BLOCK + 1, number)), ("two-blocks", long_ad(3 * kind | 2 * BLOCK, number)),
+        ("an-extent", long_ad(3 * kind | EXTENT_BYTES, number)), ("the-virtual-partition", long_ad(3 * kind | BLOCK, number, 1)),
+        ("implementation-use", long_ad(3 * kind | BLOCK, number, 0, 1)), ("flags", leading(number)[:10] + b"\x01" + bytes(5)),
+        ("the-greatest-number", leading(0xFFFF_FFFF)), ("the-number-after-the-partition", leading(LAST + 1)), ("zeros", bytes(16)),
+        ("the-117th-extent", long_ad(EXTENT_BYTES, 7)), ("an-extent-of-a-byte", long_ad(1, 7)),
+    ]:
+        _long(v, f"leads-on-by-{name}", size, own + [one], f"fault {EXTENT}")
+    _long(v, "leads-on-by-the-number-0", size, own + [leading(0)], _told(size, 0))
+    v.about("Too few descriptors or too many, or one that leads on where the entry has room for all.")
+    _long(v, "116-descriptors-of-118-extents", size, own, f"fault {LENGTHS}")
+    _long(v, "115-descriptors-and-one-that-leads-on", size, own[:115] + [leading(number)], f"fault {LENGTHS}")
+    _long(v, "one-descriptor-that-leads-on", size, [leading(number)], f"fault {LENGTHS}")
+    _long(v, "one-that-leads-on-in-117-extents", size - 1, own + [leading(number)], f"fault {EXTENT}")
+    _long(v, "one-that-leads-on-in-116-extents", 116 * EXTENT_BYTES, own + [leading(number)], f"fault {LENGTHS}")
+    _long(v, "one-that-leads-on-before-the-last", size, own[:115] + [leading(number), own[115]], f"fault {EXTENT}")
+    _long(v, "two-that-lead-on", size, own[:115] + [leading(number)] * 2, f"fault {EXTENT}")
+    block = file_entry("file", 1, 16, size, own + [leading(number)], 2)
+    for name, end, fault in [("by-its-fields", 176, LENGTHS), ("by-its-block", BLOCK, TAG)]:
+        many = resealed(block, list(zip(range(172, 176), (118 * 16).to_bytes(4, "little"))), end, 2)
+        v.case(f"118-descriptors-in-the-entry-sealed-{name}", "", _listed(many), f"entry 2 -> fault {fault}")
+    v.about("The extents before it, and the sizes of the file: its blocks, and more bytes than 879 extents have.")
+    for name, index, one in [("the-first", 0, long_ad(EXTENT_BYTES, LAST - 510)), ("the-116th", 115, long_ad(EXTENT_BYTES, LAST - 510)),
+                             ("the-116th-of-a-byte-less", 115, long_ad(EXTENT_BYTES - 1, 7)), ("the-116th-that-is-not-recorded", 115, long_ad(EXTENT_BYTES | kind, 7))]:
+        _long(v, f"a-wrong-extent-of-118-{name}", size, own[:index] + [one] + own[index + 1 :] + [leading(number)], f"fault {EXTENT}")
+    _long(v, "a-first-extent-of-118-of-a-byte-less", size, [long_ad(EXTENT_BYTES - 1, 5)] + own[1:] + [leading(number)], f"fault {LENGTHS}")
+    _long(v, "the-116th-of-118-extents-up-to-the-last-block", size, own[:115] + [long_ad(EXTENT_BYTES, LAST - 511)] + [leading(number)],
+          _told(size, number, f"{' '.join(map(str, FIRSTS[:115]))} {LAST - 511}"))
+    _long(v, "a-byte-more-than-879-extents", GREATEST + 1, own + [leading(number)], f"fault {LENGTHS}")
+    _long(v, "more-than-four-gibibytes", (1 << 32) + size, own + [leading(number)], f"fault {LENGTHS}")
+    _long(v, "blocks-recorded-with-a-descriptor-block", size, own + [leading(number)], f"fault {LENGTHS}", [(64, 2)])
+    _long(v, "a-wrong-extent-and-a-wrong-one-that-leads-on", size, own[:115] + [long_ad(1, 7), leading(LAST + 1)], f"fault {EXTENT}")
+    for kind_, links, unique in [("directory", 1, 16), ("table", 0, 0)]:
+        many = file_entry(kind_, links, unique, size, own + [leading(number)], 2)
+        v.case(f"a-{kind_}-in-118-extents", "", _listed(many), f"entry 2 -> fault {LENGTHS}")
 
 
 def _fault(v: Vectors, name: str, of: str, fault: int, block: bytes, location: int) -> None:

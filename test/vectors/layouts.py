@@ -14,7 +14,16 @@ BLOCK = 2048
 EXTENT = 1_048_576
 PARTITION_START = 257
 NONE = 0xFFFF_FFFF
-TERMINATING, FILE_SET, IDENTIFIER, ENTRY = 8, 256, 257, 261
+TERMINATING, FILE_SET, IDENTIFIER, DESCRIPTORS, ENTRY = 8, 256, 257, 258, 261
+
+ENTRY_ROOM, DESCRIPTOR_ROOM = 117, 126
+"""The most long_ads of an entry, and of a descriptor block: (2048 - 176) // 16 and (2048 - 24) // 16."""
+
+GREATEST = 879 * EXTENT
+"""The most bytes of a file."""
+
+LAST = 449_742
+"""The last block number of the largest partition."""
 
 
 def crc(data: bytes) -> int:
@@ -107,6 +116,17 @@ def long_ad(length: int, number: int, partition: int = 0, unique: int = 0) -> by
 def several(size: int, *firsts: int) -> "list[bytes]":
     """The long_ads of so many bytes in extents from these block numbers on, each but the last of a mebibyte."""
     return [long_ad(min(size - index * EXTENT, EXTENT), first) for index, first in enumerate(firsts)]
+
+
+def leading(number: int) -> bytes:
+    """The long_ad that leads to the descriptor block of this number: its kind is 3, its length a block (ECMA-167 4/14.14.1.1)."""
+    return long_ad(3 << 30 | BLOCK, number)
+
+
+def descriptor_block(number: int, listed: "list[bytes]", previous: int = 0) -> bytes:
+    """The descriptor block of this number with these long_ads (ECMA-167 4/14.5)."""
+    ads = b"".join(listed)
+    return block(seal(DESCRIPTORS, number, bytes(16) + struct.pack("<II", previous, len(ads)) + ads))
 
 
 def file_entry(kind: str, links: int, unique: int, size: int, first: "int | bytes | list[bytes] | None", location: int,

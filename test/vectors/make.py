@@ -13,6 +13,7 @@ HERE = pathlib.Path(__file__).resolve().parent
 sys.path.insert(0, str(HERE))
 
 import answers
+import descriptors
 import directories
 import entries
 import fronts
@@ -23,8 +24,8 @@ import texts
 import volumes
 
 CRATE = HERE.parents[1] / "crates/vectors"
-FILES = [tags.tags, tags.timestamps, texts.texts, entries.entries, directories.directories, tables.tables, fronts.fronts,
-         frames.frames, answers.answers, volumes.volumes]
+FILES = [tags.tags, tags.timestamps, texts.texts, entries.entries, descriptors.descriptors, directories.directories, tables.tables,
+         fronts.fronts, frames.frames, answers.answers, volumes.volumes]
 
 
 def written() -> "dict[pathlib.Path, str]":

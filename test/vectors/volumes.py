@@ -6,56 +6,16 @@ import directories
 import entries
 import fronts
 import layouts
+import long_files
 import tables
-from layouts import BLOCK, EXTENT, NONE, block, changed, file_entry, file_set, front, lay, several, table
+from layouts import BLOCK, NONE, block, changed, file_entry, file_set, front, table
+from media import (
+    A, CHAIN, COUNTS, CREATED, FORMATTED, FRONT, IDENTITY, LABEL, NEW, RANGE, REACHED_TWICE, RENAMED, SAID, TOO_DEEP, chained, directory,
+    directory_entry, entry_of_table, file, put, root_entry, told, used, words,
+)
 from writing import Vectors, digits, padded
 
 OLD = "recover_tests::"
-
-# The causes that are seen only where structures are compared with each other.
-FRONT, RANGE, IDENTITY, REACHED_TWICE, COUNTS, TOO_DEEP, LABEL, CHAIN = range(71, 79)
-
-
-def directory_entry(unique: int, links: int, size: int, first: int, address: int) -> bytes:
-    return file_entry("directory", links, unique, size, first, address)
-
-
-def root_entry(links: int, size: int, first: int) -> bytes:
-    return directory_entry(0, links, size, first, 1)
-
-
-def entry_of_table(size: int, first: int, number: int) -> bytes:
-    return file_entry("table", 0, 0, size, first, number)
-
-
-def file(unique: int, address: int, links: int = 1) -> bytes:
-    return file_entry("file", links, unique, 5, b"hello", address)
-
-
-def directory(first: int, above: int, *names: "tuple[str, str, int, int]") -> bytes:
-    return block(lay(list(names), above, first))
-
-
-def used(entries_: "list[int]", previous: int = 4, files: int = 1, count: int = 1, next_unique: int = 17, commits: int = 1,
-         label: str = "DISC") -> bytes:
-    return block(table(entries_, previous, files, count, 2, 0, next_unique, commits, label=label))
-
-
-A = ("a", "file", 2, 16)
-
-# A format after the volume header, at the addresses 257 to 261.
-FORMATTED = [file_set(), directory(1, 1), root_entry(1, 40, 1), block(table([0, 2], NONE, commits=0)), entry_of_table(204, 3, 4)]
-
-# What a commit writes that makes a file `a` in the root, at the addresses 262 to 266.
-CREATED = [file(16, 2), directory(6, 1, A), root_entry(1, 80, 6), used([0, 7, 5]), entry_of_table(208, 8, 9)]
-
-# What a commit writes that gives the file the name `b`, at the addresses 267 to 270.
-RENAMED = [directory(10, 1, ("b", "file", 2, 16)), root_entry(1, 80, 10), used([0, 11, 5], 9, commits=2), entry_of_table(208, 12, 13)]
-
-
-def chained(commits: int) -> "list[bytes]":
-    """What a commit writes that writes its table alone."""
-    return [used([0, 7, 5], 9, commits=commits), entry_of_table(208, 10, 11)]
 
 
 def volumes() -> Vectors:
@@ -79,22 +39,6 @@ def volumes() -> Vectors:
     return v
 
 
-def words(blocks: "list[bytes]") -> str:
-    return padded(b"".join(blocks))
-
-
-def put(address: int, data: bytes) -> str:
-    return f"put {address} {padded(data) or '00'}"
-
-
-def told(seen: "tuple[int, int] | None") -> str:
-    return f"damaged block {seen[0]} cause {seen[1]}" if seen else ""
-
-
-SAID = 'moment 0 capacity 3000 label "DISC" previous 4 files 1 directories 1 version 2 next-unique 17 commits 1 entries 0 7 5'
-NEW = 'moment 0 capacity 3000 label "DISC" previous none files 0 directories 1 version 2 next-unique 16 commits 0 entries 0 2'
-
-
 def _sound(v: Vectors) -> None:
     v.about("A new volume, and the file `a` of five bytes after it; the CRC is that of all 262 blocks.")
     v.case("a-format", OLD + "states::a_format_is_that_of_the_vectors", "bytes {formatted}", "crc -> 4D12", "last -> 261", f"state 261 -> {NEW}")
@@ -108,7 +52,8 @@ def _sound(v: Vectors) -> None:
               entry_of_table(208, 9, 10)]
     v.case("a-small-file-in-an-extent", OLD + "states::a_small_file_in_a_block_of_its_own_is_read", "bytes {formatted}", "bytes " + words(blocks),
            "last -> 267", "state 267 -> " + SAID.replace("entries 0 7 5", "entries 0 8 6"))
-    _extents(v)
+    long_files.extents(v)
+    long_files.descriptors(v)
     v.about("A path has at most 16 names.")
     for depth in (16, 17):
         blocks, at = nested(depth)
@@ -117,18 +62,6 @@ def _sound(v: Vectors) -> None:
                  f"commits {depth} entries {entries_}"
         v.case(f"a-path-of-{depth}-names", OLD + "states::a_path_has_sixteen_names", "bytes {formatted}", "bytes " + words(blocks), f"last -> {at}",
                f"state {at} -> {answer if depth == 16 else told((263, TOO_DEEP))}")
-
-
-def _extents(v: Vectors) -> None:
-    v.about("A file in two extents, one of a mebibyte and one of a byte. Both must end below the VAT ICB, which has the block number 522.")
-    size = EXTENT + 1
-    for name, firsts, is_below in [("a-file-in-two-extents", (5, 517), True), ("a-first-extent-up-to-the-vat-icb", (10, 5), True),
-                                   ("a-last-extent-up-to-the-vat-icb", (5, 521), True), ("a-first-extent-past-the-vat-icb", (11, 5), False),
-                                   ("a-last-extent-past-the-vat-icb", (5, 522), False)]:
-        blocks = [file_entry("file", 1, 16, size, several(size, *firsts), 2), directory(519, 1, A), root_entry(1, 80, 519), used([0, 520, 518]),
-                  entry_of_table(208, 521, 522)]
-        answer = SAID.replace("entries 0 7 5", "entries 0 520 518") if is_below else told((775, RANGE))
-        v.case(name, "", "bytes {formatted}", f"bytes 00*{513 * BLOCK} " + words(blocks), "last -> 779", f"state 779 -> {answer}")
 
 
 def nested(depth: int) -> "tuple[list[bytes], int]":

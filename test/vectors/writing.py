@@ -44,6 +44,22 @@ def padded(data: bytes) -> str:
     return " ".join(words)
 
 
+def repeated(data: bytes, begin: int, name: str = "", named: bytes = b"", unit: int = 16) -> str:
+    """A block in which units of so many bytes begin at a place: bytes that have a name by it, equal units after one another by one word."""
+    words, at = [digits(data[:begin])], begin
+    if named and data.startswith(named, at):
+        words.append("{" + name + "}")
+        at += len(named)
+    while any(data[at:]):
+        one = data[at : at + unit]
+        count = 1
+        while data[at + count * unit : at + (count + 1) * unit] == one:
+            count += 1
+        words.append(f"{one.hex().upper()}*{count}" if count > 1 else digits(one))
+        at += count * len(one)
+    return " ".join(words + [".."] * (at < len(data)))
+
+
 def wrapped(line: str) -> str:
     """The line in several that go on with one another where it is long."""
     if len(line) <= WIDTH:

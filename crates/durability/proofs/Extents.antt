@@ -1,9 +1,9 @@
--- Bytes in extents stay on a medium that goes on, and those of one more extent follow them.
-use Rattle.std.proofs.Common.{◌≡◌, ℕ, ◌+◌, ◌*◌, ◌-◌, ◌<◌, ◌≤◌, min, List, [], ◌∷◌, ◌++◌, length, refl, sym, ap, subst, ◌∙◌, append_assoc, append-nil, length-append, arith}
+-- Bytes in extents and the descriptor blocks of these stay on a medium that goes on, and those of one more extent follow them.
+use Rattle.std.proofs.Common.{◌≡◌, ℕ, zero, suc, ◌+◌, ◌*◌, ◌-◌, ◌<◌, ◌≤◌, min, List, [], ◌∷◌, ◌++◌, length, take, drop, refl, sym, ap, subst, ◌∙◌, append_assoc, append-nil, length-append, length-take, length-drop, arith}
 use Rattle.std.proofs.Math.Nat.{min-eq_left, min-eq_right}
 use Rattle.limits.specs.declared.TheConstants.{FILE_BYTES}
-use Rattle.durability.specs.Formats.{Block}
-use Rattle.durability.specs.Volume.{Medium, partition_start, blocks_for, IsWithin, extent, bytes_in_blocks, AreWithin, bytes_in_extents}
+use Rattle.durability.specs.Formats.{Block, Formats}
+use Rattle.durability.specs.Volume.{Medium, partition_start, blocks_for, IsWithin, extent, bytes_in_blocks, AreWithin, bytes_in_extents, descriptor_blocks, descriptors_at, AreListed}
 use Rattle.durability.specs.Plan.{packed}
 use Rattle.durability.proofs.Lists.{part-append}
 use Rattle.durability.proofs.Packed.{bytes-packed}
@@ -51,3 +51,20 @@ one_more M first bytes some few within is (f ∷ fs) size e all =
           ∙ ap (λ (xs : List ℕ). head ++ xs) rest.1
           ∙ sym (append_assoc head (bytes_in_extents M (size - FILE_BYTES) fs) bytes),
     )
+
+-- a part that is there is below the end, or empty
+pub part_there : (s c : ℕ) (xs ys : List Block) → length (take c (drop s xs)) ≡ c → take c (drop s (xs ++ ys)) ≡ take c (drop s xs)
+part_there s zero xs ys there = refl
+part_there s (suc c) xs ys there = part-append s (suc c) xs ys (let long : suc c ≤ length (drop s xs) = omega (arith, there, length-take (suc c) (drop s xs)) in omega (arith, long, length-drop s xs))
+
+module _ (formats : Formats) (M more : Medium) (size : ℕ) (descriptors : List ℕ) where
+  pub descriptors_stay : length (descriptors_at formats M size descriptors) ≡ descriptor_blocks size → descriptors_at formats (M ++ more) size descriptors ≡ descriptors_at formats M size descriptors
+  descriptors_stay there = part_there (formats.next descriptors + partition_start) (descriptor_blocks size) M more there
+
+  pub listed_more : AreListed formats M size descriptors → AreListed formats (M ++ more) size descriptors
+  listed_more listed =
+      let same = descriptors_stay listed.there in
+      record {
+        there = ap (λ (bs : List Block). length bs) same ∙ listed.there;
+        are = subst (λ (bs : List Block). formats.HaveDescriptors size (formats.next descriptors) bs) (sym same) listed.are;
+      }

@@ -17,7 +17,7 @@ use Rattle.model.proofs.Codes.{may_add, may_remove, may_rename, paths_same}
 use Rattle.model.proofs.Paths.{ends, parent-push}
 use Rattle.model.proofs.ListsAfter.{ListsRenamed, lists_after}
 use Rattle.durability.specs.Formats.{Block, Table_, Formats, AreExact, AreBounded, AreDistinct, AreShort}
-use Rattle.durability.specs.Volume.{Medium, partition_start, blocks_for, graph_of, RecoversTo}
+use Rattle.durability.specs.Volume.{Medium, partition_start, blocks_for, descriptor_blocks, graph_of, RecoversTo}
 use Rattle.durability.specs.Commit.{most_inside, file_blocks, most_for_file, most_for_append, most_for_directory, most_for_directory_at, most_for_nodes, most_for_table, table_size, need}
 use Rattle.durability.specs.Plan.{zeros, packed, Writing, Written, IsPlaced, PlacesFile, PlacesBody, WritesNodes, IsPlanned, Plans, PlansAddition, PlansRenaming, PlansMove}
 use Rattle.durability.specs.Plan.PlacesFile.{nowhere, inside, outside, appended}
@@ -94,12 +94,15 @@ module _ (formats : Formats) (spelled : Name → ℕ) (short : AreShort formats 
   file_short medium kept firsts bytes from before place (outside new many first placed at) =
       let count : file_blocks (length bytes) ≡ blocks_for (length bytes) = ap (λ b. cond b (blocks_for (length bytes)) 0) (lt-ltb most_inside (length bytes) many) in
       omega (arith, new_most kept bytes new, count, placed_short formats bytes from first before placed)
-  file_short medium kept firsts bytes from before place (appended front more whole is some-front count within holds some few first placed descriptors names at) =
+  file_short medium kept firsts bytes from before place (appended front more whole is some-front count within holds some few first placed listed starts blocks_are many descriptors leads are names at) =
       let size : length bytes - kept ≡ length more = omega (arith, ap (λ (xs : List ℕ). length xs) whole, length-append front more, is) in
+      let all : kept + (length bytes - kept) ≡ length bytes = omega (arith, ap (λ (xs : List ℕ). length xs) whole, length-append front more, is) in
       let other : kept ≡ 0 → ⊥ = λ none. omega (arith, none, some-front) in
-      let most : most_for_append kept (length bytes - kept) ≡ 2 * blocks_for (length more) + 1 =
-      ap (λ (b : Bool). 2 * (if b then file_blocks (length bytes - kept) else blocks_for (length bytes - kept)) + 1) (ne_eqb kept 0 other) ∙ ap (λ (n : ℕ). 2 * blocks_for n + 1) size in
-      omega (arith, most, placed_short formats more from first before placed)
+      let most : most_for_append kept (length bytes - kept) ≡ 2 * blocks_for (length more) + descriptor_blocks (length bytes) + 1 =
+      ap (λ (b : Bool). if b then 2 * file_blocks (length bytes - kept) + 1 else 2 * blocks_for (length bytes - kept) + descriptor_blocks (kept + (length bytes - kept)) + 1) (ne_eqb kept 0 other)
+      ∙ ap (λ (n : ℕ). 2 * blocks_for n + descriptor_blocks (kept + (length bytes - kept)) + 1) size
+      ∙ ap (λ (n : ℕ). 2 * blocks_for (length more) + descriptor_blocks n + 1) all in
+      omega (arith, most, many, ap (λ (bs : List Block). length bs) blocks_are, length-append placed listed, placed_short formats more from first placed starts)
 
   body_short : (medium : Medium) (kept : ℕ) (firsts : List ℕ) (body : Body) (from : ℕ) (before : List Block) (place : _) (size : ℕ) → PlacesBody formats medium kept firsts body from before place size → length before + 1 ≤ most_for_kept kept body
   body_short medium kept firsts (Bytes bytes) from before place size (count, places) = file_short medium kept firsts bytes from before place places

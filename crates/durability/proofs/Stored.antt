@@ -8,9 +8,9 @@ use Rattle.model.specs.Change.{IsKeptUnder}
 use Rattle.durability.specs.Formats.{Block, Kind, NodePlace, NodeFields, Formats, AreExact}
 use Rattle.durability.specs.Formats.Kind.{Directory, File, Table}
 use Rattle.durability.specs.Formats.NodePlace.{Nowhere, Extent, Extents, Inside}
-use Rattle.durability.specs.Volume.{Medium, partition_start, blocks_for, IsWithin, extent, bytes_in_blocks, HoldsFile, HoldsDirectory, HoldsBody, IsStoredAt, graph_of}
+use Rattle.durability.specs.Volume.{Medium, partition_start, blocks_for, IsWithin, extent, bytes_in_blocks, AreWithin, bytes_in_extents, firsts_at, HoldsFile, HoldsDirectory, HoldsBody, IsStoredAt, graph_of}
 use Rattle.durability.proofs.Lists.{get-append, part-append}
-use Rattle.durability.proofs.Extents.{extents_stay}
+use Rattle.durability.proofs.Extents.{descriptors_stay, extents_stay, listed_more}
 
 is_file : Kind → Bool
 is_file Directory = false
@@ -32,13 +32,20 @@ module _ (formats : Formats) where
   file_one M size Nowhere x y a b = a ∙ sym b
   file_one M size (Inside inside) x y a b = a ∙ sym b
   file_one M size (Extent first) x y a b = a.1 ∙ sym b.1
-  file_one M size (Extents descriptors) x y a b = a.1 ∙ sym b.1
+  file_one M size (Extents descriptors) x y a b = a.2 ∙ sym b.2
 
   file_more : (M more : Medium) (size : ℕ) (place : NodePlace) (x : List ℕ) → HoldsFile formats M size place x → HoldsFile formats (M ++ more) size place x
   file_more M more size Nowhere x a = a
   file_more M more size (Inside inside) x a = a
   file_more M more size (Extent first) x a = (within_more M more first size a.0, a.1 ∙ ap (λ (bs : List Block). bytes_in_blocks size bs) (sym (extent_more M more first size a.0)))
-  file_more M more size (Extents descriptors) x a = let stay = extents_stay M more size (formats.firsts descriptors) a.0 in (stay.0, a.1 ∙ sym stay.1)
+  file_more M more size (Extents descriptors) x (listed, within, is) =
+      let same = descriptors_stay formats M more size descriptors listed.there in
+      let firsts : firsts_at formats (M ++ more) size descriptors ≡ firsts_at formats M size descriptors = ap (λ (bs : List Block). formats.firsts descriptors bs) same in
+      let stay = extents_stay M more size (firsts_at formats M size descriptors) within in (
+        listed_more formats M more size descriptors listed,
+        subst (λ (fs : List ℕ). AreWithin (M ++ more) size fs) (sym firsts) stay.0,
+        is ∙ sym stay.1 ∙ ap (λ (fs : List ℕ). bytes_in_extents (M ++ more) size fs) (sym firsts),
+      )
 
   directory_more : (M more : Medium) (size : ℕ) (place : NodePlace) (parent : ℕ) (es : List Entry) → HoldsDirectory formats M size place parent es → HoldsDirectory formats (M ++ more) size place parent es
   directory_more M more size Nowhere parent es a = a

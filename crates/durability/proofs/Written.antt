@@ -1,5 +1,5 @@
 -- Nodes that are written: they are stored where their entries lead, and none of their blocks imitates.
-use Rattle.std.proofs.Common.{◌≡◌, ℕ, zero, suc, ◌+◌, ◌-◌, ◌≤◌, List, [], ◌∷◌, ◌++◌, length, take, drop, replicate, slice_get, Option, Some, refl, sym, ◌∙◌, ap, subst, arith, append_assoc, length-append}
+use Rattle.std.proofs.Common.{◌≡◌, ℕ, zero, suc, ◌+◌, ◌-◌, ◌<◌, ◌≤◌, List, [], ◌∷◌, ◌++◌, length, take, drop, replicate, slice_get, Option, Some, refl, sym, ◌∙◌, ap, subst, arith, append_assoc, length-append}
 use Rattle.std.specs.Prelude.{Contains}
 use Rattle.std.proofs.lemmas.List.{length-replicate}
 use Rattle.std.proofs.lemmas.Option.{none-some, same_Some}
@@ -9,7 +9,7 @@ use Rattle.model.proofs.Lists.{contains_here, contains_there}
 use Rattle.durability.specs.Formats.{Block, Kind, NodePlace, NodeFields, Formats, AreDistinct}
 use Rattle.durability.specs.Formats.Kind.{Directory, File, Table}
 use Rattle.durability.specs.Formats.NodePlace.{Extent}
-use Rattle.durability.specs.Volume.{Medium, partition_start, blocks_for, IsWithin, extent, bytes_in_blocks, AreWithin, bytes_in_extents, HoldsFile, HoldsDirectory, HoldsBody, IsStoredAt, graph_of, IsVatIcbAt, NoneImitates}
+use Rattle.durability.specs.Volume.{Medium, partition_start, blocks_for, IsWithin, extent, bytes_in_blocks, AreWithin, bytes_in_extents, descriptor_blocks, descriptors_at, firsts_at, HoldsFile, HoldsDirectory, HoldsBody, IsStoredAt, graph_of, IsVatIcbAt, NoneImitates}
 use Rattle.durability.specs.Plan.{zeros, packed, kind_of_body, Writing, Written, IsPlaced, PlacesFile, PlacesBody, WritesNode, WritesNodes}
 use Rattle.durability.specs.Plan.PlacesFile.{nowhere, inside, outside, appended}
 use Rattle.durability.proofs.Extents.{extents_stay, one_more}
@@ -47,6 +47,15 @@ module _ (formats : Formats) where
         ap (λ (M : Medium). take (blocks_for (length bytes)) (drop (first + partition_start) M)) whole ∙ part_at (first + partition_start) (blocks_for (length bytes)) (B ++ gap) (packed bytes) more front (sym size),
       )
 
+  -- descriptor blocks are found where they were written
+  listed_at : (M B : Medium) (placed listed more : List Block) → M ≡ B ++ (placed ++ (listed ++ more)) → (size : ℕ) (descriptors : List ℕ) → length listed ≡ descriptor_blocks size
+      → (0 < length listed → formats.next descriptors + partition_start ≡ length B + length placed) → descriptors_at formats M size descriptors ≡ listed
+  listed_at M B placed [] more on size descriptors many leads = ap (λ (n : ℕ). take n (drop (formats.next descriptors + partition_start) M)) (sym many)
+  listed_at M B placed (b ∷ bs) more on size descriptors many leads =
+      let start : formats.next descriptors + partition_start ≡ length (B ++ placed) = omega (arith, leads (omega arith), length-append B placed) in
+      ap (λ (N : Medium). take (descriptor_blocks size) (drop (formats.next descriptors + partition_start) N)) (on ∙ sym (append_assoc B placed ((b ∷ bs) ++ more)))
+      ∙ part_at (formats.next descriptors + partition_start) (descriptor_blocks size) (B ++ placed) (b ∷ bs) more start (sym many)
+
   file_held : (B : Medium) (kept : ℕ) (firsts : List ℕ) (bytes : List ℕ) (from : ℕ) (before : List Block) (place : NodePlace) (more : List Block) → partition_start ≤ length B → from ≡ length B - partition_start
       → PlacesFile formats B kept firsts bytes from before place → HoldsFile formats (B ++ (before ++ more)) (length bytes) place bytes
   file_held B kept firsts bytes from before place more low is (nowhere new size blocks at) = subst (λ p. HoldsFile formats (B ++ (before ++ more)) (length bytes) p bytes) (sym at) (empty bytes size)
@@ -58,16 +67,27 @@ module _ (formats : Formats) where
   file_held B kept firsts bytes from before place more low is (outside new many first placed at) =
       let held = placed_extent B bytes from first before more low is placed in
       subst (λ p. HoldsFile formats (B ++ (before ++ more)) (length bytes) p bytes) (sym at) (held.0, sym (ap (λ (xs : List Block). bytes_in_blocks (length bytes) xs) held.1 ∙ bytes-packed bytes))
-  file_held B kept firsts bytes from before place more low is (appended front new whole size some-front count within holds some few first placed descriptors names at) =
+  file_held B kept firsts bytes from before place more low is (appended front new whole size some-front count within holds some few first placed listed starts before_is many descriptors leads are names at) =
       let M : Medium = B ++ (before ++ more) in
-      let held = placed_extent B new from first before more low is placed in
+      let on : M ≡ B ++ (placed ++ (listed ++ more)) = ap (λ (bs : List Block). B ++ (bs ++ more)) before_is ∙ ap (λ (bs : List Block). B ++ bs) (append_assoc placed listed more) in
+      let held = placed_extent B new from first placed (listed ++ more) low is starts in
       let stay = extents_stay B (before ++ more) kept firsts within in
-      let both = one_more M first new some few held.0 held.1 firsts kept count stay.0 in
+      let both = one_more M first new some few (subst (λ (N : Medium). IsWithin N first (length new)) (sym on) held.0) (ap (λ (N : Medium). extent N first (length new)) on ∙ held.1) firsts kept count stay.0 in
       let sum : kept + length new ≡ length bytes = omega (arith, ap (λ (xs : List ℕ). length xs) whole, length-append front new, size) in
-      subst (λ p. HoldsFile formats M (length bytes) p bytes) (sym at) (subst (λ (fs : List ℕ). AreWithin M (length bytes) fs × (bytes ≡ bytes_in_extents M (length bytes) fs)) (sym names) (
+      let there : descriptors_at formats M (length bytes) descriptors ≡ listed = listed_at M B placed listed more on (length bytes) descriptors many (λ some-listed. omega (arith, leads some-listed, low, is)) in
+      let same : firsts_at formats M (length bytes) descriptors ≡ firsts ++ first ∷ [] = ap (λ (bs : List Block). formats.firsts descriptors bs) there ∙ names in
+      let held_there = subst (λ (fs : List ℕ). AreWithin M (length bytes) fs × (bytes ≡ bytes_in_extents M (length bytes) fs)) (sym same) (
         subst (λ (n : ℕ). AreWithin M n (firsts ++ first ∷ [])) sum both.0,
         whole ∙ ap (λ (xs : List ℕ). xs ++ new) (holds ∙ sym stay.1) ∙ sym both.1 ∙ ap (λ (n : ℕ). bytes_in_extents M n (firsts ++ first ∷ [])) sum,
-      ))
+      ) in
+      subst (λ p. HoldsFile formats M (length bytes) p bytes) (sym at) (
+        record {
+          there = ap (λ (bs : List Block). length bs) there ∙ many;
+          are = subst (λ (bs : List Block). formats.HaveDescriptors (length bytes) (formats.next descriptors) bs) (sym there) are;
+        },
+        held_there.0,
+        held_there.1,
+      )
 
   directory_held : (B : Medium) (parent : ℕ) (entries : List Entry) (from : ℕ) (before : List Block) (place : NodePlace) (size : ℕ) (more : List Block) → partition_start ≤ length B → from ≡ length B - partition_start
       → (place ≡ Extent from) × (length before ≡ blocks_for size) × formats.IsDirectory parent entries from size before → HoldsDirectory formats (B ++ (before ++ more)) size place parent entries
@@ -149,7 +169,10 @@ module _ (formats : Formats) where
     none_file medium kept firsts bytes from blocks place at is (nowhere new size blocks_are p) = subst (λ (xs : List Block). NoneImitates formats at xs) (sym blocks_are) tt
     none_file medium kept firsts bytes from blocks place at is (inside new some few blocks_are p) = subst (λ (xs : List Block). NoneImitates formats at xs) (sym blocks_are) tt
     none_file medium kept firsts bytes from blocks place at is (outside new many first placed p) = none_placed bytes from first blocks at is placed
-    none_file medium kept firsts bytes from blocks place at is (appended front more whole size some-front count within holds some few first placed descriptors names p) = none_placed more from first blocks at is placed
+    none_file medium kept firsts bytes from blocks place at is (appended front more whole size some-front count within holds some few first placed listed starts blocks_are many descriptors leads are names p) =
+        subst (λ (xs : List Block). NoneImitates formats at xs) (sym blocks_are)
+        (none-append formats at placed listed (none_placed more from first placed at is starts)
+        (none_all listed (at + length placed) (λ block k e location fields entry. distinct.descriptors (length bytes) (formats.next descriptors) listed are block (found listed k block e) location fields entry)))
 
     none_body : (medium : Medium) (kept : ℕ) (firsts : List ℕ) (body : Body) (from : ℕ) (blocks : List Block) (place : NodePlace) (size at : ℕ) → at ≡ from + partition_start → PlacesBody formats medium kept firsts body from blocks place size → NoneImitates formats at blocks
     none_body medium kept firsts (Bytes bytes) from blocks place size at is (count, places) = none_file medium kept firsts bytes from blocks place at is places

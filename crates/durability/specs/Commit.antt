@@ -6,7 +6,7 @@ use Rattle.model.specs.Operation.{Operation, code_of}
 use Rattle.model.specs.Operation.Operation.{Create, Replace, Append, MakeDir, Rename, Remove}
 use Rattle.model.specs.Session.{State, Request, after_one}
 use Rattle.durability.specs.Formats.{identifiers_size}
-use Rattle.durability.specs.Volume.{blocks_for}
+use Rattle.durability.specs.Volume.{blocks_for, descriptor_blocks}
 
 -- the most bytes of a file that are in its entry
 abbrev pub most_inside : ℕ
@@ -20,9 +20,9 @@ file_blocks size = if nat_lt most_inside size then blocks_for size else 0
 abbrev pub most_for_file : List ℕ → ℕ
 most_for_file bytes = 2 * file_blocks (length bytes) + 1
 
--- the most that so many bytes take after those that a file has, of which there are `offset`, with the file's entry
+-- the most that so many bytes take after those that a file has, of which there are `offset`, with the file's descriptor blocks and its entry
 abbrev pub most_for_append : ℕ → ℕ → ℕ
-most_for_append offset size = 2 * (if offset == 0 then file_blocks size else blocks_for size) + 1
+most_for_append offset size = if offset == 0 then 2 * file_blocks size + 1 else 2 * blocks_for size + descriptor_blocks (offset + size) + 1
 
 -- the most blocks that a directory's data and its entry take
 abbrev pub most_for_directory : (Name → ℕ) → List Name → ℕ

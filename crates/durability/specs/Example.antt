@@ -32,7 +32,9 @@ second_table = table_with (Some 4) 1 (after_one (formatted 0) refusal).records
 abbrev pub small : Formats
 small = record {
   IsEntry = λ fields block location. ((block ≡ 4 ∷ []) × (fields ≡ example_root)) ⊎ ((block ≡ 248 ∷ []) × (fields ≡ example_table_fields location));
-  firsts = λ descriptors. [];
+  next = λ descriptors. 0;
+  HaveDescriptors = λ size first blocks. Unit {0};
+  firsts = λ descriptors blocks. [];
   IsFileSet = λ label moment block. Unit {0};
   IsDirectory = λ parent entries first size blocks. (parent ≡ 1) × (entries ≡ []);
   IsTable = λ table icb bytes. ((icb ≡ 4) × (table ≡ example_table)) ⊎ ((icb ≡ 6) × (table ≡ second_table));

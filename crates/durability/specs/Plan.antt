@@ -13,7 +13,7 @@ use Rattle.model.specs.Change.{Found, with_entries, with_parent, new_body, witho
 use Rattle.durability.specs.Formats.{Block, Kind, NodePlace, Table_, Formats}
 use Rattle.durability.specs.Formats.Kind.{File as FileEntry, Directory as DirectoryEntry, Table as TableEntry}
 use Rattle.durability.specs.Formats.NodePlace.{Nowhere, Extent, Extents, Inside}
-use Rattle.durability.specs.Volume.{Medium, partition_start, blocks_for, AreWithin, bytes_in_extents, NoneImitates, RecoversTo, graph_of}
+use Rattle.durability.specs.Volume.{Medium, partition_start, blocks_for, descriptor_blocks, firsts_at, AreWithin, bytes_in_extents, NoneImitates, RecoversTo, graph_of}
 use Rattle.durability.specs.Commit.{most_inside, table_size}
 
 abbrev pub zeros : Block
@@ -164,10 +164,12 @@ module _ (formats : Formats) where
     nowhere : kept ≡ 0 → length bytes ≡ 0 → blocks ≡ [] → place ≡ Nowhere → PlacesFile medium kept firsts bytes from blocks place
     inside : kept ≡ 0 → 1 ≤ length bytes → length bytes ≤ most_inside → blocks ≡ [] → place ≡ Inside bytes → PlacesFile medium kept firsts bytes from blocks place
     outside : kept ≡ 0 → most_inside < length bytes → (first : ℕ) → IsPlaced bytes from first blocks → place ≡ Extent first → PlacesFile medium kept firsts bytes from blocks place
-    -- one extent more: those before it are on the medium, and full
+    -- one extent more: those before it are on the medium, and full; descriptor blocks, if there are any, follow the data
     appended : (front more : List ℕ) → bytes ≡ front ++ more → length front ≡ kept → 0 < kept → kept ≡ FILE_BYTES * length firsts
         → AreWithin medium kept firsts → front ≡ bytes_in_extents medium kept firsts → 0 < length more → length more ≤ FILE_BYTES
-        → (first : ℕ) → IsPlaced more from first blocks → (descriptors : List ℕ) → formats.firsts descriptors ≡ firsts ++ first ∷ [] → place ≡ Extents descriptors
+        → (first : ℕ) (placed listed : List Block) → IsPlaced more from first placed → blocks ≡ placed ++ listed → length listed ≡ descriptor_blocks (length bytes)
+        → (descriptors : List ℕ) → (0 < length listed → formats.next descriptors ≡ from + length placed) → formats.HaveDescriptors (length bytes) (formats.next descriptors) listed
+        → formats.firsts descriptors listed ≡ firsts ++ first ∷ [] → place ≡ Extents descriptors
         → PlacesFile medium kept firsts bytes from blocks place
 
   -- the blocks before a node's entry, from a block number on, and what the entry says of them
@@ -194,18 +196,18 @@ module _ (formats : Formats) where
       × (blocks ≡ first ++ others) × (written ≡ record { address = node.address; number = number } ∷ rest)
       × WritesNode medium node from first number × WritesNodes (medium ++ first) nodes (from + length first) others rest
 
-  -- the block numbers at which the extents of a file begin
-  abbrev pub firsts_of : NodePlace → List ℕ
-  firsts_of Nowhere = []
-  firsts_of (Inside bytes) = []
-  firsts_of (Extent first) = first ∷ []
-  firsts_of (Extents descriptors) = formats.firsts descriptors
+  -- the block numbers at which the extents of a file of this size begin
+  abbrev pub firsts_of : Medium → ℕ → NodePlace → List ℕ
+  firsts_of medium size Nowhere = []
+  firsts_of medium size (Inside bytes) = []
+  firsts_of medium size (Extent first) = first ∷ []
+  firsts_of medium size (Extents descriptors) = firsts_at formats medium size descriptors
 
   -- A file that keeps bytes is there already: it has as many, where its entry says.
   abbrev pub KeepsPlace : Medium → List (Option ℕ) → Writing → Type 0
   KeepsPlace medium table node = 0 < node.kept
       → (path : Path) × (file : Found (graph_of formats medium table) path) × (bytes : List ℕ)
-      × (file.address ≡ node.address) × (file.stored.body ≡ Bytes bytes) × (file.is.fields.size ≡ node.kept) × (node.firsts ≡ firsts_of file.is.fields.place)
+      × (file.address ≡ node.address) × (file.stored.body ≡ Bytes bytes) × (file.is.fields.size ≡ node.kept) × (node.firsts ≡ firsts_of medium file.is.fields.size file.is.fields.place)
 
   abbrev pub KeepPlaces : Medium → List (Option ℕ) → List Writing → Type 0
   KeepPlaces medium table [] = Unit {0}

@@ -2,7 +2,7 @@
 use Rattle.std.specs.Prelude.{◌≡◌, ℕ, zero, suc, ◌+◌, ◌*◌, ◌-◌, ◌<◌, ◌≤◌, min, List, [], ◌∷◌, ◌++◌, length, take, drop, slice_get, Option, Some}
 use Rattle.std.specs.List.{flat_map}
 use Rattle.std.specs.Int.{div_ceil}
-use Rattle.limits.specs.declared.TheConstants.{BLOCK_BYTES, FILE_BYTES, PARTITION_START, FORMAT_BLOCKS, FIRST_UNIQUE}
+use Rattle.limits.specs.declared.TheConstants.{BLOCK_BYTES, FILE_BYTES, ENTRY_DESCRIPTORS, BLOCK_DESCRIPTORS, PARTITION_START, FORMAT_BLOCKS, FIRST_UNIQUE}
 use Rattle.model.specs.Tree.{IsTree, files_of, directories_of}
 use Rattle.model.specs.Session.{State}
 use Rattle.model.specs.Graph.{Graph, Stored, Body, Entry, MakesTree}
@@ -45,14 +45,32 @@ bytes_in_extents medium size [] = []
 bytes_in_extents medium size (first ∷ firsts) =
     bytes_in_blocks (min size FILE_BYTES) (extent medium first (min size FILE_BYTES)) ++ bytes_in_extents medium (size - FILE_BYTES) firsts
 
+-- how many descriptor blocks a file of this size has: its entry has no room for the descriptors in them
+abbrev pub descriptor_blocks : ℕ → ℕ
+descriptor_blocks size = div_ceil (div_ceil size FILE_BYTES - ENTRY_DESCRIPTORS) (BLOCK_DESCRIPTORS - 1)
+
 module _ (formats : Formats) where
+  -- those to which an entry's descriptors lead
+  abbrev pub descriptors_at : Medium → ℕ → List ℕ → List Block
+  descriptors_at medium size descriptors = take (descriptor_blocks size) (drop (formats.next descriptors + partition_start) medium)
+
+  -- they are on the medium
+  pub record AreListed (medium : Medium) (size : ℕ) (descriptors : List ℕ) : Type 0 where
+    pub there : length (descriptors_at medium size descriptors) ≡ descriptor_blocks size
+    pub are : formats.HaveDescriptors size (formats.next descriptors) (descriptors_at medium size descriptors)
+
+  -- the block numbers at which the extents of a file begin
+  abbrev pub firsts_at : Medium → ℕ → List ℕ → List ℕ
+  firsts_at medium size descriptors = formats.firsts descriptors (descriptors_at medium size descriptors)
+
   -- the bytes of a file
   abbrev pub HoldsFile : Medium → ℕ → NodePlace → List ℕ → Type 0
   HoldsFile medium size Nowhere bytes = bytes ≡ []
   HoldsFile medium size (Inside inside) bytes = bytes ≡ inside
   HoldsFile medium size (Extent first) bytes = IsWithin medium first size × (bytes ≡ bytes_in_blocks size (extent medium first size))
   HoldsFile medium size (Extents descriptors) bytes =
-      AreWithin medium size (formats.firsts descriptors) × (bytes ≡ bytes_in_extents medium size (formats.firsts descriptors))
+      AreListed medium size descriptors × AreWithin medium size (firsts_at medium size descriptors)
+      × (bytes ≡ bytes_in_extents medium size (firsts_at medium size descriptors))
 
   abbrev pub HoldsDirectory : Medium → ℕ → NodePlace → ℕ → List Entry → Type 0
   HoldsDirectory medium size Nowhere parent entries = ⊥

@@ -8,7 +8,8 @@ use Rattle.model.proofs.Lists.{contains_here, contains_there}
 use Rattle.durability.specs.Formats.{Block, Kind, NodePlace, NodeFields, Formats, AreExact, AreDistinct}
 use Rattle.durability.specs.Formats.Kind.{Directory, File, Table}
 use Rattle.durability.specs.Formats.NodePlace.{Nowhere, Extent, Extents, Inside}
-use Rattle.durability.specs.Volume.{Medium, partition_start, blocks_for, extent, HoldsDirectory, HoldsBody, IsStoredAt, IsVatIcbAt}
+use Rattle.durability.specs.Plan.{firsts_of}
+use Rattle.durability.specs.Volume.{Medium, partition_start, blocks_for, descriptor_blocks, extent, HoldsDirectory, HoldsFile, HoldsBody, IsStoredAt, IsVatIcbAt}
 use Rattle.durability.proofs.Lists.{get-take, get-drop}
 
 contained : (xs : List Block) (k : ℕ) (block : Block) → slice_get xs k ≡ Some block → Contains xs block
@@ -117,6 +118,19 @@ module _ (formats : Formats) where
           (contained (extent M first size) (i - from) b (get-take (blocks_for size) (drop from M) (i - from) (omega (arith, low, high)) ∙ get-drop from M (i - from) ∙ ap (λ n. slice_get M n) (let k : from + (i - from) ≡ i = omega (arith, low) in k) ∙ e))
           (i - partition_start) fields is)) in
           (omega (arith, holds.0, beside_size 0 M N all), subst (λ (bs : List Block). formats.IsDirectory parent entries first size bs) (sym same) holds.1)
+
+      -- so do descriptor blocks, and the extents to which they lead
+      pub firsts_stay : (size : ℕ) (place : NodePlace) (bytes : List ℕ) → HoldsFile formats M size place bytes → firsts_of formats N size place ≡ firsts_of formats M size place
+      firsts_stay size Nowhere bytes holds = refl
+      firsts_stay size (Inside inside) bytes holds = refl
+      firsts_stay size (Extent first) bytes holds = refl
+      firsts_stay size (Extents descriptors) bytes (listed, within, is) =
+          let from = formats.next descriptors + partition_start in
+          let count = descriptor_blocks size in
+          ap (λ (bs : List Block). formats.firsts descriptors bs) (part_same from count M N (beside_size 0 M N all) (λ i b low high e.
+          stays_there M N i b all e (λ (far, fields, table, is). distinct.descriptors size (formats.next descriptors) (take count (drop from M)) listed.are b
+          (contained (take count (drop from M)) (i - from) b (get-take count (drop from M) (i - from) (omega (arith, low, high)) ∙ get-drop from M (i - from) ∙ ap (λ n. slice_get M n) (let k : from + (i - from) ≡ i = omega (arith, low) in k) ∙ e))
+          (i - partition_start) fields is)))
 
     -- what the same entry leads to on both
     pub same_body : AreExact formats → (M N : Medium) → AreBeside 0 M N → (table : List (Option ℕ)) (address : ℕ) (s : Stored) (st : IsStoredAt formats M table address s) → IsStoredAt formats N table address s → HoldsBody formats N st.fields s.body

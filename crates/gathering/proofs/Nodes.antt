@@ -1,7 +1,6 @@
 -- Nodes that are written after a medium are stored after one beside it too.
-use Rattle.std.proofs.Common.{◌≡◌, ◌⊎◌, inl, inr, ℕ, ◌+◌, ◌*◌, ◌-◌, ◌≤◌, ◌<◌, min, List, [], ◌∷◌, ◌++◌, length, take, slice_get, Option, Some, refl, sym, ◌∙◌, ap, subst, arith, append_assoc, append-nil, length-append}
+use Rattle.std.proofs.Common.{◌≡◌, ◌⊎◌, inl, inr, ℕ, ◌+◌, ◌*◌, ◌-◌, ◌≤◌, ◌<◌, min, List, [], ◌∷◌, ◌++◌, length, slice_get, Option, Some, refl, sym, ◌∙◌, ap, subst, arith, append_assoc, append-nil, length-append}
 use Rattle.std.proofs.Math.Nat.{min-eq_left}
-use Rattle.std.proofs.lemmas.List.{take_at}
 use Rattle.limits.specs.declared.TheConstants.{FILE_BYTES}
 use Rattle.model.specs.Graph.{Stored, Body}
 use Rattle.model.specs.Graph.Body.{Bytes, Entries}
@@ -13,13 +12,13 @@ use Rattle.durability.specs.Plan.{Writing, Written, PlacesFile, PlacesBody, Writ
 use Rattle.durability.specs.Plan.PlacesFile.{nowhere, inside, outside, appended}
 use Rattle.durability.proofs.Extents.{extents_stay}
 use Rattle.durability.proofs.Written.{nodes_stored}
-use Rattle.gathering.proofs.Beside.{AreBeside, same_body}
+use Rattle.gathering.proofs.Beside.{AreBeside, firsts_stay, same_body}
 use Rattle.gathering.proofs.Entries.{IsWritten}
 
 module _ (formats : Formats) where
   -- the bytes of a file of full extents
-  in_extents : (M : Medium) (size : ℕ) (place : NodePlace) (bytes : List ℕ) → HoldsFile formats M size place bytes → 0 < size → size ≡ FILE_BYTES * length (firsts_of formats place)
-      → AreWithin M size (firsts_of formats place) × (bytes ≡ bytes_in_extents M size (firsts_of formats place))
+  in_extents : (M : Medium) (size : ℕ) (place : NodePlace) (bytes : List ℕ) → HoldsFile formats M size place bytes → 0 < size → size ≡ FILE_BYTES * length (firsts_of formats M size place)
+      → AreWithin M size (firsts_of formats M size place) × (bytes ≡ bytes_in_extents M size (firsts_of formats M size place))
   in_extents M size Nowhere bytes holds some count = absurd (omega (arith, some, count))
   in_extents M size (Inside kept) bytes holds some count = absurd (omega (arith, some, count))
   in_extents M size (Extent first) bytes holds some count =
@@ -27,7 +26,7 @@ module _ (formats : Formats) where
         (some, subst (λ (n : ℕ). IsWithin M first n) (sym whole) holds.0, omega (arith, count)),
         holds.1 ∙ ap (λ (n : ℕ). bytes_in_blocks n (extent M first n)) (sym whole) ∙ sym (append-nil (bytes_in_blocks (min size FILE_BYTES) (extent M first (min size FILE_BYTES)))),
       )
-  in_extents M size (Extents descriptors) bytes holds some count = holds
+  in_extents M size (Extents descriptors) bytes holds some count = (holds.1, holds.2)
 
   module _ (exact : AreExact formats) (distinct : AreDistinct formats) (below other : Medium) (all : AreBeside formats 0 below other) (V : List (Option ℕ))
       (keeps : (address : ℕ) → IsReached (graph_of formats below V) address → IsKeptUnder (graph_of formats below V) (graph_of formats other V) address) where
@@ -43,12 +42,17 @@ module _ (formats : Formats) where
     left_extents : (node : Writing) → KeepsPlace formats below V node → 0 < node.kept → node.kept ≡ FILE_BYTES * length node.firsts → Left node.kept node.firsts
     left_extents node keep some count =
         let (path, file, bytes, address, body, size, same) = keep some in
-        let many : file.is.fields.size ≡ FILE_BYTES * length (firsts_of formats file.is.fields.place) = size ∙ count ∙ ap (λ (fs : List ℕ). FILE_BYTES * length fs) same in
+        let many : file.is.fields.size ≡ FILE_BYTES * length (firsts_of formats below file.is.fields.size file.is.fields.place) = size ∙ count ∙ ap (λ (fs : List ℕ). FILE_BYTES * length fs) same in
         let kept = keeps file.address (path, file.reach) file.stored file.is in
-        let here = in_extents below file.is.fields.size file.is.fields.place bytes (file_of below file.is.fields file.stored.body bytes body file.is.body) (omega (arith, size, some)) many in
+        let holds = file_of below file.is.fields file.stored.body bytes body file.is.body in
+        let stay : firsts_of formats other file.is.fields.size file.is.fields.place ≡ firsts_of formats below file.is.fields.size file.is.fields.place =
+        firsts_stay formats distinct below other all file.is.fields.size file.is.fields.place bytes holds in
+        let here = in_extents below file.is.fields.size file.is.fields.place bytes holds (omega (arith, size, some)) many in
         let there = in_extents other file.is.fields.size file.is.fields.place bytes
-        (file_of other file.is.fields file.stored.body bytes body (same_body formats distinct exact below other all V file.address file.stored file.is kept)) (omega (arith, size, some)) many in
-        subst (λ (n : ℕ). Left n node.firsts) size (subst (λ (fs : List ℕ). Left file.is.fields.size fs) (sym same) (record { within = here.0; within_other = there.0; same = sym there.1 ∙ here.1 }))
+        (file_of other file.is.fields file.stored.body bytes body (same_body formats distinct exact below other all V file.address file.stored file.is kept)) (omega (arith, size, some))
+        (many ∙ ap (λ (fs : List ℕ). FILE_BYTES * length fs) (sym stay)) in
+        let there_too = subst (λ (fs : List ℕ). AreWithin other file.is.fields.size fs × (bytes ≡ bytes_in_extents other file.is.fields.size fs)) stay there in
+        subst (λ (n : ℕ). Left n node.firsts) size (subst (λ (fs : List ℕ). Left file.is.fields.size fs) (sym same) (record { within = here.0; within_other = there_too.0; same = sym there_too.1 ∙ here.1 }))
 
     module _ (B C rest rest' : Medium) (goes_on : B ≡ below ++ rest) (other_goes_on : C ≡ other ++ rest') where
       file_beside : (node : Writing) (bytes : List ℕ) (from : ℕ) (blocks : List Block) (place : NodePlace) → KeepsPlace formats below V node
@@ -56,13 +60,13 @@ module _ (formats : Formats) where
       file_beside node bytes from blocks place keep (nowhere new size blocks_are at) = nowhere new size blocks_are at
       file_beside node bytes from blocks place keep (inside new some few blocks_are at) = inside new some few blocks_are at
       file_beside node bytes from blocks place keep (outside new many first placed at) = outside new many first placed at
-      file_beside node bytes from blocks place keep (appended front new whole size some-front count within holds some few first placed descriptors names at) =
+      file_beside node bytes from blocks place keep (appended front new whole size some-front count within holds some few first placed listed starts blocks_are many descriptors leads are names at) =
           let left = left_extents node keep some-front count in
           let here = extents_stay below rest node.kept node.firsts left.within in
           let there = extents_stay other rest' node.kept node.firsts left.within_other in
           let same : bytes_in_extents C node.kept node.firsts ≡ bytes_in_extents B node.kept node.firsts =
           ap (λ (M : Medium). bytes_in_extents M node.kept node.firsts) other_goes_on ∙ there.1 ∙ left.same ∙ sym here.1 ∙ ap (λ (M : Medium). bytes_in_extents M node.kept node.firsts) (sym goes_on) in
-          appended front new whole size some-front count (subst (λ (M : Medium). AreWithin M node.kept node.firsts) (sym other_goes_on) there.0) (holds ∙ sym same) some few first placed descriptors names at
+          appended front new whole size some-front count (subst (λ (M : Medium). AreWithin M node.kept node.firsts) (sym other_goes_on) there.0) (holds ∙ sym same) some few first placed listed starts blocks_are many descriptors leads are names at
 
       body_beside : (node : Writing) (body : Body) (from : ℕ) (blocks : List Block) (place : NodePlace) (size : ℕ) → KeepsPlace formats below V node
           → PlacesBody formats B node.kept node.firsts body from blocks place size → PlacesBody formats C node.kept node.firsts body from blocks place size

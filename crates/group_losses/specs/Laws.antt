@@ -1,5 +1,5 @@
 -- What a power loss leaves of a group of messages.
-use Rattle.std.specs.Prelude.{◌≡◌, ℕ, ◌≤◌, Bool, List, [], ◌∷◌, ◌++◌, length, take, IsTrue}
+use Rattle.std.specs.Prelude.{◌≡◌, ℕ, ◌≤◌, Bool, List, [], ◌++◌, length, take, IsTrue}
 use Rattle.drive.specs.Journal.{Event, held, written, Once}
 use Rattle.drive.specs.Writes.{IsTorn}
 use Rattle.model.specs.Session.{State, Request, after}

@@ -1,8 +1,7 @@
 -- A stream whose messages are answered in groups, one more piece at a time.
-use Rattle.std.proofs.Common.{◌≡◌, inl, inr, ℕ, ◌≤◌, List, [], ◌∷◌, ◌++◌, length, take, Bool, false, Option, Some, None, refl, sym, ap, subst, ◌∙◌, append_assoc, append-nil}
+use Rattle.std.proofs.Common.{◌≡◌, inl, inr, ℕ, ◌≤◌, List, [], ◌∷◌, ◌++◌, length, take, false, Option, Some, None, refl, sym, ap, subst, ◌∙◌, append_assoc, append-nil}
 use Rattle.std.specs.Io.KnownBytes.{Appends, Consumes, Keeps}
 use Rattle.std.proofs.lemmas.Grind.{flat_map-append}
-use Rattle.drive.specs.Journal.{Event}
 use Rattle.drive.specs.Gathering.{Gathering}
 use Rattle.request.specs.declared.answer.Answer.{Answer}
 use Rattle.request.specs.declared.message.Message.{Message}

@@ -1,9 +1,9 @@
 -- What groups leave, one after another, and what a power loss leaves of them.
-use Rattle.std.proofs.Common.{◌≡◌, ◌⊎◌, inl, inr, ℕ, ◌≤◌, List, [], ◌∷◌, ◌++◌, length, Bool, true, false, IsTrue, refl, sym, ap, subst, ◌∙◌, arith, lt-ltb}
+use Rattle.std.proofs.Common.{◌≡◌, ◌⊎◌, inl, inr, ℕ, List, [], ◌∷◌, ◌++◌, length, IsTrue, refl, sym, ap, subst, ◌∙◌}
 use Rattle.drive.specs.Journal.{Event, written}
 use Rattle.drive.specs.Gathering.{Gathering}
-use Rattle.model.specs.Session.{State, Request, after, after_one}
-use Rattle.gathering.specs.Groups.{Commit, with_marks, none_there}
+use Rattle.model.specs.Session.{State, after}
+use Rattle.gathering.specs.Groups.{with_marks, none_there}
 use Rattle.group_losses.proofs.Enduring.{group_survives}
 use Rattle.request.specs.declared.answer.Answer.{Answer}
 use Rattle.request.specs.declared.message.Message.{Message}

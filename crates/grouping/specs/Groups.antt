@@ -1,5 +1,5 @@
 -- What becomes of messages that are answered as a group.
-use Rattle.std.specs.Prelude.{◌≡◌, ◌⊎◌, ℕ, ◌+◌, ◌-◌, ◌≤◌, nat_lt, Bool, false, if◌then◌else◌, IsTrue, List, [], ◌∷◌, ◌++◌, length, Option, None}
+use Rattle.std.specs.Prelude.{◌≡◌, ◌⊎◌, ℕ, ◌+◌, ◌-◌, ◌≤◌, nat_lt, false, if◌then◌else◌, IsTrue, List, [], ◌∷◌, ◌++◌, length, Option, None}
 use Rattle.drive.specs.Gathering.{Gathering}
 use Rattle.drive.specs.Journal.{Event}
 use Rattle.drive.specs.Reads.{CountsFailures}
@@ -10,7 +10,6 @@ use Rattle.request.specs.Frames.{IsIdle}
 use Rattle.model.specs.Session.{State}
 use Rattle.settling.specs.Calls.{GivesFront}
 use Rattle.settling.specs.Phases.{two_phases}
-use Rattle.store.specs.declared.store.Store.{Store}
 use Rattle.engine.specs.declared.serving.ServeFault.TheVariants.{Memory}
 use Rattle.engine.specs.Situation.{Situation, HoldsNothing, IsReady}
 use Rattle.engine.specs.Steps.{HoldsState}

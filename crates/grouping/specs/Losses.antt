@@ -1,6 +1,6 @@
 -- Streams that are answered in groups, and what is found of them after a power loss.
 use Rattle.std.proofs.Common.{inl, inr}
-use Rattle.std.specs.Prelude.{◌≡◌, ◌⊎◌, ℕ, List, [], ◌∷◌, ◌++◌, length, drop, map, Bool, IsTrue}
+use Rattle.std.specs.Prelude.{◌≡◌, ◌⊎◌, ℕ, List, [], ◌∷◌, ◌++◌, length, drop, map, IsTrue}
 use Rattle.drive.specs.Gathering.{Gathering}
 use Rattle.drive.specs.Journal.{Event, event_blocks, written}
 use Rattle.drive.specs.Writes.{IsTorn}

@@ -1,9 +1,9 @@
 -- Groups of messages, one after another: how each was answered, and what they leave.
 use Rattle.std.proofs.Common.{inl, inr}
-use Rattle.std.specs.Prelude.{◌≡◌, ◌⊎◌, ℕ, List, [], ◌∷◌, ◌++◌, length, Bool, Option, IsTrue}
+use Rattle.std.specs.Prelude.{◌≡◌, ◌⊎◌, ℕ, List, [], ◌∷◌, ◌++◌, length, IsTrue}
 use Rattle.std.specs.List.{flat_map}
 use Rattle.drive.specs.Gathering.{Gathering}
-use Rattle.drive.specs.Journal.{Event, written}
+use Rattle.drive.specs.Journal.{written}
 use Rattle.model.specs.Session.{State, Request, after}
 use Rattle.gathering.specs.Groups.{Commit, with_marks, none_there}
 use Rattle.group_losses.specs.Gathered.{AreGathered, NoneFailed}

@@ -16,7 +16,8 @@ use Rattle.icb.specs.declared.entry.Place as source
 use Rattle.icb.specs.declared.entry.Place.TheVariants as places
 use Rattle.icb.specs.declared.planned.PlannedEntry.TheInside as planned
 use Rattle.ecma.specs.Blocks.{block_count}
-use Rattle.icb.specs.Entry.{Fields, FitsEntry, FitsPlace, IsEntry, Place, allocation, blocks_recorded, entry_parts, long_descriptor, file_type, flags_of, inside, last_size, permissions, place_of}
+use Rattle.icb.specs.Entry.{Fields, FitsEntry, FitsPlace, IsEntry, Place, allocation, blocks_recorded, entry_parts, file_type, flags_of, inside, permissions, place_of}
+use Rattle.icb.specs.Extents.{long_descriptor, last_size}
 use Rattle.limits.specs.declared.TheConstants.{GREATEST_FILE}
 use Rattle.icb.specs.Entry.Place.{Nowhere, Extent, Extents, Inside}
 use Rattle.icb.specs.Planned.{entry_body, extended, extended_place, planned_block}

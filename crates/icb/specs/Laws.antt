@@ -5,6 +5,7 @@ use Rattle.ecma.specs.Descriptor.{IsDescriptor}
 use Rattle.icb.specs.declared.entry.Kind.TheVariants.{Vat}
 use Rattle.icb.specs.declared.set.FileSet.{FileSet}
 use Rattle.icb.specs.Entry.{Fields, IsEntry}
+use Rattle.icb.specs.Extents.{IsDescriptorBlock, descriptors_in}
 use Rattle.icb.specs.FileSet.{IsFileSet}
 use Rattle.icb.specs.VatIcb.{IsVatIcb}
 
@@ -35,3 +36,9 @@ abbrev pub OneSet : Type 0
 OneSet =
     (set : FileSet) (a b : List ℕ) → ((i : ℕ) → slice_index a i < 256) → ((i : ℕ) → slice_index b i < 256)
     → IsFileSet set a → IsFileSet set b → a ≡ b
+
+-- the same descriptors have one block at a block number
+abbrev pub OneDescriptorBlock : Type 0
+OneDescriptorBlock =
+    (size number : ℕ) (a b : List ℕ) → ((i : ℕ) → slice_index a i < 256) → ((i : ℕ) → slice_index b i < 256)
+    → IsDescriptorBlock size number a → IsDescriptorBlock size number b → descriptors_in a ≡ descriptors_in b → a ≡ b

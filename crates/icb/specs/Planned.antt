@@ -3,7 +3,8 @@ use Rattle.std.specs.Prelude.{ℕ, List, ◌++◌, length, Option, Some, None}
 use Rattle.std.specs.List.{concat}
 use Rattle.ecma.specs.Descriptor.{descriptor_block}
 use Rattle.ecma.specs.Timestamp.{IsMoment}
-use Rattle.icb.specs.Entry.{Fields, FitsEntry, Place, allocation, blocks_recorded, entry_parts, fields_of, file_type, flags_of, last_size, long_descriptor, permissions}
+use Rattle.icb.specs.Entry.{Fields, FitsEntry, Place, allocation, blocks_recorded, entry_parts, fields_of, file_type, flags_of, permissions}
+use Rattle.icb.specs.Extents.{last_size, long_descriptor}
 use Rattle.icb.specs.Entry.Place.{Nowhere, Extent, Extents, Inside}
 use Rattle.icb.specs.declared.planned.PlannedEntry.TheInside as planned
 

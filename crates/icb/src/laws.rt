@@ -1,6 +1,6 @@
 //! What a block cannot be at once. Nothing here runs: each function's contract is a law about the definitions.
 
-ghost use Rattle.icb.specs.Laws.{OneEntry, OthersAreNone, EntriesBegin, DescriptorsAreNone, OneBlock, OneSet};
+ghost use Rattle.icb.specs.Laws.{OneEntry, OthersAreNone, EntriesBegin, DescriptorsAreNone, OneBlock, OneDescriptorBlock, OneSet};
 
 /// A block is at most one file entry, and at one location only.
 pub fn one_entry()
@@ -14,8 +14,9 @@ pub fn table_entries()
     ensures descriptors { DescriptorsAreNone }
 {}
 
-/// An entry or a file set has one encoding at its location.
+/// An entry, a file set or the allocation descriptors of a descriptor block have one encoding at their location.
 pub fn one_spelling()
     ensures entry { OneBlock }
     ensures set { OneSet }
+    ensures descriptors { OneDescriptorBlock }
 {}

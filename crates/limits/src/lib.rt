@@ -52,11 +52,17 @@ pub const MESSAGE_PATH_NAMES: usize = 255;
 /// file fit in one message.
 pub const FILE_BYTES: usize = 1_048_576;
 
-/// The most extents of a file: as many as its entry has room for the descriptors of.
-pub const EXTENTS: u32 = 117;
+/// The most extents of a file: as many as begin in the longest partition, one after another.
+pub const EXTENTS: u32 = 879;
 
 /// The greatest size of a file, in bytes: that of [`EXTENTS`] extents.
-pub const GREATEST_FILE: u32 = 122_683_392;
+pub const GREATEST_FILE: u32 = 921_698_304;
+
+/// The most allocation descriptors that an entry has room for.
+pub const ENTRY_DESCRIPTORS: u32 = 117;
+
+/// The most allocation descriptors that a descriptor block has room for.
+pub const BLOCK_DESCRIPTORS: u32 = 126;
 
 /// The most bytes of a file that fit in its entry.
 pub const INSIDE_BYTES: u32 = 1_872;

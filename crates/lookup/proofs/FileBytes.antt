@@ -14,7 +14,7 @@ use Rattle.model.specs.Graph.Body.{Bytes, Entries}
 use Rattle.durability.specs.Formats.{Block, NodePlace, NodeFields}
 use Rattle.durability.specs.Formats.NodePlace.{Nowhere, Extent, Extents, Inside}
 use Rattle.durability.specs.Plan.{firsts_of}
-use Rattle.durability.specs.Volume.{AreWithin, Medium, HoldsBody, HoldsFile, IsWithin, bytes_in_blocks, bytes_in_extents, extent}
+use Rattle.durability.specs.Volume.{AreListed, AreWithin, Medium, HoldsBody, HoldsFile, IsWithin, bytes_in_blocks, bytes_in_extents, extent, firsts_at}
 use Rattle.udf.specs.Udf.{udf}
 use Rattle.udf.specs.Words.{icb_fields, icb_place}
 use Rattle.lookup.specs.Shows.{graph_below}
@@ -72,27 +72,28 @@ after medium size (Extents descriptors) bytes first h e = cc
 after medium size (Extent there) bytes first h e = subst (λ (n : ℕ). IsWithin medium n size × (bytes ≡ bytes_in_blocks size (extent medium n size))) (sym (ap first_of e)) h
 
 in_several : (medium : Medium) (size : ℕ) (place : NodePlace) (bytes descriptors : List ℕ) → HoldsFile udf medium size place bytes → icb.Place.Extents descriptors ≡ icb_place place
-    → AreWithin medium size (udf.firsts descriptors) × (bytes ≡ bytes_in_extents medium size (udf.firsts descriptors))
+    → AreListed udf medium size descriptors × AreWithin medium size (firsts_at udf medium size descriptors) × (bytes ≡ bytes_in_extents medium size (firsts_at udf medium size descriptors))
 unfolding descriptors_of
 in_several medium size Nowhere bytes descriptors h e = cc
 in_several medium size (Inside inside) bytes descriptors h e = cc
 in_several medium size (Extent first) bytes descriptors h e = cc
-in_several medium size (Extents there) bytes descriptors h e = subst (λ (d : List ℕ). AreWithin medium size (udf.firsts d) × (bytes ≡ bytes_in_extents medium size (udf.firsts d))) (sym (ap descriptors_of e)) h
+in_several medium size (Extents there) bytes descriptors h e =
+    subst (λ (d : List ℕ). AreListed udf medium size d × AreWithin medium size (firsts_at udf medium size d) × (bytes ≡ bytes_in_extents medium size (firsts_at udf medium size d))) (sym (ap descriptors_of e)) h
 
 -- where the extents of an entry begin
-pub extent_first : (place : NodePlace) (first : ℕ) → icb.Place.Extent first ≡ icb_place place → first ∷ [] ≡ firsts_of udf place
+pub extent_first : (medium : Medium) (size : ℕ) (place : NodePlace) (first : ℕ) → icb.Place.Extent first ≡ icb_place place → first ∷ [] ≡ firsts_of udf medium size place
 unfolding first_of
-extent_first Nowhere first e = cc
-extent_first (Inside inside) first e = cc
-extent_first (Extents descriptors) first e = cc
-extent_first (Extent there) first e = ap (λ (n : ℕ). n ∷ []) (ap first_of e)
+extent_first medium size Nowhere first e = cc
+extent_first medium size (Inside inside) first e = cc
+extent_first medium size (Extents descriptors) first e = cc
+extent_first medium size (Extent there) first e = ap (λ (n : ℕ). n ∷ []) (ap first_of e)
 
-pub extents_firsts : (place : NodePlace) (descriptors : List ℕ) → icb.Place.Extents descriptors ≡ icb_place place → udf.firsts descriptors ≡ firsts_of udf place
+pub extents_firsts : (medium : Medium) (size : ℕ) (place : NodePlace) (descriptors : List ℕ) → icb.Place.Extents descriptors ≡ icb_place place → firsts_at udf medium size descriptors ≡ firsts_of udf medium size place
 unfolding descriptors_of
-extents_firsts Nowhere descriptors e = cc
-extents_firsts (Inside inside) descriptors e = cc
-extents_firsts (Extent first) descriptors e = cc
-extents_firsts (Extents there) descriptors e = ap udf.firsts (ap descriptors_of e)
+extents_firsts medium size Nowhere descriptors e = cc
+extents_firsts medium size (Inside inside) descriptors e = cc
+extents_firsts medium size (Extent first) descriptors e = cc
+extents_firsts medium size (Extents there) descriptors e = ap (firsts_at udf medium size) (ap descriptors_of e)
 
 module _ (at : ℕ) (J : List Event) (s : Stored) (fields : NodeFields) (read : FileEntry) (h : HasBytes (take at (held J)) s fields) (same : icb.fields_of read ≡ icb_fields fields) where
   place_is : icb.place_of read.place ≡ icb_place fields.place
@@ -122,9 +123,11 @@ module _ (at : ℕ) (J : List Event) (s : Stored) (fields : NodeFields) (read : 
       (b.0, h.body ∙ ap Bytes b.1)
 
   pub stored_extents : (descriptors : _) → read.place ≡ places.Extents descriptors
-      → AreWithin (take at (held J)) read.size (udf.firsts descriptors.now) × (s.body ≡ Bytes (bytes_in_extents (take at (held J)) read.size (udf.firsts descriptors.now)))
+      → AreListed udf (take at (held J)) read.size descriptors.now × AreWithin (take at (held J)) read.size (firsts_at udf (take at (held J)) read.size descriptors.now)
+      × (s.body ≡ Bytes (bytes_in_extents (take at (held J)) read.size (firsts_at udf (take at (held J)) read.size descriptors.now)))
   stored_extents descriptors e =
+      let M = take at (held J) in
       let size : fields.size ≡ read.size = sym (ap (λ (f : icb.Fields). f.size) same) in
-      let b = subst (λ (n : ℕ). AreWithin (take at (held J)) n (udf.firsts descriptors.now) × (h.bytes ≡ bytes_in_extents (take at (held J)) n (udf.firsts descriptors.now))) size
-      (in_several (take at (held J)) fields.size fields.place h.bytes descriptors.now h.holds (sym (ap icb.place_of e) ∙ place_is)) in
-      (b.0, h.body ∙ ap Bytes b.1)
+      let b = subst (λ (n : ℕ). AreListed udf M n descriptors.now × AreWithin M n (firsts_at udf M n descriptors.now) × (h.bytes ≡ bytes_in_extents M n (firsts_at udf M n descriptors.now))) size
+      (in_several M fields.size fields.place h.bytes descriptors.now h.holds (sym (ap icb.place_of e) ∙ place_is)) in
+      (b.0, b.1, h.body ∙ ap Bytes b.2)

@@ -1,11 +1,10 @@
 -- How many bytes a file has, by its entry, where each block of the medium has all of its own.
-use Rattle.std.proofs.Common.{◌≡◌, ℕ, suc, ◌+◌, ◌-◌, ◌*◌, ◌/◌, ◌%◌, ◌<◌, ◌≤◌, List, [], ◌++◌, length, take, drop, slice_get, Some, refl, sym, ap, subst, ◌∙◌, arith}
+use Rattle.std.proofs.Common.{◌≡◌, ℕ, suc, ◌+◌, ◌-◌, ◌*◌, ◌/◌, ◌%◌, ◌≤◌, List, [], ◌++◌, length, take, drop, slice_get, Some, refl, sym, ap, subst, ◌∙◌, arith}
 use Rattle.std.specs.Prelude.{min}
 use Rattle.std.specs.Int.{div_ceil}
 use Rattle.std.specs.List.{All}
 use Rattle.std.proofs.lemmas.List.Elements.{All-take}
 use Rattle.limits.specs.declared.TheConstants.{BLOCK_BYTES, FILE_BYTES, PARTITION_START}
-use Rattle.ecma.specs.Numbers.{u32_at}
 use Rattle.drive.specs.Journal.{Event, held, Once, AreWhole}
 use Rattle.drive.proofs.Whole.{held-whole}
 use Rattle.icb.specs.declared.entry.FileEntry.{FileEntry}
@@ -17,10 +16,9 @@ use Rattle.model.specs.Graph.{Stored, Body}
 use Rattle.model.specs.Graph.Body.{Bytes, Entries}
 use Rattle.durability.specs.Formats.{NodeFields}
 use Rattle.udf.specs.Words.{icb_fields}
-use Rattle.icb.specs.Entry.{extent_count, extent_size}
+use Rattle.icb.specs.Extents.{extent_size}
 use Rattle.udf.specs.Udf.{udf}
-use Rattle.udf.proofs.Extents.{first_at}
-use Rattle.durability.specs.Volume.{AreWithin, IsWithin, bytes_in_extents}
+use Rattle.durability.specs.Volume.{AreWithin, IsWithin, bytes_in_extents, firsts_at}
 use Rattle.recover.specs.Blocks.{medium_bytes_at}
 use Rattle.lookup.proofs.StoredNodes.{part_below}
 use Rattle.lookup.proofs.FileBytes.{HasBytes, stored_nowhere, stored_inside, stored_extent, stored_extents}
@@ -42,7 +40,7 @@ size_is at J s fields read kind h same fits once are_whole within bytes body = b
     by (places.Inside inside) e f = sym f.3 ∙ ap (λ (b : Body). length (bytes_of b)) (sym (stored_inside at J s fields read h same inside e) ∙ body)
     by (places.Extents descriptors) e f =
         let b = stored_extents at J s fields read h same descriptors e in
-        sym (extents_long (take at (held J)) (All-take IsWholeBlock at (held J) all) read.size (udf.firsts descriptors.now) b.0) ∙ ap (λ (y : Body). length (bytes_of y)) (sym b.1 ∙ body)
+        sym (extents_long (take at (held J)) (All-take IsWholeBlock at (held J) all) read.size (firsts_at udf (take at (held J)) read.size descriptors.now) b.1) ∙ ap (λ (y : Body). length (bytes_of y)) (sym b.2 ∙ body)
     by (places.Extent first) e f =
         let b = stored_extent at J s fields read h same first e in
         sym (extent_length (held J) (first + PARTITION_START) read.size all (omega (arith, b.0, within))) ∙ ap (λ (y : Body). length (bytes_of y)) (sym b.1 ∙ body)
@@ -56,12 +54,6 @@ piece_is s bytes whole piece offset count size cut stored body long least is =
     let short : cut ≡ min count (length whole - offset) = least ∙ ap (λ (n : ℕ). min count (n - offset)) long in
     is ∙ ap (λ (b : List ℕ). take cut (drop offset b)) same ∙ ap (λ (n : ℕ). take n (drop offset whole)) short ∙ cut_short count offset whole
 
--- the block number of an extent, by its descriptor
-pub first_there : (descriptors : List ℕ) (size k first : ℕ) → length descriptors ≡ 16 * extent_count size → FILE_BYTES * k < size → first ≡ u32_at (16 * k + 4) descriptors → slice_get (udf.firsts descriptors) k ≡ Some first
-first_there descriptors size k first long begins is =
-    let fits : k < length descriptors / 16 = omega (arith, long, begins) in
-    first_at (length descriptors / 16) descriptors k fits ∙ ap (λ (n : ℕ). Some n) (sym is)
-
 -- what is read of an extent that lies below the table
 pub piece_read : (at : ℕ) (J : List Event) (first size offset count : ℕ) (read : List ℕ) → Once J → AreWhole J → IsWithin (take at (held J)) first size → offset + count ≤ size
     → read ≡ medium_bytes_at (held J) (first + PARTITION_START + offset / BLOCK_BYTES) (offset % BLOCK_BYTES + count)
@@ -72,29 +64,29 @@ piece_read at J first size offset count read once are_whole below within e =
     ∙ ap (λ (blocks : List (List ℕ)). take count (drop offset (take size (flat blocks)))) (sym (part_below (held J) at (first + PARTITION_START) (div_ceil size BLOCK_BYTES) below))
 
 -- what is read of several extents that lie below the table
-module _ (at : ℕ) (J : List Event) (descriptors : List ℕ) (size : ℕ) (once : Once J) (are_whole : AreWhole J) (h : AreWithin (take at (held J)) size (udf.firsts descriptors)) where
+module _ (at : ℕ) (J : List Event) (firsts : List ℕ) (size : ℕ) (once : Once J) (are_whole : AreWhole J) (h : AreWithin (take at (held J)) size firsts) where
   all_whole : All IsWholeBlock (take at (held J))
   all_whole = All-take IsWholeBlock at (held J) (held-whole J once are_whole)
 
-  pub extent_there : (k first here : ℕ) → slice_get (udf.firsts descriptors) k ≡ Some first → here ≡ extent_size size k → IsWithin (take at (held J)) first here
-  extent_there k first here e is = subst (λ (n : ℕ). IsWithin (take at (held J)) first n) (sym is) (extent_within (take at (held J)) all_whole k size first (udf.firsts descriptors) h e)
+  pub extent_there : (k first here : ℕ) → slice_get firsts k ≡ Some first → here ≡ extent_size size k → IsWithin (take at (held J)) first here
+  extent_there k first here e is = subst (λ (n : ℕ). IsWithin (take at (held J)) first n) (sym is) (extent_within (take at (held J)) all_whole k size first firsts h e)
 
-  pub read_in_one : (k first here offset skip count : ℕ) (read : List ℕ) → slice_get (udf.firsts descriptors) k ≡ Some first → here ≡ extent_size size k → FILE_BYTES * k + skip ≡ offset → skip + count ≤ here
+  pub read_in_one : (k first here offset skip count : ℕ) (read : List ℕ) → slice_get firsts k ≡ Some first → here ≡ extent_size size k → FILE_BYTES * k + skip ≡ offset → skip + count ≤ here
       → read ≡ take count (drop skip (medium_bytes_at (take at (held J)) (first + PARTITION_START) here))
-      → read ≡ take count (drop offset (bytes_in_extents (take at (held J)) size (udf.firsts descriptors)))
+      → read ≡ take count (drop offset (bytes_in_extents (take at (held J)) size firsts))
   read_in_one k first here offset skip count read e is place within r =
       r ∙ ap (λ (n : ℕ). take count (drop skip (medium_bytes_at (take at (held J)) (first + PARTITION_START) n))) is
-      ∙ sym (piece_in_one (take at (held J)) all_whole k size first skip count (udf.firsts descriptors) h e (omega (arith, within, is)))
-      ∙ ap (λ (n : ℕ). take count (drop n (bytes_in_extents (take at (held J)) size (udf.firsts descriptors)))) place
+      ∙ sym (piece_in_one (take at (held J)) all_whole k size first skip count firsts h e (omega (arith, within, is)))
+      ∙ ap (λ (n : ℕ). take count (drop n (bytes_in_extents (take at (held J)) size firsts))) place
 
-  pub read_in_two : (k first here next there offset skip count more all : ℕ) (read later : List ℕ) → slice_get (udf.firsts descriptors) k ≡ Some first → here ≡ extent_size size k
-      → slice_get (udf.firsts descriptors) (suc k) ≡ Some next → there ≡ extent_size size (suc k) → FILE_BYTES * k + skip ≡ offset → skip + count ≡ here → more ≤ there → count + more ≡ all
+  pub read_in_two : (k first here next there offset skip count more all : ℕ) (read later : List ℕ) → slice_get firsts k ≡ Some first → here ≡ extent_size size k
+      → slice_get firsts (suc k) ≡ Some next → there ≡ extent_size size (suc k) → FILE_BYTES * k + skip ≡ offset → skip + count ≡ here → more ≤ there → count + more ≡ all
       → read ≡ take count (drop skip (medium_bytes_at (take at (held J)) (first + PARTITION_START) here))
       → later ≡ take more (drop 0 (medium_bytes_at (take at (held J)) (next + PARTITION_START) there))
-      → read ++ later ≡ take all (drop offset (bytes_in_extents (take at (held J)) size (udf.firsts descriptors)))
+      → read ++ later ≡ take all (drop offset (bytes_in_extents (take at (held J)) size firsts))
   read_in_two k first here next there offset skip count more all read later e is f there_is place ends within sum r q =
       ap (λ (bytes : List ℕ). bytes ++ later) (r ∙ ap (λ (n : ℕ). take count (drop skip (medium_bytes_at (take at (held J)) (first + PARTITION_START) n))) is)
       ∙ ap (λ (bytes : List ℕ). take count (drop skip (extent_bytes (take at (held J)) size k first)) ++ bytes) (q ∙ ap (λ (n : ℕ). take more (medium_bytes_at (take at (held J)) (next + PARTITION_START) n)) there_is)
-      ∙ sym (piece_in_two (take at (held J)) all_whole k size first next skip count more (udf.firsts descriptors) h e f (ends ∙ is) (omega (arith, within, there_is)))
-      ∙ ap (λ (n : ℕ). take n (drop (FILE_BYTES * k + skip) (bytes_in_extents (take at (held J)) size (udf.firsts descriptors)))) sum
-      ∙ ap (λ (n : ℕ). take all (drop n (bytes_in_extents (take at (held J)) size (udf.firsts descriptors)))) place
+      ∙ sym (piece_in_two (take at (held J)) all_whole k size first next skip count more firsts h e f (ends ∙ is) (omega (arith, within, there_is)))
+      ∙ ap (λ (n : ℕ). take n (drop (FILE_BYTES * k + skip) (bytes_in_extents (take at (held J)) size firsts))) sum
+      ∙ ap (λ (n : ℕ). take all (drop n (bytes_in_extents (take at (held J)) size firsts))) place

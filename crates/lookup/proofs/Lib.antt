@@ -1,5 +1,6 @@
 pub mod Asking
 pub mod Caches
+pub mod AllDescriptors
 pub mod Ending
 pub mod FileBytes
 pub mod FileSizes

@@ -1,8 +1,9 @@
 -- Look-ups that follow one another.
 use Rattle.std.proofs.Common.{◌≡◌, ◌∙◌, ℕ, true, List, take, None, Option, inl, inr, refl, sym, ap, subst}
 use Rattle.std.specs.FinMap.{get}
-use Rattle.std.specs.Prelude.{⊤, IsTrue, IfOk, IfErr, Result, Ok, Err}
+use Rattle.std.specs.Prelude.{⊤, IsTrue, IfOk, IfErr, Result, Ok, Err, is_ok}
 use Rattle.std.specs.Result.{IsErrAnd}
+use Rattle.std.proofs.lemmas.Bool.{false≢true}
 use Rattle.drive.specs.Journal.{Event, held}
 use Rattle.drive.specs.Reads.{ReadsOnly}
 use Rattle.drive.specs.declared.Drive.{Ghosts}
@@ -32,6 +33,11 @@ failed (Err f) P Q fault e q = (tt, subst Q (sym e) q)
 
 pub refused_by : {T : Type 0} (r : Result T StoreFault) (Q : StoreFault → Type 0) (fault : StoreFault) → IsErrAnd r (λ f. f ≡ fault) → Q fault → IfErr r Q
 refused_by r Q fault e q = (failed r (λ x. ⊤) Q fault e q).1
+
+-- a call that gives a value refuses nothing
+pub never_refused : {T : Type 0} (r : Result T StoreFault) (Q : StoreFault → Type 0) → IsTrue (is_ok r) → IfErr r Q
+never_refused (Ok x) Q e = tt
+never_refused (Err f) Q e = absurd (false≢true e)
 
 -- what holds of a value by two facts about it
 pub of_file : {T : Type 0} (r : Result T StoreFault) (P Q R : T → Type 0) → ((x : T) → P x → Q x → R x) → IfOk r P → IfOk r Q → IfOk r R
@@ -69,8 +75,11 @@ module _ {D : Type 0} {drive : Ghosts D} where
   looks_failed {a = a} {b = b} (Err f) fault e p = subst (λ (f : StoreFault). Looks drive (device_failures f) a b) (sym e) p
 
   -- where the drive did not fail
+  pub looks_none_failed : {n : ℕ} {a b : Lookup D drive} → n ≡ 0 → Looks drive 0 a b → Looks drive n a b
+  looks_none_failed {n} {a} {b} none p = subst (λ (m : ℕ). Looks drive m a b) (sym none) p
+
   pub looks_short : {T : Type 0} {a b : Lookup D drive} (r : Result T StoreFault) (fault : StoreFault) → IsErrAnd r (λ f. f ≡ fault) → device_failures fault ≡ 0 → Looks drive 0 a b → Looks drive (devices r) a b
-  looks_short {a = a} {b = b} r fault e none p = looks_failed r fault e (subst (λ (n : ℕ). Looks drive n a b) (sym none) p)
+  looks_short {a = a} {b = b} r fault e none p = looks_failed r fault e (looks_none_failed none p)
 
   -- ---- a directory that is put into the cache
 

@@ -14,7 +14,7 @@ use Rattle.std.proofs.lemmas.List.Elements.{All-take, All-drop}
 use Rattle.limits.specs.declared.TheConstants.{BLOCK_BYTES, FILE_BYTES, PARTITION_START}
 use Rattle.durability.specs.Volume.{AreWithin, bytes_in_extents}
 use Rattle.durability.proofs.Lists.{part-append}
-use Rattle.icb.specs.Entry.{extent_size}
+use Rattle.icb.specs.Extents.{extent_size}
 use Rattle.recover.specs.Blocks.{medium_bytes_at}
 
 abbrev pub IsWholeBlock : List ℕ → Type 0

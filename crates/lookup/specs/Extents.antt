@@ -1,7 +1,7 @@
 -- Extents that are full, by their allocation descriptors.
 use Rattle.std.specs.Prelude.{◌≡◌, ℕ, ◌*◌, ◌/◌, ◌≤◌, List, length}
 use Rattle.limits.specs.declared.TheConstants.{EXTENTS, FILE_BYTES}
-use Rattle.icb.specs.Entry.{AreExtents}
+use Rattle.icb.specs.Extents.{AreExtents}
 
 -- how many bytes are in the extents of these descriptors, if all are full
 abbrev pub full_size : List ℕ → ℕ

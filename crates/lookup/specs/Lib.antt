@@ -1,5 +1,6 @@
 pub mod Asked
 pub mod Cache
+pub mod Descriptors
 pub mod Ends
 pub mod Entries
 pub mod Extents

@@ -1,16 +1,15 @@
 //! Where a file ends, for bytes that are appended to it.
 
 ghost use Rattle.limits.specs.declared.TheConstants.{BLOCK_BYTES, FILE_BYTES, PARTITION_START, GREATEST_FILE};
-ghost use Rattle.std.specs.Prelude.{◌≡◌, ◌+◌, ◌*◌, ◌%◌, ◌<◌, ◌≤◌, ◌↔◌, List, ℕ, IsTrue, IfOk, IfErr, IfSome, None, length, false};
+ghost use Rattle.std.specs.Prelude.{◌≡◌, ◌+◌, ◌*◌, ◌%◌, ◌<◌, ◌≤◌, ◌↔◌, List, ℕ, IsTrue, IfOk, IfErr, IfSome, None, is_ok, length, false};
 ghost use Rattle.std.specs.Int.{div_ceil};
 ghost use Rattle.drive.specs.Journal.{Once};
-ghost use Rattle.icb.specs.Entry.{AreExtents, extent_count};
+ghost use Rattle.icb.specs.Extents.{AreExtents, extent_count};
 ghost use Rattle.model.specs.Graph.{is_directory};
 ghost use Rattle.model.specs.Graph.Body.{Bytes};
 ghost use Rattle.recover.specs.Faults.{IsShortage, devices};
 ghost use Rattle.recover.specs.Walk.{last_of};
-ghost use Rattle.recover.specs.declared.fault.StoreFault.TheVariants.{Memory};
-ghost use Rattle.udf.specs.Udf.{udf};
+ghost use Rattle.udf.specs.Udf.{all_firsts};
 ghost use Rattle.lookup.specs.Ends.{EndsAsStored, EndsFile, KnowsExtents};
 ghost use Rattle.lookup.specs.Lookups.{Looks, OfNode, below_seen};
 
@@ -50,30 +49,35 @@ impl<D: Drive> Lookup<'_, '_, D> {
                 extents: FullExtents::none(self.alloc),
             });
         }
-        self.end_in_extents(at, size, entry_descriptors(&block, size))
+        let all = self.all_descriptors(at, entry_descriptors(&block, size), size)?;
+        self.end_in_extents(at, size, all)
     }
 
     /// The end of a file of so many bytes, which fill the extents of these descriptors. If one of these does not end below
     /// the VAT ICB, this is damage at the entry at `at`, with the cause `RANGE`.
-    fn end_in_extents(&self, at: u32, size: u32, descriptors: &[u8]) -> Result<FileEnd, StoreFault>
+    fn end_in_extents(
+        &self,
+        at: u32,
+        size: u32,
+        descriptors: Vec<u8>,
+    ) -> Result<FileEnd, StoreFault>
         requires limit { size ≤ GREATEST_FILE }
         requires full { size % FILE_BYTES ≡ 0 }
-        requires long { length descriptors.now ≡ 16 * extent_count size }
-        requires are { AreExtents 0 size descriptors.now }
+        requires long { length descriptors.items ≡ 16 * extent_count size }
+        requires are { AreExtents 0 size descriptors.items }
         ensures size { IfOk result (λ end. end.size ≡ size) }
-        ensures extents { IfOk result (λ end. end.extents ≡ descriptors.now) }
-        ensures below { IfSome (last_of None size (udf.firsts descriptors.now)) (λ e. e.first + PARTITION_START + div_ceil e.size BLOCK_BYTES ≤ self.now.nodes.vat_icb_address) → IfErr result (λ fault. fault ≡ Memory) }
+        ensures extents { IfOk result (λ end. end.extents ≡ descriptors.items) }
+        ensures below { IfSome (last_of None size (all_firsts descriptors.items)) (λ e. e.first + PARTITION_START + div_ceil e.size BLOCK_BYTES ≤ self.now.nodes.vat_icb_address) → IsTrue (is_ok result) }
         ensures device { devices result ≡ 0 }
     {
-        if let Some(last) = last_extent(size, descriptors) {
+        if let Some(last) = last_extent(None, size, descriptors.as_slice()) {
             if !lies_below(last.first, last.size, self.nodes.vat_icb_address) {
                 return Err(damaged(at, cause::RANGE));
             }
         }
-        let copy = descriptors.to_vec(self.alloc)?;
         Ok(FileEnd {
             size,
-            extents: FullExtents::new(copy),
+            extents: FullExtents::new(descriptors),
         })
     }
 }

@@ -16,6 +16,7 @@
 
 mod cache;
 mod content;
+mod descriptors;
 mod end;
 mod extents;
 mod lookup;

@@ -12,9 +12,9 @@ ghost use Rattle.lookup.specs.Asked.{said_names, said_status};
 ghost use Rattle.lookup.specs.Asked as asked;
 ghost use Rattle.lookup.specs.Entries.{IsMomentAndSize};
 ghost use Rattle.lookup.specs.Lookups.{Answers, Looks, OfDirectory, OfNode, Sees, below_seen, graph_seen};
-ghost use Rattle.limits.specs.declared.TheConstants.{FILE_BYTES, GREATEST_FILE, PARTITION_START};
-ghost use Rattle.icb.specs.Entry.{extent_count};
-ghost use Rattle.durability.specs.Volume.{AreWithin, IsWithin, bytes_in_extents};
+ghost use Rattle.limits.specs.declared.TheConstants.{ENTRY_DESCRIPTORS, FILE_BYTES, GREATEST_FILE, PARTITION_START};
+ghost use Rattle.icb.specs.Extents.{AreEntryDescriptors, slots};
+ghost use Rattle.durability.specs.Volume.{AreListed, AreWithin, IsWithin, bytes_in_extents, firsts_at};
 ghost use Rattle.udf.specs.Udf.{udf};
 ghost use Rattle.recover.specs.Blocks.{medium_bytes_at};
 ghost use Rattle.lookup.specs.Queries.{AnswersWhole, IsMissing, IsQueryRefused, Tells, name_told};
@@ -24,7 +24,7 @@ use crate::content::Content;
 use crate::lookup::Lookup;
 use dir::Kind;
 use drive::Drive;
-use icb::{Place, decode_fe, extent_first, extent_size};
+use icb::{Place, decode_fe, extent_size};
 use limits::{BLOCK_BYTES, FILE_BYTES, PARTITION_START};
 use recover::{Node, StoreFault, cause, damaged, lies_below, read_bytes};
 use request::{ByteCount, FileData, Listed, Listing, NodeKind, NodeStatus, Path};
@@ -214,27 +214,24 @@ impl<D: Drive> Lookup<'_, '_, D> {
         requires begins { offset < size }
         requires few { count ≤ FILE_BYTES }
         requires limit { size ≤ GREATEST_FILE }
-        requires descriptors { length descriptors.now ≡ 16 * extent_count size }
+        requires long { length descriptors.now ≡ 16 * slots ENTRY_DESCRIPTORS size }
+        requires are { AreEntryDescriptors 0 size descriptors.now }
         requires whole { AreWhole (D.journal self.old.drive.now) }
-        ensures read { IsTrue (D.honest self.new.drive.now) → Once (D.journal self.old.drive.now) → AreWithin (below_seen D.Drive self.old) size (udf.firsts descriptors.now) → Answers result (λ bytes. bytes.items ≡ take count (drop offset (bytes_in_extents (below_seen D.Drive self.old) size (udf.firsts descriptors.now)))) }
+        ensures read { IsTrue (D.honest self.new.drive.now) → Once (D.journal self.old.drive.now) → AreListed udf (below_seen D.Drive self.old) size descriptors.now → AreWithin (below_seen D.Drive self.old) size (firsts_at udf (below_seen D.Drive self.old) size descriptors.now) → Answers result (λ bytes. bytes.items ≡ take count (drop offset (bytes_in_extents (below_seen D.Drive self.old) size (firsts_at udf (below_seen D.Drive self.old) size descriptors.now)))) }
         ensures size { IfOk result (λ bytes. vec_len bytes ≡ count) }
         ensures looks { Looks D.Drive (devices result) self.old self.new }
     {
         let index = (offset / FILE_BYTES as u32) as usize;
         let skip = offset % FILE_BYTES as u32;
         let here = extent_size(size, index);
-        let first = extent_first(descriptors, index);
+        let first = self.extent_start(at, descriptors, size, index)?;
         if skip + count <= here {
             return self.extent_piece(at, first, here, skip, count);
         }
         let mut bytes = self.extent_piece(at, first, here, skip, here - skip)?;
-        let more = self.extent_piece(
-            at,
-            extent_first(descriptors, index + 1),
-            extent_size(size, index + 1),
-            0,
-            count - (here - skip),
-        )?;
+        let next = self.extent_start(at, descriptors, size, index + 1)?;
+        let there = extent_size(size, index + 1);
+        let more = self.extent_piece(at, next, there, 0, count - (here - skip))?;
         bytes.extend_from_slice(&more)?;
         Ok(bytes)
     }

@@ -16,7 +16,7 @@ use Rattle.durability.proofs.Stored.{stored_one}
 use Rattle.drive.specs.Journal.{Event, Once, held}
 use Rattle.drive.specs.declared.Drive.{Ghosts}
 use Rattle.request.specs.Numbers.{code_number}
-use Rattle.udf.specs.Udf.{udf}
+use Rattle.udf.specs.Udf.{all_firsts, udf}
 use Rattle.udf.specs.Said.{names_directory}
 use Rattle.udf.proofs.Formats.{exact}
 use Rattle.recover.specs.declared.node.Node.{Node}
@@ -88,19 +88,19 @@ module _ (at : ℕ) (entries : List (Option ℕ)) (J : List Event) (tree : Tree)
       let zero_code = append_file path node offset true false some here kind whole body end.size ends.size e f bytes in
       let filled : end.size % FILE_BYTES ≡ 0 = subst (λ (n : ℕ). n % FILE_BYTES ≡ 0) (sym size) multiple in
       let full : full_size end.extents ≡ end.size = knows.full filled in
-      let lies = lies_on at M end.size (udf.firsts end.extents) (ends.within filled) in
-      let bytes_are : bytes_in_extents M end.size (udf.firsts end.extents) ≡ whole = lies.1 ∙ sym (ends.bytes filled) in
+      let lies = lies_on at M end.size (all_firsts end.extents) (ends.within filled) in
+      let bytes_are : bytes_in_extents M end.size (all_firsts end.extents) ≡ whole = lies.1 ∙ sym (ends.bytes filled) in
       let kept_size : full_size w.file.kept ≡ end.size = ap full_size w.kept ∙ full in
-      let front : kept_bytes M w.file ≡ whole = (λ i. bytes_in_extents M (kept_size i) (udf.firsts (w.kept i))) ∙ bytes_are in
-      let writing : file_writing M moment w.file ≡ record { address = here.found.address; kept = offset; firsts = udf.firsts w.file.kept; stored = as_stored here.found.stored.identity moment (Bytes (whole ++ bytes)) } =
+      let front : kept_bytes M w.file ≡ whole = (λ i. bytes_in_extents M (kept_size i) (all_firsts (w.kept i))) ∙ bytes_are in
+      let writing : file_writing M moment w.file ≡ record { address = here.found.address; kept = offset; firsts = all_firsts w.file.kept; stored = as_stored here.found.stored.identity moment (Bytes (whole ++ bytes)) } =
       λ i. record {
         address = (w.address ∙ here.address) i;
         kept = (kept_size ∙ size) i;
-        firsts = udf.firsts w.file.kept;
+        firsts = all_firsts w.file.kept;
         stored = as_stored ((w.unique ∙ here.identity) i) moment (Bytes (front i ++ w.bytes_are i));
       } in
       let kept : AreKeptOn M w.file = record {
-        within = subst (λ (n : ℕ). AreWithin M n (udf.firsts w.file.kept)) (sym kept_size) (subst (λ (xs : List ℕ). AreWithin M end.size (udf.firsts xs)) (sym w.kept) lies.0);
+        within = subst (λ (n : ℕ). AreWithin M n (all_firsts w.file.kept)) (sym kept_size) (subst (λ (xs : List ℕ). AreWithin M end.size (all_firsts xs)) (sym w.kept) lies.0);
         size = ap length front ∙ (sym ends.size ∙ sym kept_size);
       } in
       record {
@@ -112,7 +112,7 @@ module _ (at : ℕ) (entries : List (Option ℕ)) (J : List Event) (tree : Tree)
               front = whole;
               holds = body;
               size = sym ends.size ∙ size;
-              firsts = udf.firsts w.file.kept;
+              firsts = all_firsts w.file.kept;
               nodes_are = file_alone M moment w ∙ ap (λ (x : Writing). x ∷ []) writing;
             },
             ap addresses_in w.removed,

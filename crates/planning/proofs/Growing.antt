@@ -3,18 +3,30 @@ use Rattle.std.proofs.Common.{◌≡◌, ℕ, zero, suc, ◌+◌, ◌-◌, ◌*�
 use Rattle.std.specs.Prelude.{slice_index, if◌then◌else◌, IsTrue, ◌↔◌}
 use Rattle.std.proofs.lemmas.Bool.{ne_eqb, true≢false}
 use Rattle.std.proofs.lemmas.List.{drop_at, take_all, drop-append-le, get_or_append_left}
-use Rattle.limits.specs.declared.TheConstants.{FILE_BYTES, GREATEST_FILE, PARTITION_BLOCKS}
+use Rattle.limits.specs.declared.TheConstants.{FILE_BYTES, PARTITION_BLOCKS}
 use Rattle.ecma.specs.Blocks.{block_count}
 use Rattle.ecma.specs.Field.{IsAt}
 use Rattle.ecma.specs.Numbers.{u32_at}
 use Rattle.icb.specs.declared.entry.Kind.TheVariants.{File}
-use Rattle.icb.specs.Entry.{AreExtents, FitsPlace, IsExtent, extent_count, extent_size, last_size, long_descriptor}
+use Rattle.icb.specs.Entry.{FitsPlace}
+use Rattle.icb.specs.Extents.{AreExtents, HaveDescriptors, IsExtent, all_descriptors, descriptor_blocks, extent_count, extent_size, last_size, long_descriptor, next_number}
 use Rattle.icb.specs.Entry.Place.{Extents}
 use Rattle.icb.proofs.EntryLaws.{descriptor_first}
+use Rattle.durability.specs.Formats.{Block}
+use Rattle.durability.specs.Formats.Kind.{File as FileEntry}
+use Rattle.durability.specs.Formats.NodePlace.{Extents as Spread}
+use Rattle.durability.specs.Plan.{IsPlaced, WritesNode}
+use Rattle.durability.specs.Plan.PlacesFile.{appended}
+use Rattle.durability.specs.Volume as volume
+use Rattle.durability.specs.Volume.{Medium}
 use Rattle.durability.proofs.Lists.{part-append}
-use Rattle.udf.specs.Udf.{firsts_in, udf}
+use Rattle.udf.specs.Udf.{all_firsts, firsts_in, udf}
+use Rattle.udf.proofs.Extents.{firsts_many}
 use Rattle.lookup.specs.Extents.{AreFull, full_size}
 use Rattle.table_update.specs.Outside.{outside, outside_after}
+use Rattle.planning.specs.Writings.{AreKeptOn, file_writing, kept_bytes}
+use Rattle.planning.specs.declared.file.NewFile.{NewFile}
+use Rattle.planning.proofs.Listing.{blocks_same, short_fits}
 
 -- what stands in a text stands there in a longer one
 at_front : (at : ℕ) (text d more : List ℕ) → at + length text ≤ length d → IsAt at text d → IsAt at text (d ++ more)
@@ -56,13 +68,28 @@ are_grown n len first d long all some few room k lt = go (split k n (omega (arit
         subst (λ (m : ℕ). IsExtent (0 + 16 * k) m (d ++ long_descriptor len first)) size
         (first, room, at_back (0 + 16 * k) d (long_descriptor len first) (omega (arith, long, same)))
 
--- where the entry of the longer file says that its bytes are
-pub grown_place : (len first : ℕ) (d : List ℕ) → AreFull d → 0 < full_size d → full_size d < GREATEST_FILE → 0 < len → len ≤ FILE_BYTES → first + block_count len ≤ PARTITION_BLOCKS
-    → FitsPlace File (full_size d + len) (Extents (d ++ long_descriptor len first))
-grown_place len first d full some below more few room =
+-- the descriptors of a file whose extents are full, with that of the new one
+pub record AreGrown (size : ℕ) (all : List ℕ) : Type 0 where
+  pub long : length all ≡ 16 * extent_count size
+  pub are : AreExtents 0 size all
+
+pub all_grown : (len first : ℕ) (d : List ℕ) → AreFull d → 0 < len → len ≤ FILE_BYTES → first + block_count len ≤ PARTITION_BLOCKS → AreGrown (full_size d + len) (d ++ long_descriptor len first)
+all_grown len first d full more few room =
     let n = length d / 16 in
     let count = (counts n len more few).0 in
-    (refl, omega (arith, some), omega (arith, length-append d (long_descriptor len first), full.long, count), are_grown n len first d full.long full.are more few room)
+    record {
+      long = omega (arith, length-append d (long_descriptor len first), full.long, count);
+      are = are_grown n len first d full.long full.are more few room;
+    }
+
+-- where the entry of the longer file says that its bytes are, if it has room
+pub grown_place : (len first : ℕ) (d : List ℕ) → AreFull d → 0 < full_size d → 0 < len → len ≤ FILE_BYTES → first + block_count len ≤ PARTITION_BLOCKS → descriptor_blocks (full_size d + len) ≡ 0
+    → FitsPlace File (full_size d + len) (Extents (d ++ long_descriptor len first))
+grown_place len first d full some more few room none =
+    let n = length d / 16 in
+    let all = all_grown len first d full more few room in
+    let fit = short_fits (full_size d + len) (d ++ long_descriptor len first) all.long all.are none in
+    (refl, omega (arith, some, more), fit.long, fit.are)
 
 -- ---- what lies outside the entry
 
@@ -105,9 +132,41 @@ firsts_more (suc n) d more first long is =
     ∙ ap (λ (xs : List ℕ). u32_at 4 d ∷ xs) (firsts_more n (drop 16 d) more first (omega (arith, long, length-drop 16 d)) is)
 
 -- those of the extents before, and then that of the new one
-pub firsts_grown : (len first : ℕ) (d : List ℕ) → AreFull d → first < 2 ^ 32 → udf.firsts (d ++ long_descriptor len first) ≡ udf.firsts d ++ first ∷ []
+pub firsts_grown : (len first : ℕ) (d : List ℕ) → AreFull d → first < 2 ^ 32 → all_firsts (d ++ long_descriptor len first) ≡ all_firsts d ++ first ∷ []
 firsts_grown len first d full fits =
     let n = length d / 16 in
     let count : length (d ++ long_descriptor len first) / 16 ≡ n + 1 = omega (arith, length-append d (long_descriptor len first), full.long) in
     ap (λ (m : ℕ). firsts_in m (d ++ long_descriptor len first)) count
     ∙ firsts_more n d (long_descriptor len first) first full.long (descriptor_first 0 len first (long_descriptor len first) fits refl)
+
+-- ---- what is written
+
+-- The file's new bytes are placed from a block number on, with descriptor blocks after them, if there are any. The entry's
+-- descriptors and those in these blocks are the file's, with that of the new extent.
+pub grown_node : (medium : Medium) (moment : ℕ) (f : NewFile) (from first : ℕ) (before placed listed : List Block) (descriptors : List ℕ) (entry : Block)
+    → AreKeptOn medium f → 0 < full_size f.kept → AreFull f.kept → first < 2 ^ 32 → IsPlaced udf f.bytes.now from first placed → before ≡ placed ++ listed
+    → length listed ≡ descriptor_blocks (full_size f.kept + length f.bytes.now) → (0 < length listed → next_number descriptors ≡ from + length placed)
+    → HaveDescriptors (full_size f.kept + length f.bytes.now) (next_number descriptors) listed → all_descriptors descriptors listed ≡ f.kept ++ long_descriptor (length f.bytes.now) first
+    → udf.IsEntry (record { kind = FileEntry; moment = moment; links = 1; identity = f.unique; size = full_size f.kept + length f.bytes.now; place = Spread descriptors }) entry f.address
+    → WritesNode udf medium (file_writing medium moment f) from (before ++ entry ∷ []) (from + length before)
+grown_node medium moment f from first before placed listed descriptors entry kept some full fits at_start before_is count leads have whole is =
+    let front : List ℕ = kept_bytes medium f in
+    let new : List ℕ = f.bytes.now in
+    let size = full_size f.kept + length new in
+    let long : length (front ++ new) ≡ size = length-append front new ∙ ap (λ (n : ℕ). n + length new) kept.size in
+    let extents : full_size f.kept ≡ FILE_BYTES * length (all_firsts f.kept) = ap (λ (n : ℕ). FILE_BYTES * n) (sym (firsts_many (length f.kept / 16) f.kept)) in
+    record {
+      before = before;
+      entry = entry;
+      blocks_are = refl;
+      number_is = refl;
+      place = Spread descriptors;
+      size = size;
+      body = (
+        sym long,
+        appended front new refl kept.size some extents kept.within refl (f.some some) f.short first placed listed at_start before_is
+            (count ∙ sym (blocks_same size) ∙ ap volume.descriptor_blocks (sym long)) descriptors leads
+            (subst (λ (n : ℕ). HaveDescriptors n (next_number descriptors) listed) (sym long) have) (ap all_firsts whole ∙ firsts_grown (length new) first f.kept full fits) refl,
+      );
+      is = is;
+    }

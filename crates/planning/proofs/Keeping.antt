@@ -1,5 +1,5 @@
 -- What stays of a file is where its entry says that its bytes are.
-use Rattle.std.proofs.Common.{◌≡◌, ◌⊎◌, inl, inr, ℕ, zero, suc, ◌%◌, ◌<◌, Bool, true, false, if◌then◌else◌, List, [], ◌∷◌, ◌++◌, map, Option, refl, sym, ◌∙◌, ap, subst, arith}
+use Rattle.std.proofs.Common.{◌≡◌, ◌⊎◌, inl, inr, ℕ, zero, suc, ◌%◌, Bool, true, false, if◌then◌else◌, List, [], ◌∷◌, ◌++◌, map, Option, refl, sym, ◌∙◌, ap, subst, arith}
 use Rattle.limits.specs.declared.TheConstants.{FILE_BYTES}
 use Rattle.model.specs.Tree.{Path, Tree}
 use Rattle.model.specs.Graph.{Graph, is_directory}
@@ -8,8 +8,8 @@ use Rattle.model.specs.Operation.{Operation, code_of}
 use Rattle.model.specs.Operation.Operation.{Create, Replace, Append, MakeDir, Rename, Remove}
 use Rattle.drive.specs.Journal.{held}
 use Rattle.drive.specs.declared.Drive.{Ghosts}
-use Rattle.durability.specs.Volume.{Medium, graph_of}
-use Rattle.durability.specs.Plan.{KeepPlaces, Plans, PlansMove, PlansRenaming, Writing, firsts_of}
+use Rattle.durability.specs.Volume.{Medium}
+use Rattle.durability.specs.Plan.{KeepPlaces, Plans, PlansMove, PlansRenaming, Writing}
 use Rattle.recover.specs.declared.node.Node.{Node}
 use Rattle.request.specs.declared.answer.Code.{Code}
 use Rattle.lookup.specs.Ends.{EndsAsStored, KnowsExtents}
@@ -20,7 +20,7 @@ use Rattle.lookup.specs.declared.end.FileEnd.{FileEnd}
 use Rattle.lookup.specs.declared.lookup.Lookup.{Lookup}
 use Rattle.lookup.specs.declared.nodes.Nodes.{Nodes}
 use Rattle.lookup.proofs.Looking.{below_same}
-use Rattle.udf.specs.Udf.{udf}
+use Rattle.udf.specs.Udf.{all_firsts, udf}
 use Rattle.planning.specs.Changes.{IsChangeOf, IsChangeRefused, KeepsSeen, WritesFile}
 use Rattle.planning.specs.Writings.{change_writings, directory_writing, new_file}
 use Rattle.planning.specs.declared.change.Change.{Change}
@@ -89,7 +89,7 @@ append_keeps {D} {drive} {n} {a} {b} p path node here file whole body end ends k
         sym (w.address ∙ here.address),
         body,
         sym (full ∙ placed.size),
-        ap udf.firsts w.kept ∙ placed.firsts (omega (arith, full, some)) filled,
+        ap all_firsts w.kept ∙ placed.firsts (omega (arith, full, some)) filled,
       ),
       tt,
     )

@@ -4,6 +4,7 @@ pub mod Deepness
 pub mod DirectoryBytes
 pub mod Growing
 pub mod Keeping
+pub mod Listing
 pub mod Moving
 pub mod Names
 pub mod Packing

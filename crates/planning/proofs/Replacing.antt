@@ -16,7 +16,7 @@ use Rattle.recover.specs.declared.fault.StoreFault.{StoreFault}
 use Rattle.request.specs.Numbers.{code_number}
 use Rattle.request.specs.declared.answer.Code.{Code}
 use Rattle.request.specs.declared.answer.Code.TheVariants as code
-use Rattle.udf.specs.Udf.{udf}
+use Rattle.udf.specs.Udf.{all_firsts, udf}
 use Rattle.udf.specs.Said.{names_directory}
 use Rattle.udf.proofs.Formats.{exact}
 use Rattle.planning.specs.declared.change.Change.{Change}
@@ -75,15 +75,15 @@ refuses_other {medium} graph free tree operation moment identity why change r ap
 -- a file that keeps nothing
 pub nothing_kept : (medium : Medium) (f : NewFile) → f.kept ≡ [] → AreKeptOn medium f
 nothing_kept medium f none = record {
-  within = subst (λ (xs : List ℕ). AreWithin medium (full_size xs) (udf.firsts xs)) (sym none) refl;
-  size = subst (λ (xs : List ℕ). length (bytes_in_extents medium (full_size xs) (udf.firsts xs)) ≡ full_size xs) (sym none) refl;
+  within = subst (λ (xs : List ℕ). AreWithin medium (full_size xs) (all_firsts xs)) (sym none) refl;
+  size = subst (λ (xs : List ℕ). length (bytes_in_extents medium (full_size xs) (all_firsts xs)) ≡ full_size xs) (sym none) refl;
 }
 
 -- what is kept is kept of a file that keeps the same
 pub same_kept : (medium : Medium) (f g : NewFile) → f.kept ≡ g.kept → AreKeptOn medium f → AreKeptOn medium g
 same_kept medium f g same kept = record {
-  within = subst (λ (xs : List ℕ). AreWithin medium (full_size xs) (udf.firsts xs)) same kept.within;
-  size = subst (λ (xs : List ℕ). length (bytes_in_extents medium (full_size xs) (udf.firsts xs)) ≡ full_size xs) same kept.size;
+  within = subst (λ (xs : List ℕ). AreWithin medium (full_size xs) (all_firsts xs)) same kept.within;
+  size = subst (λ (xs : List ℕ). length (bytes_in_extents medium (full_size xs) (all_firsts xs)) ≡ full_size xs) same kept.size;
 }
 
 -- a file alone is written
@@ -127,8 +127,8 @@ module _ (at : ℕ) (entries : List (Option ℕ)) (J : List Event) (tree : Tree)
       λ i. record {
         address = (w.address ∙ here.address) i;
         kept = full_size (w.kept i);
-        firsts = udf.firsts (w.kept i);
-        stored = as_stored ((w.unique ∙ here.identity) i) moment (Bytes (bytes_in_extents medium (full_size (w.kept i)) (udf.firsts (w.kept i)) ++ w.bytes_are i));
+        firsts = all_firsts (w.kept i);
+        stored = as_stored ((w.unique ∙ here.identity) i) moment (Bytes (bytes_in_extents medium (full_size (w.kept i)) (all_firsts (w.kept i)) ++ w.bytes_are i));
       } in
       record {
         code_is = ap code_number w.code ∙ sym zero_code;

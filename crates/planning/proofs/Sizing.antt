@@ -18,10 +18,12 @@ use Rattle.planning.specs.declared.change.Change.{Change}
 use Rattle.planning.specs.declared.change.NewDirectory.{NewDirectory}
 use Rattle.planning.specs.declared.file.NewFile.{NewFile}
 use Rattle.lookup.specs.Extents.{full_size}
+use Rattle.table_update.specs.Outside.{outside_after}
 use Rattle.table_update.specs.Need.{FileData, AreDirectories, AreOf, most_for_bytes, most_for_directories, reckoned}
 use Rattle.planning.specs.Needs.{change_need, directories_need, file_need}
 use Rattle.planning.specs.Writings.{AreKeptOn, change_writings, kept_bytes, new_directories, new_file}
 use Rattle.table_update.proofs.Counting.{files_are_counted}
+use Rattle.planning.proofs.Listing.{blocks_same}
 
 -- the bytes that the file gets, and the names of each directory that is
 abbrev pub bytes_of : Option NewFile → Option FileData
@@ -47,7 +49,9 @@ directories_most (d ∷ ds) = λ i. (2 + (40 + names_size d.content.dir.entries.
 
 file_most : (o : Option NewFile) → file_need o ≡ most_for_bytes (bytes_of o)
 file_most None = refl
-file_most (Some f) = files_are_counted (full_size f.kept) f.bytes.now
+file_most (Some f) =
+    ap (λ (n : ℕ). 2 * blocks_for (length (outside_after (full_size f.kept) f.bytes.now)) + n + 1) (sym (blocks_same (full_size f.kept + length f.bytes.now)))
+    ∙ files_are_counted (full_size f.kept) f.bytes.now f.short
 
 -- what a change may need is what is computed of its file, its directories and the table
 pub change_reckoned : (change : Change) (t : Table) → change_need change t ≡ reckoned (bytes_of change.file) (all_names change.directories.items) t

@@ -2,6 +2,7 @@
 use Rattle.std.specs.Prelude.{ℕ, ◌+◌, ◌*◌, ◌/◌, List, [], ◌∷◌, length, Option, Some, None}
 use Rattle.std.specs.Int.{div_ceil}
 use Rattle.limits.specs.declared.TheConstants.{BLOCK_BYTES, LEAST_FILLED_BYTES}
+use Rattle.icb.specs.Extents.{descriptor_blocks}
 use Rattle.dir.specs.Size.{name_sizes, plain_sizes}
 use Rattle.vat.specs.Table.{Table}
 pub use Rattle.table_update.specs.Needs.{table_need}
@@ -11,10 +12,10 @@ use Rattle.planning.specs.declared.change.Change.{Change}
 use Rattle.planning.specs.declared.file.NewFile.{NewFile}
 use Rattle.planning.specs.declared.change.NewDirectory.{NewDirectory}
 
--- before data there may be as many blocks of zeros
+-- before data there may be as many blocks of zeros, and after them are the file's descriptor blocks
 abbrev pub file_need : Option NewFile → ℕ
 file_need None = 0
-file_need (Some f) = 2 * div_ceil (length (outside_after (full_size f.kept) f.bytes.now)) BLOCK_BYTES + 1
+file_need (Some f) = 2 * div_ceil (length (outside_after (full_size f.kept) f.bytes.now)) BLOCK_BYTES + descriptor_blocks (full_size f.kept + length f.bytes.now) + 1
 
 -- a block of a directory that another one follows is used up to byte 1,720 at least
 abbrev pub directory_need : NewDirectory → ℕ

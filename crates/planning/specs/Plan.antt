@@ -22,8 +22,12 @@ use Rattle.planning.specs.declared.plan.Plan.{Plan}
 use Rattle.planning.specs.Last.{HasTableBelow}
 
 -- the blocks of the bytes that a file gets, where they are outside the entry
+abbrev pub placed_data : PlacedFile → List (List ℕ)
+placed_data p = replicate p.gap zeros ++ packed (outside_after (full_size p.file.kept) p.file.bytes.now)
+
+-- and then its descriptor blocks
 abbrev pub file_data : PlacedFile → List (List ℕ)
-file_data p = replicate p.gap zeros ++ packed (outside_after (full_size p.file.kept) p.file.bytes.now)
+file_data p = placed_data p ++ p.listed.items
 
 -- these, and the entry
 abbrev pub file_list : Option PlacedFile → List (List ℕ)

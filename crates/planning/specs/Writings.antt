@@ -11,7 +11,7 @@ use Rattle.durability.specs.Volume.{Medium, AreWithin, bytes_in_extents}
 use Rattle.durability.specs.Plan.{Writing}
 use Rattle.lookup.specs.Extents.{full_size}
 use Rattle.udf.specs.Said.{said_entries}
-use Rattle.udf.specs.Udf.{udf}
+use Rattle.udf.specs.Udf.{all_firsts}
 use Rattle.planning.specs.declared.change.Change.{Change}
 use Rattle.planning.specs.declared.file.NewFile.{NewFile}
 use Rattle.planning.specs.declared.change.NewDirectory.{NewDirectory}
@@ -23,16 +23,16 @@ pub record IsProper (d : Dir) : Type 0 where
 
 -- the bytes that a file keeps, which are in extents on the medium
 abbrev pub kept_bytes : Medium → NewFile → List ℕ
-kept_bytes medium f = bytes_in_extents medium (full_size f.kept) (udf.firsts f.kept)
+kept_bytes medium f = bytes_in_extents medium (full_size f.kept) (all_firsts f.kept)
 
 -- they are there
 pub record AreKeptOn (medium : Medium) (f : NewFile) : Type 0 where
-  pub within : AreWithin medium (full_size f.kept) (udf.firsts f.kept)
+  pub within : AreWithin medium (full_size f.kept) (all_firsts f.kept)
   pub size : length (kept_bytes medium f) ≡ full_size f.kept
 
 -- a file that is written has the bytes that it keeps, and then the new ones
 abbrev pub file_writing : Medium → ℕ → NewFile → Writing
-file_writing medium moment f = record { address = f.address; kept = full_size f.kept; firsts = udf.firsts f.kept; stored = as_stored f.unique moment (Bytes (kept_bytes medium f ++ f.bytes.now)) }
+file_writing medium moment f = record { address = f.address; kept = full_size f.kept; firsts = all_firsts f.kept; stored = as_stored f.unique moment (Bytes (kept_bytes medium f ++ f.bytes.now)) }
 
 abbrev pub directory_writing : NewDirectory → Writing
 directory_writing d = record { address = d.address; kept = 0; firsts = []; stored = as_stored d.unique d.moment (Entries d.content.dir.parent (said_entries d.content.dir.entries.entries)) }

@@ -1,9 +1,10 @@
 //! A file that is written.
 
-ghost use Rattle.limits.specs.declared.TheConstants.{GREATEST_FILE};
-ghost use Rattle.std.specs.Prelude.{◌≡◌, ◌<◌, [], length};
+ghost use Rattle.limits.specs.declared.TheConstants.{FILE_BYTES, GREATEST_FILE};
+ghost use Rattle.std.specs.Prelude.{◌≡◌, ◌<◌, ◌≤◌, [], length};
 ghost use Rattle.lookup.specs.Extents.{full_size};
 
+use icb::descriptor_blocks;
 use lookup::FullExtents;
 use request::{AppendSlice, FileSlice};
 use std::alloc::Global;
@@ -17,7 +18,29 @@ pub struct NewFile<'r> {
     pub kept: FullExtents,
     pub bytes: &'r FileSlice<'r>,
     pub ghost few: { full_size kept < GREATEST_FILE },
+    pub ghost short: { length bytes.now ≤ FILE_BYTES },
     pub ghost some: { 0 < full_size kept → 0 < length bytes.now },
+}
+
+impl NewFile<'_> {
+    ghost use Rattle.std.specs.Prelude.{◌+◌};
+    ghost use Rattle.icb.specs.Extents as icb;
+
+    /// How many bytes the file has then.
+    pub(crate) fn size(&self) -> u32
+        ensures size { result ≡ full_size self.now.kept + length self.now.bytes.now }
+        ensures limit { result ≤ GREATEST_FILE }
+    {
+        self.kept.size() + self.bytes.as_slice().len() as u32
+    }
+
+    /// How many descriptor blocks it has then.
+    pub(crate) fn descriptor_blocks(&self) -> u32
+        ensures count { result ≡ icb.descriptor_blocks (full_size self.now.kept + length self.now.bytes.now) }
+        ensures few { result ≤ 7 }
+    {
+        descriptor_blocks(self.size())
+    }
 }
 
 impl<'r> NewFile<'r> {
@@ -33,6 +56,8 @@ impl<'r> NewFile<'r> {
         ensures kept { result.kept ≡ [] }
         ensures bytes { result.bytes.now ≡ bytes.now }
     {
+        // Unused: it gives the proof that the bytes are few.
+        let _few = bytes.as_slice();
         NewFile {
             address,
             unique,
@@ -54,11 +79,14 @@ impl<'r> NewFile<'r> {
         ensures kept { result.kept ≡ kept }
         ensures bytes { result.bytes.now ≡ bytes.now }
     {
+        let bytes = bytes.as_file_slice();
+        // Unused: it gives the proof that the bytes are few.
+        let _few = bytes.as_slice();
         NewFile {
             address,
             unique,
             kept,
-            bytes: bytes.as_file_slice(),
+            bytes,
         }
     }
 }

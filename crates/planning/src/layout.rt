@@ -17,10 +17,21 @@ pub struct PlacedFile<'r> {
     pub file: NewFile<'r>,
     /// How many blocks of zeros are before its bytes, if these are outside the entry.
     pub gap: u32,
+    /// Its descriptor blocks, which follow its bytes.
+    pub listed: Vec<Block>,
     /// The block of its entry.
     pub entry: Block,
     /// The block number of its entry.
     pub number: u32,
+}
+
+/// The blocks that say where a file's bytes are.
+#[derive(Drop)]
+pub(crate) struct FileBlocks {
+    /// Its descriptor blocks.
+    pub listed: Vec<Block>,
+    /// The block of its entry.
+    pub entry: Block,
 }
 
 /// A directory with its place.

@@ -1,10 +1,12 @@
 //! The places of the blocks of a commit.
 
-ghost use Rattle.limits.specs.declared.TheConstants.{BLOCK_BYTES, FILE_BYTES, PARTITION_BLOCKS};
-ghost use Rattle.std.specs.Prelude.{◌≡◌, ℕ, ◌+◌, ◌*◌, ◌<◌, ◌≤◌, List, [], ◌∷◌, ◌++◌, length, Some};
+ghost use Rattle.limits.specs.declared.TheConstants.{BLOCK_BYTES, ENTRY_DESCRIPTORS, FILE_BYTES, GREATEST_FILE, PARTITION_BLOCKS};
+ghost use Rattle.std.specs.Prelude.{◌≡◌, ℕ, ◌+◌, ◌-◌, ◌*◌, ◌<◌, ◌≤◌, IfErr, IfOk, List, [], ◌∷◌, ◌++◌, length, take, Some};
 ghost use Rattle.std.specs.Int.{div_ceil};
 ghost use Rattle.icb.specs.Entry.{FitsPlace, place_of};
+ghost use Rattle.icb.specs.Extents as icb;
 ghost use Rattle.icb.specs.declared.entry.Kind.TheVariants.{File};
+ghost use Rattle.recover.specs.declared.fault.StoreFault.TheVariants.{Memory};
 ghost use Rattle.dir.specs.Directory.{directory_blocks, directory_size};
 ghost use Rattle.lookup.specs.Cache.{SaysPlace};
 ghost use Rattle.durability.specs.Plan.{packed, IsClearStart, IsPlaced, PlacesFile, WritesNode};
@@ -18,11 +20,15 @@ ghost use Rattle.udf.specs.Udf.{udf};
 
 use crate::change::NewDirectory;
 use crate::file::NewFile;
-use crate::layout::{PlacedDirectory, PlacedFile};
+use crate::layout::{FileBlocks, PlacedDirectory, PlacedFile};
 use ecma::{Block, Timestamp};
-use icb::{FileEntry, Kind, Place, PlannedEntry};
-use limits::BLOCK_SIZE;
-use recover::{Extent, block_count};
+use icb::{
+    FileEntry, Kind, Place, PlannedEntry, descriptor_blocks, encode_fe, extent_descriptor,
+    next_descriptor, write_descriptors,
+};
+use limits::{BLOCK_DESCRIPTORS, BLOCK_SIZE, ENTRY_DESCRIPTORS};
+use recover::{Extent, StoreFault, block_count, bytes_from_block};
+use std::alloc::Global;
 use vat::clear_start;
 
 /// The most bytes of a file that its entry takes.
@@ -84,30 +90,40 @@ impl Numbers {
         first
     }
 
-    /// Places a file: its bytes, if they are outside its entry, and then the entry, with this moment.
-    pub(crate) fn place_file<'r>(&mut self, file: NewFile<'r>, moment: Timestamp) -> PlacedFile<'r>
+    /// Places a file: its bytes, if they are outside its entry, its descriptor blocks, if it has some, and then the entry,
+    /// with this moment.
+    pub(crate) fn place_file<'r>(
+        &mut self,
+        alloc: Global,
+        file: NewFile<'r>,
+        moment: Timestamp,
+    ) -> Result<PlacedFile<'r>, StoreFault>
         requires room { self.old.next + needs.file_need (Some file) ≤ self.old.end }
-        ensures address { result.file.address ≡ file.entry.address }
-        ensures unique { result.file.unique ≡ file.entry.unique }
-        ensures bytes { result.file.bytes.now ≡ file.entry.bytes.now }
-        ensures kept { result.file.kept ≡ file.entry.kept }
-        ensures written { (medium : List (List ℕ)) → AreKeptOn medium result.file → WritesNode udf medium (file_writing medium moment result.file) self.old.next (file_data result ++ result.entry ∷ []) result.number }
-        ensures ends { result.number + 1 ≡ self.old.next + length (file_data result ++ result.entry ∷ []) }
-        ensures next { self.new.next ≡ result.number + 1 }
+        ensures address { IfOk result (λ p. p.file.address ≡ file.entry.address) }
+        ensures unique { IfOk result (λ p. p.file.unique ≡ file.entry.unique) }
+        ensures bytes { IfOk result (λ p. p.file.bytes.now ≡ file.entry.bytes.now) }
+        ensures kept { IfOk result (λ p. p.file.kept ≡ file.entry.kept) }
+        ensures written { IfOk result (λ p. (medium : List (List ℕ)) → AreKeptOn medium p.file → WritesNode udf medium (file_writing medium moment p.file) self.old.next (file_data p ++ p.entry ∷ []) p.number) }
+        ensures ends { IfOk result (λ p. p.number + 1 ≡ self.old.next + length (file_data p ++ p.entry ∷ [])) }
+        ensures next { IfOk result (λ p. self.new.next ≡ p.number + 1) }
         ensures most { self.new.next ≤ self.old.next + needs.file_need (Some file.entry) }
         ensures end { self.new.end ≡ self.old.end }
+        ensures short { IfErr result (λ fault. fault ≡ Memory) }
     {
         let start = self.next;
         let first = self.place_bytes(outside_of(&file));
+        let next = self.next;
+        self.take(file.descriptor_blocks());
         let number = self.next;
         self.take(1);
-        let entry = file_entry(&file, moment, first);
-        PlacedFile {
+        let FileBlocks { listed, entry } = file_blocks(alloc, &file, moment, first, next)?;
+        Ok(PlacedFile {
             file,
             gap: first - start,
+            listed,
             entry,
             number,
-        }
+        })
     }
 
     /// Places a directory: its data and its entry.
@@ -140,25 +156,105 @@ impl Numbers {
     }
 }
 
-/// The block of a file's entry. If its new bytes are outside the entry, they begin at block number `first`.
-fn file_entry(file: &NewFile<'_>, moment: Timestamp, first: u32) -> Block
-    requires { first + div_ceil (length (outside_after (full_size file.now.kept) file.now.bytes.now)) BLOCK_BYTES ≤ PARTITION_BLOCKS }
-    ensures { (medium : List (List ℕ)) (from : ℕ) (blocks : List (List ℕ)) → AreKeptOn medium file.now → IsPlaced udf (outside_after (full_size file.now.kept) file.now.bytes.now) from first blocks → WritesNode udf medium (file_writing medium moment file.now) from (blocks ++ result ∷ []) (from + length blocks) }
+/// The entry of a file, and its descriptor blocks, which begin at block number `next`. If its new bytes are outside the
+/// entry, they begin at block number `first`.
+fn file_blocks(
+    alloc: Global,
+    file: &NewFile<'_>,
+    moment: Timestamp,
+    first: u32,
+    next: u32,
+) -> Result<FileBlocks, StoreFault>
+    requires room { first + div_ceil (length (outside_after (full_size file.now.kept) file.now.bytes.now)) BLOCK_BYTES ≤ PARTITION_BLOCKS }
+    requires after { next + icb.descriptor_blocks (full_size file.now.kept + length file.now.bytes.now) ≤ PARTITION_BLOCKS }
+    ensures count { IfOk result (λ b. length b.listed.items ≡ icb.descriptor_blocks (full_size file.now.kept + length file.now.bytes.now)) }
+    ensures written { IfOk result (λ b. (medium : List (List ℕ)) (from : ℕ) (blocks : List (List ℕ)) → AreKeptOn medium file.now → IsPlaced udf (outside_after (full_size file.now.kept) file.now.bytes.now) from first blocks → next ≡ from + length blocks → WritesNode udf medium (file_writing medium moment file.now) from ((blocks ++ b.listed.items) ++ b.entry ∷ []) (from + length (blocks ++ b.listed.items))) }
+    ensures short { IfErr result (λ fault. fault ≡ Memory) }
 {
-    let mut block = [0; BLOCK_SIZE];
-    planned_entry(file, moment, first).write(&mut block);
-    block
+    if file.descriptor_blocks() > 0 {
+        return long_file(alloc, file, moment, first, next);
+    }
+    let mut entry = [0; BLOCK_SIZE];
+    if file.kept.is_empty() {
+        whole_entry(file, moment, first).write(&mut entry);
+    } else {
+        grown_entry(file, moment, first).write(&mut entry);
+    }
+    Ok(FileBlocks {
+        listed: Vec::new(alloc),
+        entry,
+    })
 }
 
-/// The entry of a file. If its new bytes are outside the entry, they begin at block number `first`.
-fn planned_entry<'a>(file: &'a NewFile<'_>, moment: Timestamp, first: u32) -> PlannedEntry<'a>
-    requires { first + div_ceil (length (outside_after (full_size file.now.kept) file.now.bytes.now)) BLOCK_BYTES ≤ PARTITION_BLOCKS }
-    ensures { (medium : List (List ℕ)) (from : ℕ) (blocks : List (List ℕ)) → AreKeptOn medium file.now → IsPlaced udf (outside_after (full_size file.now.kept) file.now.bytes.now) from first blocks → WritesNode udf medium (file_writing medium moment file.now) from (blocks ++ result ∷ []) (from + length blocks) }
+/// The entry of a file that has descriptor blocks, and these, which begin at block number `next`. Its new bytes begin at
+/// block number `first`.
+fn long_file(
+    alloc: Global,
+    file: &NewFile<'_>,
+    moment: Timestamp,
+    first: u32,
+    next: u32,
+) -> Result<FileBlocks, StoreFault>
+    requires long { 0 < icb.descriptor_blocks (full_size file.now.kept + length file.now.bytes.now) }
+    requires room { first + div_ceil (length file.now.bytes.now) BLOCK_BYTES ≤ PARTITION_BLOCKS }
+    requires after { next + icb.descriptor_blocks (full_size file.now.kept + length file.now.bytes.now) ≤ PARTITION_BLOCKS }
+    ensures count { IfOk result (λ b. length b.listed.items ≡ icb.descriptor_blocks (full_size file.now.kept + length file.now.bytes.now)) }
+    ensures written { IfOk result (λ b. (medium : List (List ℕ)) (from : ℕ) (blocks : List (List ℕ)) → AreKeptOn medium file.now → IsPlaced udf file.now.bytes.now from first blocks → next ≡ from + length blocks → WritesNode udf medium (file_writing medium moment file.now) from ((blocks ++ b.listed.items) ++ b.entry ∷ []) (from + length (blocks ++ b.listed.items))) }
+    ensures short { IfErr result (λ fault. fault ≡ Memory) }
 {
-    if file.kept.is_empty() {
-        return whole_entry(file, moment, first);
+    let bytes = file.bytes.as_slice();
+    let size = file.size();
+    let mut all = file.kept.descriptors().to_vec(alloc)?;
+    all.extend_from_slice(&extent_descriptor(bytes.len() as u32, first))?;
+    let listed = descriptor_list(alloc, all.as_slice(), size, next)?;
+    let mut here = all[..16 * (ENTRY_DESCRIPTORS as usize - 1)].to_vec(alloc)?;
+    here.extend_from_slice(&next_descriptor(next))?;
+    let entry = encode_fe(
+        &FileEntry {
+            kind: Kind::File,
+            moment,
+            links: 1,
+            unique: u64::from(file.unique),
+            size,
+            place: Place::Extents(here.as_slice()),
+        },
+        file.address,
+    );
+    Ok(FileBlocks { listed, entry })
+}
+
+/// The descriptor blocks of a file of this size, which has some, with these descriptors of all its extents, from block
+/// number `next` on.
+fn descriptor_list(
+    alloc: Global,
+    all: &[u8],
+    size: u32,
+    next: u32,
+) -> Result<Vec<Block>, StoreFault>
+    requires limit { size ≤ GREATEST_FILE }
+    requires many { 0 < icb.descriptor_blocks size }
+    requires long { length all.now ≡ 16 * icb.extent_count size }
+    requires are { icb.AreExtents 0 size all.now }
+    requires room { next + icb.descriptor_blocks size ≤ PARTITION_BLOCKS }
+    ensures count { IfOk result (λ blocks. length blocks.items ≡ icb.descriptor_blocks size) }
+    ensures have { IfOk result (λ blocks. icb.HaveDescriptors size next blocks.items) }
+    ensures all { IfOk result (λ blocks. icb.all_descriptors (take (16 * (ENTRY_DESCRIPTORS - 1)) all.now ++ icb.next_descriptor next) blocks.items ≡ all.now) }
+    ensures short { IfErr result (λ fault. fault ≡ Memory) }
+{
+    let count = descriptor_blocks(size);
+    let mut blocks = Vec::with_capacity(alloc, count as usize)?;
+    for index in 0..count {
+        let before = (ENTRY_DESCRIPTORS - 1 + (BLOCK_DESCRIPTORS - 1) * index) as usize;
+        let mut block = [0; BLOCK_SIZE];
+        write_descriptors(
+            &all[16 * before..],
+            bytes_from_block(size, index),
+            next + index,
+            &mut block,
+        );
+        blocks.push(block)?;
     }
-    grown_entry(file, moment, first)
+    Ok(blocks)
 }
 
 /// The entry of a file that keeps nothing.
@@ -179,9 +275,10 @@ fn whole_entry<'a>(file: &'a NewFile<'_>, moment: Timestamp, first: u32) -> Plan
     PlannedEntry::new(&entry, file.address)
 }
 
-/// The entry of a file that keeps what it has, and gets one extent more.
+/// The entry of a file that keeps what it has, and gets one extent more. It has room for all descriptors.
 fn grown_entry<'a>(file: &'a NewFile<'_>, moment: Timestamp, first: u32) -> PlannedEntry<'a>
     requires some { 0 < full_size file.now.kept }
+    requires fits { icb.descriptor_blocks (full_size file.now.kept + length file.now.bytes.now) ≡ 0 }
     requires room { first + div_ceil (length file.now.bytes.now) BLOCK_BYTES ≤ PARTITION_BLOCKS }
     ensures { (medium : List (List ℕ)) (from : ℕ) (blocks : List (List ℕ)) → AreKeptOn medium file.now → IsPlaced udf file.now.bytes.now from first blocks → WritesNode udf medium (file_writing medium moment file.now) from (blocks ++ result ∷ []) (from + length blocks) }
 {

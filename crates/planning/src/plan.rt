@@ -73,11 +73,14 @@ impl Plan<'_> {
         Ok(())
     }
 
-    /// How many encoded blocks are held during all writes: those of the table's data, and a file's entry.
+    /// How many encoded blocks are held during all writes: those of the table's data, and a file's entry and descriptor
+    /// blocks.
     fn held(&self) -> usize {
-        let bytes = self.table.bytes.len();
-        let entries = usize::from(self.file.is_some());
-        bytes.div_ceil(BLOCK_SIZE).saturating_add(entries)
+        let table = self.table.bytes.len().div_ceil(BLOCK_SIZE);
+        match &self.file {
+            Some(file) => table.saturating_add(file.listed.len()).saturating_add(1),
+            None => table,
+        }
     }
 
     /// The greatest number of encoded blocks that were held at once.
@@ -88,7 +91,8 @@ impl Plan<'_> {
     }
 }
 
-/// Writes a file's bytes, if they are outside its entry, and the entry. Without a file nothing is written.
+/// Writes a file's bytes, if they are outside its entry, its descriptor blocks, and the entry. Without a file nothing is
+/// written.
 fn write_file<'r, D: Drive>(
     writer: &mut Writer<'r>,
     drive: &mut D,
@@ -104,6 +108,7 @@ fn write_file<'r, D: Drive>(
         return Ok(());
     };
     writer.lend_bytes(drive, placed.gap, outside_of(&placed.file))?;
+    writer.put_all(drive, placed.listed.as_slice())?;
     writer.put(drive, &placed.entry)?;
     Ok(())
 }
@@ -231,6 +236,7 @@ impl LastTable<'_> {
             commit: vat.sessions.commits,
         };
         let file = enter_file(
+            alloc,
             &mut vat,
             &mut numbers,
             change.file,
@@ -310,16 +316,16 @@ fn table_need(vat: &Vat) -> u64
 }
 
 /// The most blocks for a file, if one is written: its bytes outside the entry, a gap before them that is at most as
-/// long, and the entry.
+/// long, its descriptor blocks, and the entry.
 fn file_need(file: &Option<NewFile<'_>>) -> u64
     ensures value { result ≡ needs.file_need file.now }
-    ensures few { result ≤ 1_025 }
+    ensures few { result ≤ 1_032 }
 {
     let Some(file) = file else {
         return 0;
     };
     let outside = outside_of(file);
-    2 * u64::from(block_count(outside.len() as u32)) + 1
+    2 * u64::from(block_count(outside.len() as u32)) + u64::from(file.descriptor_blocks()) + 1
 }
 
 /// The most blocks for directories. Each one has its entry and a last block of data. In each other block of data the
@@ -349,6 +355,7 @@ fn identifiers_size(content: &Content) -> u64
 /// Places a file, if one is written, with this moment, and enters it in the table. A refusal names `at`, the address of
 /// the VAT ICB of the state before.
 fn enter_file<'r>(
+    alloc: Global,
     vat: &mut Vat,
     numbers: &mut Numbers,
     file: Option<NewFile<'r>>,
@@ -362,14 +369,14 @@ fn enter_file<'r>(
     ensures writings { IfOk result (λ placed. (medium : List (List ℕ)) → file_writings medium moment placed ≡ new_file medium moment file.entry) }
     ensures kept { IfOk result (λ placed. (medium : List (List ℕ)) → IfSome file.entry (AreKeptOn medium) → IfSome placed (λ p. AreKeptOn medium p.file)) }
     ensures end { numbers.new.end ≡ numbers.old.end }
-    ensures used { IfSome file.entry (λ f. IsUsed f.address vat.old.entries.items) → is_err result ≡ false }
+    ensures used { IfSome file.entry (λ f. IsUsed f.address vat.old.entries.items) → IfErr result (λ fault. fault ≡ Memory) }
     ensures apart { IsApartFromDrive result }
 {
     let Some(file) = file else {
         return Ok(None);
     };
     let address = file.address;
-    let placed = numbers.place_file(file, moment);
+    let placed = numbers.place_file(alloc, file, moment)?;
     if !place_node(vat, address, placed.number) {
         return Err(damaged(at, cause::IDENTITY));
     }

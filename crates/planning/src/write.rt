@@ -103,7 +103,11 @@ impl<'b> Writer<'b> {
     }
 
     /// Puts the blocks in order.
-    fn put_all<D: Drive>(&mut self, drive: &mut D, blocks: &[Block]) -> Result<(), DriveFault>
+    pub(crate) fn put_all<D: Drive>(
+        &mut self,
+        drive: &mut D,
+        blocks: &[Block],
+    ) -> Result<(), DriveFault>
         requires begins { self.old.packets.at ≤ next_of (D.journal drive.old) }
         requires fits { next_address self.old.packets + length blocks.now ≤ D.capacity drive.old }
         ensures ok { OnOk result (TakesBlocks D.Drive drive.old self.old.packets blocks.now drive.new self.new.packets) }

@@ -250,15 +250,15 @@ impl<'a, R: Clock> Incoming<'a, R> {
         let left = time_left(self.waited, self.frame.bytes())?;
         stream.set_read_timeout(Some(most.unwrap_or(left)))?;
         let begin = Instant::now(self.rt)?;
-        let count = stream.read(bytes)?;
-        let time = begin.elapsed(self.rt)?;
-        let was_begun = self.frame.is_begun();
-        let is_ended = self.frame.take_all(&bytes[..count]);
-        self.waited = if was_begun && !is_ended {
-            self.waited.saturating_add(time)
-        } else {
-            Duration::ZERO
-        };
+        let read = stream.read(bytes);
+        // A wait in which nothing came counts too.
+        if self.frame.is_begun() {
+            self.waited = self.waited.saturating_add(begin.elapsed(self.rt)?);
+        }
+        let count = read?;
+        if self.frame.take_all(&bytes[..count]) {
+            self.waited = Duration::ZERO;
+        }
         Ok(count)
     }
 

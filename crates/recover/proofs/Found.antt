@@ -1,6 +1,7 @@
 -- A file that was found under a name is a node of each tree whose table leads to it.
-use Rattle.std.proofs.Common.{◌≡◌, ℕ, ◌+◌, ◌<◌, ◌≤◌, List, take, length, Option, Some, None, refl, sym, subst, ◌∙◌, arith, length-take}
+use Rattle.std.proofs.Common.{◌≡◌, ℕ, ◌+◌, ◌<◌, ◌≤◌, List, take, length, Option, Some, None, refl, sym, ap, subst, ◌∙◌, arith, length-take}
 use Rattle.std.specs.Prelude.{IfSome}
+use Rattle.std.proofs.lemmas.List.{take-take}
 use Rattle.std.proofs.lemmas.Option.{slice_get_within}
 use Rattle.limits.specs.declared.TheConstants.{PARTITION_START}
 use Rattle.drive.specs.Journal.{Event, held, next_of}
@@ -17,8 +18,10 @@ use Rattle.recover.specs.declared.walk.Named.{Named}
 use Rattle.recover.specs.declared.walk.Walk.{Walk}
 use Rattle.recover.specs.Forest.{IsAssigned, InsertsNumber}
 use Rattle.recover.specs.Seen.{AreSeen, WalksOn, IsFileSeen, IsNameSeen, VisitsName}
-use Rattle.recover.specs.Walk.{Begun, HasEntry, LeadsTo, LiesBelow, Tallied, Visits, nodes_of, reached_in, uniques_in}
+use Rattle.recover.specs.Walk.{Begun, HasDescriptors, HasEntry, LeadsTo, LiesBelow, Tallied, Visits, extent_in, nodes_of, reached_in, uniques_in}
+use Rattle.recover.proofs.LastExtent.{EndsBelow, ends_below}
 use Rattle.recover.proofs.Held.{length-held, lies_there}
+use Rattle.recover.proofs.Placed.{extent_same, listed_above}
 use Rattle.recover.proofs.Walks.{begun_more, file_seen, file_visits, visits_same}
 
 -- what lies below an address lies below those above it
@@ -30,7 +33,10 @@ higher : (H : List (List ℕ)) (top at entry_at : ℕ) (node : Named) → top �
 higher H top at entry_at node low (body, entry, below) =
     let within = slice_get_within (take top H) entry_at entry.block entry.there in
     let long = length-take top H in
-    let here : entry_at < top = omega (arith, within, long) in (
+    let here : entry_at < top = omega (arith, within, long) in
+    let f = entry.fields in
+    let ends = ends_below top (extent_in (take top H) f.size f.place) (subst (λ (o : Option Extent). IfSome o (LiesBelow top)) entry.extent below) in
+    let same : take top (take at H) ≡ take top H = take-take top at H low in (
       body,
       record {
         block = entry.block;
@@ -41,7 +47,10 @@ higher H top at entry_at node low (body, entry, below) =
         unique = entry.unique;
         links = entry.links;
         file = entry.file;
-        extent = entry.extent;
+        listed = listed_above top (take at H) f.size f.place (subst (λ (M : List (List ℕ)). HasDescriptors M f.size f.place) (sym same) entry.listed);
+        extent =
+            entry.extent ∙ sym (ap (λ (M : List (List ℕ)). extent_in M f.size f.place) same)
+            ∙ extent_same top (take at H) f.size f.place (take top (take at H)) (subst (λ (M : List (List ℕ)). IfSome (extent_in M f.size f.place) (EndsBelow top)) (sym same) ends);
       },
       lies_higher top at low body.extent below,
     )

@@ -1,13 +1,15 @@
 pub mod BelowLemmas
 pub mod Blocks
 pub mod Expected
-pub mod Extents
+pub mod LastExtent
 pub mod Forests
 pub mod Found
 pub mod Fronts
 pub mod Held
+pub mod Listed
 pub mod Maps
 pub mod Nodes
+pub mod Placed
 pub mod Refused
 pub mod Refusals
 pub mod Sets

@@ -19,7 +19,7 @@ use Rattle.model.specs.Identities.{HasIdentities}
 use Rattle.model.specs.Tree.{IsTree, Node, Path, Tree, found_directory, found_identity, has_names}
 use Rattle.durability.specs.Formats.{NodeFields, NodePlace}
 use Rattle.durability.specs.Formats.NodePlace.{Nowhere, Extent as MediumExtent, Extents, Inside}
-use Rattle.durability.specs.Volume.{HoldsBody, HoldsDirectory, HoldsFile, IsStoredAt, extent, graph_of}
+use Rattle.durability.specs.Volume.{HoldsBody, HoldsDirectory, HoldsFile, IsStoredAt, extent, firsts_at, graph_of}
 use Rattle.udf.specs.Said.{said_entries, said_entry, names_directory}
 use Rattle.udf.specs.Udf.{IsBlock, udf}
 use Rattle.udf.specs.Words.{directory_entries, directory_entry, icb_fields, icb_kind_of, name_kind, icb_place}
@@ -33,10 +33,11 @@ use Rattle.recover.specs.Forest.{IsAssigned}
 use Rattle.recover.specs.Nodes.{data_of, links_of}
 use Rattle.recover.specs.Refused.{Expects, IsBodyRefused, IsNamesRefused, IsReachRefused, IsVisitRefused}
 use Rattle.recover.specs.IdSet.{marked}
-use Rattle.recover.specs.Walk.{Begun, HasFileEntry, LeadsTo, LiesBelow, extent_in, icb_kind, nodes_of, reached_in, uniques_in}
-use Rattle.recover.proofs.Extents.{extents_below}
+use Rattle.recover.specs.Walk.{Begun, HasDescriptors, HasFileEntry, LeadsTo, LiesBelow, blocks_extent, extent_in, icb_kind, nodes_of, reached_in, uniques_in}
+use Rattle.recover.proofs.LastExtent.{extents_below}
 use Rattle.recover.proofs.Expected.{child_expects, drawn, not_deep, not_reached, not_seen}
 use Rattle.recover.proofs.Nodes.{extent_below}
+use Rattle.recover.proofs.Placed.{blocks_below}
 use Rattle.recover.proofs.Walks.{links_said, part_below}
 
 -- ---- what the entry of a node says
@@ -52,25 +53,43 @@ file_links (Bytes bytes) kind d file = refl
 file_links (Entries parent entries) kind d file = absurd (true≢false (d ∙ ap is_directory file))
 
 module _ (M : List (List ℕ)) (at : ℕ) (long : length M ≤ at) where
-  file_within : (size : ℕ) (place : NodePlace) (bytes : List ℕ) → HoldsFile udf M size place bytes → IfSome (extent_in size (icb_place place)) (λ (e : Extent). e.first + PARTITION_START + div_ceil e.size BLOCK_BYTES ≤ at)
+  file_within : (size : ℕ) (place : NodePlace) (bytes : List ℕ) → HoldsFile udf M size place bytes → IfSome (extent_in M size (icb_place place)) (λ (e : Extent). e.first + PARTITION_START + div_ceil e.size BLOCK_BYTES ≤ at)
   file_within size Nowhere bytes h = tt
   file_within size (MediumExtent first) bytes h = (let w = h.0 in omega (arith, w, long))
-  file_within size (Extents descriptors) bytes h = extents_below at M long size (udf.firsts descriptors) h.0
+  file_within size (Extents descriptors) bytes h =
+      extents_below at M long (blocks_extent size descriptors) size (firsts_at udf M size descriptors) (blocks_below at M long size descriptors h.0) h.1
   file_within size (Inside inside) bytes h = tt
 
   directory_within : (size : ℕ) (place : NodePlace) (parent : ℕ) (entries : List Entry) → HoldsDirectory udf M size place parent entries
-      → IfSome (extent_in size (icb_place place)) (λ (e : Extent). e.first + PARTITION_START + div_ceil e.size BLOCK_BYTES ≤ at)
+      → IfSome (extent_in M size (icb_place place)) (λ (e : Extent). e.first + PARTITION_START + div_ceil e.size BLOCK_BYTES ≤ at)
   directory_within size Nowhere parent entries h = tt
   directory_within size (MediumExtent first) parent entries h = (let w = h.0 in omega (arith, w, long))
   directory_within size (Extents descriptors) parent entries h = absurd h
   directory_within size (Inside inside) parent entries h = tt
 
-  body_within : (fields : NodeFields) (body : Body) → HoldsBody udf M fields body → IfSome (extent_in fields.size (icb_place fields.place)) (λ (e : Extent). e.first + PARTITION_START + div_ceil e.size BLOCK_BYTES ≤ at)
+  body_within : (fields : NodeFields) (body : Body) → HoldsBody udf M fields body → IfSome (extent_in M fields.size (icb_place fields.place)) (λ (e : Extent). e.first + PARTITION_START + div_ceil e.size BLOCK_BYTES ≤ at)
   body_within fields (Bytes bytes) h = file_within fields.size fields.place bytes h.1
   body_within fields (Entries parent entries) h = directory_within fields.size fields.place parent entries h.1
 
+-- its descriptor blocks are on the medium
+file_listed : (M : List (List ℕ)) (size : ℕ) (place : NodePlace) (bytes : List ℕ) → HoldsFile udf M size place bytes → HasDescriptors M size (icb_place place)
+file_listed M size Nowhere bytes h = tt
+file_listed M size (MediumExtent first) bytes h = tt
+file_listed M size (Extents descriptors) bytes h = h.0
+file_listed M size (Inside inside) bytes h = tt
+
+directory_listed : (M : List (List ℕ)) (size : ℕ) (place : NodePlace) (parent : ℕ) (entries : List Entry) → HoldsDirectory udf M size place parent entries → HasDescriptors M size (icb_place place)
+directory_listed M size Nowhere parent entries h = tt
+directory_listed M size (MediumExtent first) parent entries h = tt
+directory_listed M size (Extents descriptors) parent entries h = absurd h
+directory_listed M size (Inside inside) parent entries h = tt
+
+body_listed : (M : List (List ℕ)) (fields : NodeFields) (body : Body) → HoldsBody udf M fields body → HasDescriptors M fields.size (icb_place fields.place)
+body_listed M fields (Bytes bytes) h = file_listed M fields.size fields.place bytes h.1
+body_listed M fields (Entries parent entries) h = directory_listed M fields.size fields.place parent entries h.1
+
 -- the blocks of a directory hold it
-directory_at : (M : List (List ℕ)) (size : ℕ) (place : NodePlace) (parent : ℕ) (entries : List Entry) (e : Extent) → extent_in size (icb_place place) ≡ Some e → HoldsDirectory udf M size place parent entries
+directory_at : (M : List (List ℕ)) (size : ℕ) (place : NodePlace) (parent : ℕ) (entries : List Entry) (e : Extent) → extent_in M size (icb_place place) ≡ Some e → HoldsDirectory udf M size place parent entries
     → All IsBlock (extent M e.first e.size) × IsDirectory parent (directory_entries entries) e.first e.size (extent M e.first e.size)
 directory_at M size Nowhere parent entries e some h = absurd h
 directory_at M size (Inside inside) parent entries e some h = absurd h
@@ -118,7 +137,10 @@ module _ (M : List (List ℕ)) (before : Walk) (long : length M ≤ before.at) (
   links_hold = makes.links path node.address e.stored e.reach e.there
 
   abbrev body_of : ReadBody
-  body_of = record { links = e.stored.links; extent = extent_in fields.size fields.place }
+  body_of = record { links = e.stored.links; extent = extent_in M fields.size fields.place }
+
+  has_descriptors : HasDescriptors M fields.size fields.place
+  has_descriptors = body_listed M there.fields e.stored.body there.body
 
   abbrev has_entry : (entry_at : ℕ) → LeadsTo before.entries.now node.address entry_at → HasFileEntry M entry_at node body_of
   has_entry entry_at leads = record {
@@ -130,11 +152,12 @@ module _ (M : List (List ℕ)) (before : Walk) (long : length M ≤ before.at) (
     unique = there.identity ∙ e.identity;
     links = there.links;
     file = λ file. there.links ∙ links_hold ∙ file_links e.stored.body node.kind e.kind file;
+    listed = has_descriptors;
     extent = refl;
   }
 
   lies_below : IfSome body_of.extent (LiesBelow before.at)
-  lies_below = extent_below fields.kind fields.size before.at fields.place is_entry.fits.place (body_within M before.at long there.fields e.stored.body there.body)
+  lies_below = extent_below M fields.kind fields.size before.at fields.place is_entry.fits.place has_descriptors (body_within M before.at long there.fields e.stored.body there.body)
 
   -- ---- so it is not refused
 
@@ -154,8 +177,8 @@ module _ (M : List (List ℕ)) (before : Walk) (long : length M ≤ before.at) (
           let block : has.block ≡ there.block = same_Some has.block there.block (sym has.there ∙ taken.there) in
           (one_entry has.fields fields node.address node.address there.block (subst (IsEntry has.fields node.address) block has.is) is_entry).0
 
-      one_extent : body.extent ≡ extent_in fields.size fields.place
-      one_extent = has.extent ∙ ap (λ (f : IcbFields). extent_in f.size f.place) one_fields
+      one_extent : body.extent ≡ extent_in M fields.size fields.place
+      one_extent = has.extent ∙ ap (λ (f : IcbFields). extent_in M f.size f.place) one_fields
 
       one_links : body.links ≡ links_in e.stored.body
       one_links = sym has.links ∙ ap (λ (f : IcbFields). f.links) one_fields ∙ there.links ∙ links_hold

@@ -24,7 +24,7 @@ use Rattle.model.specs.Tree.{Name}
 use Rattle.model.specs.Graph.{Graph, Stored, Entry, entries_of, is_directory as stored_is_directory}
 use Rattle.model.specs.Graph.Body.{Bytes, Entries}
 use Rattle.durability.specs.Formats.Kind.{File as MediumFile, Directory as MediumDirectory}
-use Rattle.durability.specs.Volume.{HoldsFile, HoldsDirectory, bytes_in_blocks, bytes_in_extents, extent, graph_of}
+use Rattle.durability.specs.Volume.{HoldsFile, HoldsDirectory, bytes_in_blocks, bytes_in_extents, extent, firsts_at, graph_of}
 use Rattle.udf.specs.Said.{said_entries, said_entry, said_fields, said_kind, said_place, names_directory}
 use Rattle.udf.specs.Udf.{IsBlock, udf}
 use Rattle.udf.proofs.Said.{entries_agree, directories_agree}
@@ -35,8 +35,9 @@ use Rattle.recover.specs.declared.walk.Walk.{Walk}
 use Rattle.recover.specs.Forest.{Forest, IsSeen, IsWalked, IsAssigned, AreAssigned, Adds, InsertsNumber, Numbers, by_address, by_identity, entries_named, height, files_in, directories_in}
 use Rattle.recover.specs.Forest.Forest.{End, Seen}
 use Rattle.recover.specs.Nodes.{data_of}
-use Rattle.recover.proofs.Extents.{ends_below, extents_within}
-use Rattle.recover.specs.Walk.{Begun, CountsWalk, HasFileEntry, HasListing, LeadsTo, LiesBelow, Tallied, Visits, extent_in, icb_kind, nodes_of, reached_in, uniques_in}
+use Rattle.recover.proofs.LastExtent.{ends_below, extents_within}
+use Rattle.recover.proofs.Listed.{firsts_number}
+use Rattle.recover.specs.Walk.{Begun, CountsWalk, HasDescriptors, HasFileEntry, HasListing, LeadsTo, LiesBelow, Tallied, Visits, blocks_extent, extent_in, icb_kind, nodes_of, reached_in, uniques_in}
 
 -- ---- parts of a medium
 
@@ -157,18 +158,24 @@ more_counts before now after depth a i s t n f b next c d =
 file_bytes : List (List ℕ) → ℕ → Place → List ℕ
 file_bytes M size Nowhere = []
 file_bytes M size (IcbExtent first) = bytes_in_blocks size (extent M first size)
-file_bytes M size (Extents descriptors) = bytes_in_extents M size (udf.firsts descriptors)
+file_bytes M size (Extents descriptors) = bytes_in_extents M size (firsts_at udf M size descriptors)
 file_bytes M size (Inside bytes) = bytes
 
 module _ (M : List (List ℕ)) (at : ℕ) (long : at ≤ length M) where
-  holds_file : (kind : IcbKind) (size : ℕ) (place : Place) → FitsPlace kind size place → IfSome (extent_in size place) (LiesBelow at) → HoldsFile udf M size (said_place place) (file_bytes M size place)
+  holds_file : (kind : IcbKind) (size : ℕ) (place : Place) → FitsPlace kind size place → HasDescriptors M size place → IfSome (extent_in M size place) (LiesBelow at)
+      → HoldsFile udf M size (said_place place) (file_bytes M size place)
   unfolding file_bytes
-  holds_file kind size Nowhere fits below = refl
-  holds_file kind size (IcbExtent first) fits below = (let b = below.below in omega (arith, b, long), refl)
-  holds_file kind size (Extents descriptors) fits below = (extents_within at M long size descriptors fits.2 (ends_below at (extent_in size (Extents descriptors)) below), refl)
-  holds_file kind size (Inside bytes) fits below = refl
+  holds_file kind size Nowhere fits listed below = refl
+  holds_file kind size (IcbExtent first) fits listed below = (let b = below.below in omega (arith, b, long), refl)
+  holds_file kind size (Extents descriptors) fits listed below = (
+    listed,
+    extents_within at M long (blocks_extent size descriptors) size (firsts_at udf M size descriptors) (firsts_number size descriptors fits.2 fits.3 M listed)
+        (ends_below at (extent_in M size (Extents descriptors)) below),
+    refl,
+  )
+  holds_file kind size (Inside bytes) fits listed below = refl
 
-  holds_directory : (size : ℕ) (place : Place) (e : Extent) (parent : ℕ) (entries : List Entry) → FitsPlace icb_kinds.Directory size place → extent_in size place ≡ Some e → LiesBelow at e
+  holds_directory : (size : ℕ) (place : Place) (e : Extent) (parent : ℕ) (entries : List Entry) → FitsPlace icb_kinds.Directory size place → extent_in M size place ≡ Some e → LiesBelow at e
       → udf.IsDirectory parent entries e.first e.size (extent M e.first e.size) → HoldsDirectory udf M size (said_place place) parent entries
   holds_directory size Nowhere e parent entries fits some below is = absurd (none-some e some)
   holds_directory size (Inside bytes) e parent entries fits some below is = absurd (none-some e some)
@@ -189,7 +196,7 @@ module _ (M : List (List ℕ)) (table : List (Option ℕ)) (node : Named) (body 
   file_seen at long file below =
       let f = entry.fields in
       let bytes = file_bytes M f.size f.place in
-      let holds = holds_file M at long f.kind f.size f.place entry.is.fits.place (subst (λ (o : Option Extent). IfSome o (LiesBelow at)) entry.extent below) in
+      let holds = holds_file M at long f.kind f.size f.place entry.is.fits.place entry.listed (subst (λ (o : Option Extent). IfSome o (LiesBelow at)) entry.extent below) in
       let kind : said_kind f.kind ≡ MediumFile = ap said_kind (entry.kind ∙ ap icb_kind file) in (
         record { identity = f.unique; moment = f.moment; links = f.links; body = Bytes bytes },
         record {

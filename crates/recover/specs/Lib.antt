@@ -1,5 +1,6 @@
 pub mod Below
 pub mod Blocks
+pub mod Extents
 pub mod Faults
 pub mod Forest
 pub mod ReadCache

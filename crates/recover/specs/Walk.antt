@@ -1,11 +1,12 @@
 -- What the walk through the nodes of a tree sees, and what it keeps.
-use Rattle.std.specs.Prelude.{◌≡◌, ℕ, ◌+◌, ◌<◌, ◌≤◌, ◌^◌, ◌-◌, nat_lt, if◌then◌else◌, min, Bool, IsTrue, List, [], ◌∷◌, Option, Some, None, IfSome, true, take, slice_get, All}
+use Rattle.std.specs.Prelude.{◌≡◌, ℕ, ◌+◌, ◌<◌, ◌≤◌, ◌^◌, ◌*◌, ◌-◌, ◌==◌, nat_lt, if◌then◌else◌, min, Bool, IsTrue, List, [], ◌∷◌, Option, Some, None, IfSome, true, take, slice_get, All}
 use Rattle.std.specs.Int.{div_ceil}
 use Rattle.limits.specs.declared.TheConstants.{BLOCK_BYTES, FILE_BYTES, PARTITION_START, PARTITION_BLOCKS, PATH_NAMES}
 use Rattle.drive.specs.Journal.{Event, held, next_of}
 use Rattle.icb.specs.declared.entry.Kind.{Kind as IcbKind}
 use Rattle.icb.specs.declared.entry.Kind.TheVariants as icb_kinds
 use Rattle.icb.specs.Entry.{Fields, Place, IsEntry}
+use Rattle.icb.specs.Extents.{next_number}
 use Rattle.icb.specs.Entry.Place.{Nowhere, Extent as IcbExtent, Extents, Inside}
 use Rattle.dir.specs.declared.entry.Dir.{Dir}
 use Rattle.dir.specs.declared.entry.Entry.{Entry as DirEntry}
@@ -13,7 +14,7 @@ use Rattle.dir.specs.declared.entry.Kind.{Kind}
 use Rattle.dir.specs.declared.entry.Kind.TheVariants.{File, Directory}
 use Rattle.dir.specs.Directory.{is_directory, IsDirectory}
 use Rattle.model.specs.Graph.{Graph, Stored, entries_of, is_directory as stored_is_directory}
-use Rattle.durability.specs.Volume.{graph_of}
+use Rattle.durability.specs.Volume.{AreListed, descriptor_blocks, firsts_at, graph_of}
 use Rattle.udf.specs.Said.{said_entries}
 use Rattle.udf.specs.Udf.{IsBlock, udf}
 use Rattle.recover.specs.declared.directory.Extent.{Extent}
@@ -49,12 +50,27 @@ abbrev pub last_of : Option Extent → ℕ → List ℕ → Option Extent
 last_of last size [] = last
 last_of last size (first ∷ firsts) = last_of (Some (later_of last (record { first = first; size = min size FILE_BYTES }))) (size - FILE_BYTES) firsts
 
--- where the bytes of a node lie, if blocks hold them: of several extents, the one that ends last
-abbrev pub extent_in : ℕ → Place → Option Extent
-extent_in size Nowhere = None
-extent_in size (IcbExtent first) = Some (record { first = first; size = size })
-extent_in size (Extents descriptors) = last_of None size (udf.firsts descriptors)
-extent_in size (Inside bytes) = None
+-- the extent of the descriptor blocks of a file of this size, if it has some
+abbrev pub blocks_extent : ℕ → List ℕ → Option Extent
+blocks_extent size descriptors = if descriptor_blocks size == 0 then None else Some (record { first = next_number descriptors; size = BLOCK_BYTES * descriptor_blocks size })
+
+-- of these and of the file's extents, the one that ends last
+abbrev pub last_listed : List (List ℕ) → ℕ → List ℕ → Option Extent
+last_listed medium size descriptors = last_of (blocks_extent size descriptors) size (firsts_at udf medium size descriptors)
+
+-- where the bytes of a node lie, if blocks hold them: of several extents and their descriptor blocks, the one that ends last
+abbrev pub extent_in : List (List ℕ) → ℕ → Place → Option Extent
+extent_in medium size Nowhere = None
+extent_in medium size (IcbExtent first) = Some (record { first = first; size = size })
+extent_in medium size (Extents descriptors) = last_listed medium size descriptors
+extent_in medium size (Inside bytes) = None
+
+-- the descriptor blocks of a node's entry, if it has some, are on the medium
+abbrev pub HasDescriptors : List (List ℕ) → ℕ → Place → Type 0
+HasDescriptors medium size Nowhere = Unit {0}
+HasDescriptors medium size (IcbExtent first) = Unit {0}
+HasDescriptors medium size (Extents descriptors) = AreListed udf medium size descriptors
+HasDescriptors medium size (Inside bytes) = Unit {0}
 
 -- the entry of a node is at this address, is what the directory above says, and says this
 pub record HasFileEntry (medium : List (List ℕ)) (entry_at : ℕ) (node : Named) (body : Body) : Type 0 where
@@ -66,7 +82,8 @@ pub record HasFileEntry (medium : List (List ℕ)) (entry_at : ℕ) (node : Name
   pub unique : fields.unique ≡ node.unique
   pub links : fields.links ≡ body.links
   pub file : node.kind ≡ File → fields.links ≡ 1
-  pub extent : body.extent ≡ extent_in fields.size fields.place
+  pub listed : HasDescriptors medium fields.size fields.place
+  pub extent : body.extent ≡ extent_in medium fields.size fields.place
 
 -- such an entry is there, and the bytes that it names lie below an address
 abbrev pub HasEntry : List (List ℕ) → ℕ → ℕ → Named → Type 0

@@ -1,21 +1,19 @@
 //! Nodes as they were read, by where they are.
 
-ghost use Rattle.limits.specs.declared.TheConstants.{BLOCK_BYTES, DIRECTORY_NAMES, GREATEST_FILE, PARTITION_BLOCKS, PARTITION_START};
-ghost use Rattle.std.specs.Prelude.{◌≡◌, ◌*◌, ◌<◌, ◌≤◌, IfSome, None, length};
+ghost use Rattle.limits.specs.declared.TheConstants.{BLOCK_BYTES, DIRECTORY_NAMES, PARTITION_BLOCKS, PARTITION_START};
+ghost use Rattle.std.specs.Prelude.{◌≡◌, ◌<◌, ◌≤◌, IfSome, length};
 ghost use Rattle.std.proofs.Props.{props};
-ghost use Rattle.icb.specs.Entry as icb;
-ghost use Rattle.udf.specs.Udf.{udf};
 ghost use Rattle.recover.specs.Nodes.{links_of};
-ghost use Rattle.recover.specs.Walk.{last_of, later_of};
 
 use crate::checked::CheckedFiles;
 use crate::directory::{Extent, link_count, read_directory};
+use crate::extents::extent_of;
 use crate::fault::{StoreFault, damaged};
 use crate::places::reach;
 use crate::reading::read_into;
 use dir::Dir;
 use drive::Drive;
-use icb::{FileEntry, Kind, Place, decode_fe, extent_count, extent_first, extent_size};
+use icb::{Kind, decode_fe};
 use limits::BLOCK_SIZE;
 use std::alloc::Global;
 use std::collections::HashMap;
@@ -33,85 +31,47 @@ pub(crate) struct NodeEntry {
     pub kind: Kind,
     pub unique: u64,
     pub links: u16,
-    /// The extent of the node's bytes, or the one of several that ends last. None where no block holds them.
+    /// The extent of the node's bytes, or of several and their descriptor blocks the one that ends last. None where no block
+    /// holds them.
     pub extent: Option<Extent>,
     pub ghost fits: { IfSome extent (λ e. (0 < e.size) × (e.first ≤ PARTITION_BLOCKS)) } by { Prim.hlevel props },
 }
 
 impl NodeEntry {
-    ghost use Rattle.std.specs.Prelude.{◌≡◌, ◌<◌, IsTrue, IfOk, IfErr};
+    ghost use Rattle.std.specs.Prelude.{◌≡◌, ◌<◌, ◌≤◌, IsTrue, IfOk, IfErr};
     ghost use Rattle.drive.specs.Journal.{held, next_of};
-    ghost use Rattle.icb.specs.Entry.{FitsPlace, place_of};
     ghost use Rattle.drive.specs.Reads.{ReadsOnly};
     ghost use Rattle.recover.specs.Faults.{devices};
     ghost use Rattle.recover.specs.ReadCache.{IsEntrySaid, IsUnsaid};
-    ghost use Rattle.recover.specs.Walk.{extent_in};
 
-    /// Reads the entry that is there.
+    /// Reads the entry that is there, and its descriptor blocks, if it has some. If these do not end below the address
+    /// `below`, this is damage at the entry, with the cause `RANGE`.
     // (Not inlined, so that finding a kept entry takes no room for a block on the stack.)
     #[inline(never)]
-    pub(crate) fn read<D: Drive>(drive: &mut D, place: EntryPlace) -> Result<NodeEntry, StoreFault>
-        requires { place.at < next_of (D.journal drive.old) }
+    pub(crate) fn read<D: Drive>(
+        drive: &mut D,
+        place: EntryPlace,
+        below: u32,
+    ) -> Result<NodeEntry, StoreFault>
+        requires within { place.at < next_of (D.journal drive.old) }
+        requires below { below ≤ next_of (D.journal drive.old) }
         ensures described { IfOk result (λ entry. IsTrue (D.honest drive.new) → IsEntrySaid (held (D.journal drive.old)) place entry) }
-        ensures refused { IfErr result (λ fault. IsTrue (D.honest drive.new) → IsUnsaid (held (D.journal drive.old)) place fault) }
+        ensures refused { IfErr result (λ fault. IsTrue (D.honest drive.new) → IsUnsaid (held (D.journal drive.old)) below place fault) }
         ensures reads { ReadsOnly D.Drive (devices result) drive.old drive.new }
     {
         let mut block = [0; BLOCK_SIZE];
         read_into(drive, place.at, &mut block)?;
-        match decode_fe(&block, place.address) {
-            Ok(entry) => Ok(NodeEntry {
-                kind: entry.kind,
-                unique: entry.unique,
-                links: entry.links,
-                extent: NodeEntry::extent_of(&entry),
-            }),
-            Err(fault) => Err(damaged(place.at, fault.number())),
-        }
-    }
-
-    /// Where the bytes of a node are, if blocks hold them. Of several extents it is the one that ends last: all are
-    /// below an address if that one is.
-    fn extent_of(entry: &FileEntry<'_>) -> Option<Extent>
-        requires place { FitsPlace entry.now.kind entry.now.size (place_of entry.now.place) }
-        requires limit { entry.now.size ≤ GREATEST_FILE }
-        ensures { result ≡ extent_in entry.now.size (place_of entry.now.place) }
-    {
-        match entry.place {
-            Place::Extent(first) => Some(Extent {
-                first,
-                size: entry.size,
-            }),
-            Place::Extents(descriptors) => last_extent(entry.size, descriptors),
-            Place::None => None,
-            Place::Inside(_) => None,
-        }
-    }
-}
-
-/// The extent that ends last, of those of a file of this size.
-pub fn last_extent(size: u32, descriptors: &[u8]) -> Option<Extent>
-    requires limit { size ≤ GREATEST_FILE }
-    requires long { length descriptors.now ≡ 16 * icb.extent_count size }
-    ensures { result ≡ last_of None size (udf.firsts descriptors.now) }
-{
-    let mut last = None;
-    for index in 0..extent_count(size) {
-        let extent = Extent {
-            first: extent_first(descriptors, index),
-            size: extent_size(size, index),
+        let entry = match decode_fe(&block, place.address) {
+            Ok(entry) => entry,
+            Err(fault) => return Err(damaged(place.at, fault.number())),
         };
-        last = Some(later(last, extent));
-    }
-    last
-}
-
-/// The extent, or one before it that ends after it.
-fn later(last: Option<Extent>, extent: Extent) -> Extent
-    ensures { result ≡ later_of last extent }
-{
-    match last {
-        Some(last) if last.end() >= extent.end() => last,
-        _ => extent,
+        let extent = extent_of(drive, place.at, &entry, below)?;
+        Ok(NodeEntry {
+            kind: entry.kind,
+            unique: entry.unique,
+            links: entry.links,
+            extent,
+        })
     }
 }
 

@@ -3,10 +3,10 @@
 //! Promised: each call only reads, so the drive's journal stays as it was. Each refusal is one of `StoreFault`.
 //! `Device` is reported only if the drive counted a failure. On a drive whose reads are honest, `last` finds the last
 //! VAT ICB, from the end, and what is read is what the medium has. `state_at` looks at every node that a table leads
-//! to, and returns the state that the blocks below the VAT ICB hold. If that VAT ICB is the last, the medium recovers
-//! to this state. If damage is reported, there is no such state. `state_sharing` returns the same, and reads no node
-//! again that the state of the previous call had. For a file that is where it was found under its name, it checks only
-//! where the table leads.
+//! to, and returns the state that the blocks below the VAT ICB hold. The descriptor blocks of a file are read and
+//! checked with its entry. If that VAT ICB is the last, the medium recovers to this state. If damage is reported, there
+//! is no such state. `state_sharing` returns the same, and reads no node again that the state of the previous call had.
+//! For a file that is where it was found under its name, it checks only where the table leads.
 //!
 //! The crate also has what the crates above share for reading: `Node` and `ROOT`, as directories name nodes; `Extent`,
 //! by which `read_directory` finds a directory; and `StoreFault`, the refusals of every call on a volume, since these
@@ -18,6 +18,7 @@
 pub mod cause;
 mod checked;
 mod directory;
+mod extents;
 mod fault;
 mod id_set;
 mod kept;
@@ -31,8 +32,8 @@ mod table;
 mod walk;
 
 pub use directory::{Extent, read_directory};
+pub use extents::{bytes_from_block, last_extent};
 pub use fault::{StoreFault, damaged};
-pub use kept::last_extent;
 pub use laws::last_state_stands;
 pub use node::{Node, ROOT};
 pub use read_cache::ReadCache;

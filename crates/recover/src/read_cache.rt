@@ -114,23 +114,26 @@ impl ReadCache {
         self.entries.find(place)
     }
 
-    /// The entry at this place. It is read if it is not known.
+    /// The entry at this place. It is read if it is not known, with its descriptor blocks, which must end below the address
+    /// `below`.
     pub(crate) fn entry<D: Drive>(
         &mut self,
         drive: &mut D,
         place: EntryPlace,
+        below: u32,
     ) -> Result<NodeEntry, StoreFault>
         requires within { place.at < next_of (D.journal drive.old) }
+        requires below { below ≤ next_of (D.journal drive.old) }
         requires known { IsTrue (D.honest drive.old) → IsKnown (held (D.journal drive.old)) self.old }
         ensures described { IfOk result (λ entry. IsTrue (D.honest drive.new) → IsEntrySaid (held (D.journal drive.old)) place entry) }
-        ensures refused { IfErr result (λ fault. IsTrue (D.honest drive.new) → IsUnsaid (held (D.journal drive.old)) place fault) }
+        ensures refused { IfErr result (λ fault. IsTrue (D.honest drive.new) → IsUnsaid (held (D.journal drive.old)) below place fault) }
         ensures known { IsTrue (D.honest drive.new) → IsKnown (held (D.journal drive.new)) self.new }
         ensures reads { ReadsOnly D.Drive (devices result) drive.old drive.new }
     {
         match self.entries.find(place) {
             Some(entry) => Ok(entry),
             None => {
-                let entry = NodeEntry::read(drive, place)?;
+                let entry = NodeEntry::read(drive, place, below)?;
                 self.keep_entry(place, entry);
                 Ok(entry)
             }

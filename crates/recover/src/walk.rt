@@ -367,7 +367,7 @@ impl<'a> Walk<'a> {
         entry_at: u32,
     ) -> Result<Body, StoreFault>
         requires below { entry_at < self.old.at }
-        requires within { entry_at < next_of (D.journal drive.old) }
+        requires within { self.old.at ≤ next_of (D.journal drive.old) }
         requires known { IsTrue (D.honest drive.old) → IsKnown (held (D.journal drive.old)) known.old }
         ensures body { IfOk result (IsBodyRead (D.honest drive.new) (take self.old.at (held (D.journal drive.old))) self.old.at entry_at node.now) }
         ensures refused { IfErr result (λ fault. IsTrue (D.honest drive.new) → IsBodyRefused (take self.old.at (held (D.journal drive.old))) self.old entry_at node.now fault) }
@@ -379,7 +379,7 @@ impl<'a> Walk<'a> {
             at: entry_at,
             address: node.address,
         };
-        let entry = known.entry(drive, place)?;
+        let entry = known.entry(drive, place, self.at)?;
         if !is_kind(node.kind, entry.kind) || entry.unique != u64::from(node.unique) {
             return Err(damaged(entry_at, cause::IDENTITY));
         }

@@ -2,13 +2,14 @@
 use Rattle.std.proofs.Common.{◌≡◌, ℕ, ◌+◌, ◌*◌, ◌≤◌, ◌==◌, nat_lt, cond, Bool, true, false, List, [], ◌∷◌, ◌++◌, length, take, map, refl, sym, ap, ◌∙◌, arith}
 use Rattle.std.specs.Prelude.{sum}
 use Rattle.std.specs.Int.{div_ceil}
+use Rattle.std.proofs.lemmas.Bool.{eqb-true}
 use Rattle.std.proofs.lemmas.List.{take_more}
 use Rattle.std.proofs.lemmas.List.Sums.{sum_by-cons}
 use Rattle.std.proofs.lemmas.List.Elements.{All-head, All-tail}
 use Rattle.limits.specs.declared.TheConstants.{BLOCK_BYTES}
 use Rattle.model.specs.Tree.{Name}
 use Rattle.durability.specs.Formats.{identifier_size, identifiers_size}
-use Rattle.durability.specs.Volume.{blocks_for}
+use Rattle.durability.specs.Volume.{blocks_for, descriptor_blocks}
 use Rattle.durability.specs.Commit.{file_blocks}
 use Rattle.udf.specs.Udf.{spelled_length}
 use Rattle.table_update.specs.Outside.{outside}
@@ -44,12 +45,14 @@ names_are_short (name ∷ names) all =
     omega (arith, rest, head, sum_by-cons (λ (n : ℕ). n) (size_of name) (map size_of names))
 
 pub files_are_counted : FilesAreCounted
-files_are_counted kept bytes = alone (kept == 0)
+files_are_counted kept bytes short = go (kept == 0) refl
   where
-    new : (b : Bool) → 2 * div_ceil (length (cond b bytes [])) BLOCK_BYTES + 1 ≡ 2 * cond b (blocks_for (length bytes)) 0 + 1
+    new : (b : Bool) → 2 * div_ceil (length (cond b bytes [])) BLOCK_BYTES ≡ 2 * cond b (blocks_for (length bytes)) 0
     new true = refl
     new false = refl
 
-    alone : (b : Bool) → 2 * div_ceil (length (cond b (outside bytes) bytes)) BLOCK_BYTES + 1 ≡ 2 * cond b (file_blocks (length bytes)) (blocks_for (length bytes)) + 1
-    alone true = new (nat_lt 1872 (length bytes))
-    alone false = refl
+    -- a file that is written whole is in one extent
+    go : (b : Bool) → (kept == 0) ≡ b
+        → 2 * div_ceil (length (cond b (outside bytes) bytes)) BLOCK_BYTES + descriptor_blocks (kept + length bytes) + 1 ≡ cond b (2 * file_blocks (length bytes) + 1) (2 * blocks_for (length bytes) + descriptor_blocks (kept + length bytes) + 1)
+    go true is = (let none : kept ≡ 0 = eqb-true kept 0 is in omega (arith, none, short, new (nat_lt 1872 (length bytes))))
+    go false is = refl

@@ -1,14 +1,14 @@
 -- How many blocks a commit may take, computed from the sizes of what it writes.
 use Rattle.std.specs.Prelude.{◌≡◌, ℕ, ◌+◌, ◌*◌, ◌<◌, ◌≤◌, List, [], ◌∷◌, ◌++◌, length, map, take, slice_index_or, Option, Some, None, All}
 use Rattle.std.specs.Int.{div_ceil}
-use Rattle.limits.specs.declared.TheConstants.{BLOCK_BYTES}
+use Rattle.limits.specs.declared.TheConstants.{BLOCK_BYTES, FILE_BYTES}
 use Rattle.model.specs.Tree.{Name}
 use Rattle.model.specs.Operation.{code_of}
 use Rattle.model.specs.Session.{State, Request}
 use Rattle.model.specs.Graph.{Body}
 use Rattle.model.specs.Graph.Body.{Bytes, Entries}
 use Rattle.durability.specs.Formats.{identifiers_size}
-use Rattle.durability.specs.Volume.{Medium, blocks_for, RecoversTo}
+use Rattle.durability.specs.Volume.{Medium, blocks_for, descriptor_blocks, RecoversTo}
 use Rattle.durability.specs.Plan.{Writing, Written}
 use Rattle.durability.specs.Commit.{most_for_append, most_for_directory, table_size, need}
 use Rattle.udf.specs.Udf.{udf, spelled_length}
@@ -80,6 +80,8 @@ NamesAreCounted =
 abbrev pub NamesAreShort : Type 0
 NamesAreShort = (names : List Name) → All (λ name. spelled_length name ≤ 255) names → identifiers_size spelled_length names ≤ 40 + 296 * length names
 
--- a file's bytes after so many that stay, where they are outside its entry, and the entry
+-- a request's bytes of a file after so many that stay, where they are outside its entry, the file's descriptor blocks, and the entry
 abbrev pub FilesAreCounted : Type 0
-FilesAreCounted = (kept : ℕ) (bytes : List ℕ) → 2 * div_ceil (length (outside_after kept bytes)) BLOCK_BYTES + 1 ≡ most_for_append kept (length bytes)
+FilesAreCounted =
+    (kept : ℕ) (bytes : List ℕ) → length bytes ≤ FILE_BYTES
+    → 2 * div_ceil (length (outside_after kept bytes)) BLOCK_BYTES + descriptor_blocks (kept + length bytes) + 1 ≡ most_for_append kept (length bytes)

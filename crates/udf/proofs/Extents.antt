@@ -1,12 +1,8 @@
 -- The extents of a file that has several, one by one.
-use Rattle.std.proofs.Common.{◌≡◌, ℕ, zero, suc, ◌+◌, ◌-◌, ◌*◌, ◌/◌, ◌<◌, ◌≤◌, List, ◌∷◌, length, drop, get_or, Option, Some, refl, sym, ap, ◌∙◌, subst, arith}
+use Rattle.std.proofs.Common.{◌≡◌, ℕ, zero, suc, ◌+◌, ◌-◌, ◌*◌, ◌<◌, List, ◌∷◌, length, drop, get_or, Some, refl, sym, ap, ◌∙◌, arith}
 use Rattle.std.specs.Prelude.{slice_get, slice_index}
 use Rattle.std.proofs.lemmas.List.{get_or-drop, drop-drop}
-use Rattle.limits.specs.declared.TheConstants.{PARTITION_BLOCKS}
-use Rattle.ecma.specs.Blocks.{block_count}
 use Rattle.ecma.specs.Numbers.{u32_at}
-use Rattle.icb.specs.Entry.{AreExtents, extent_count, extent_size}
-use Rattle.icb.proofs.EntryLaws.{descriptor_first}
 use Rattle.udf.specs.Udf.{firsts_in}
 
 cell : (at i j : ℕ) (bytes : List ℕ) → j ≡ at + i → slice_index (drop at bytes) i ≡ slice_index bytes j
@@ -42,11 +38,3 @@ firsts_from n k descriptors lt =
     ∙ ap (λ (first : ℕ). first ∷ firsts_in (n - (k + 1)) (drop 16 (drop (16 * k) descriptors))) (u32_past (16 * k) 4 descriptors)
     ∙ ap (λ (rest : List ℕ). u32_at (16 * k + 4) descriptors ∷ firsts_in (n - (k + 1)) rest)
     (drop-drop 16 (16 * k) descriptors ∙ ap (λ (m : ℕ). drop m descriptors) (let e : 16 * k + 16 ≡ 16 * (k + 1) = omega arith in e))
-
--- each ends in the partition
-pub first_fits : (size : ℕ) (descriptors : List ℕ) → AreExtents 0 size descriptors → (k : ℕ) → k < extent_count size → u32_at (16 * k + 4) descriptors + block_count (extent_size size k) ≤ PARTITION_BLOCKS
-first_fits size descriptors all k lt =
-    let (first, within, stands) = all k lt in
-    let is : u32_at (16 * k + 4) descriptors ≡ first =
-    ap (λ (at : ℕ). u32_at (at + 4) descriptors) (let e : 16 * k ≡ 0 + 16 * k = omega arith in e) ∙ descriptor_first (0 + 16 * k) (extent_size size k) first descriptors (omega (arith, within)) stands in
-    omega (arith, is, within)

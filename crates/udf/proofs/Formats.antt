@@ -1,17 +1,19 @@
 -- The formats are exact, bounded, distinct and short.
-use Rattle.std.proofs.Common.{◌≡◌, ℕ, zero, suc, ◌+◌, ◌/◌, ◌-◌, ◌<◌, ◌≤◌, List, [], ◌∷◌, ◌++◌, length, map, replicate, refl, sym, ap, subst, ◌∙◌, inl, inr, arith}
+use Rattle.std.proofs.Common.{◌≡◌, ℕ, zero, suc, ◌+◌, ◌*◌, ◌/◌, ◌-◌, ◌<◌, ◌≤◌, List, [], ◌∷◌, ◌++◌, length, map, replicate, refl, sym, ap, subst, ◌∙◌, inl, inr, arith}
 use Rattle.std.specs.Prelude.{sum}
 use Rattle.std.specs.List.{All, concat}
 use Rattle.std.proofs.lemmas.Bool.{cases_lt}
 use Rattle.std.proofs.lemmas.List.{get_or_append_left, get_or-append_right, length-map}
 use Rattle.std.proofs.lemmas.List.Elements.{All-contains}
 use Rattle.std.proofs.lemmas.List.Sums.{sum_by-cons}
+use Rattle.limits.specs.declared.TheConstants.{FILE_BYTES, ENTRY_DESCRIPTORS, BLOCK_DESCRIPTORS}
 use Rattle.ecma.specs.Numbers.{u16_at}
 use Rattle.osta.specs.Compressed.{compressed}
 use Rattle.model.specs.Tree.{Name}
 use Rattle.model.specs.Graph.{Entry}
 use Rattle.durability.specs.Formats.{Block, AreExact, AreBounded, AreDistinct, AreShort, identifier_size}
 use Rattle.icb.specs.Entry.{Fields as IcbFields, IsEntry}
+use Rattle.icb.specs.Extents.{AreDescriptorBlocks}
 use Rattle.icb.proofs.VatIcbs.{one_entry}
 use Rattle.ecma.proofs.Seals.{begins}
 use Rattle.dir.specs.Identifier.{plain_size}
@@ -79,12 +81,20 @@ zeros_none n location e is = omega (arith, zeros_begin n, entry_begins e locatio
 directory_none : (parent first size : ℕ) (entries : List Entry) (blocks : List Block) → HoldsDirectory parent entries first size blocks → All (λ block. u16_at 0 block ≡ 257) blocks
 directory_none parent first size entries blocks h = (blocks_begin parent first size (directory_entries entries) blocks (sized blocks h.blocks_are) h.is).1
 
+descriptors_begin : (size first : ℕ) (blocks : List Block) → AreDescriptorBlocks size first blocks → All (λ block. u16_at 0 block ≡ 258) blocks
+descriptors_begin size first [] all k d lt = absurd (omega (arith, lt))
+descriptors_begin size first (block ∷ blocks) all zero d lt = begins 258 first _ block all.0.whole
+descriptors_begin size first (block ∷ blocks) all (suc k) d lt = descriptors_begin (size - FILE_BYTES * (BLOCK_DESCRIPTORS - 1)) (suc first) blocks all.1 k d (omega (arith, lt))
+
 pub distinct : AreDistinct udf
 distinct = record {
   kind = λ block location other f g a b. kind_one f.kind g.kind (ap (λ (x : IcbFields). x.kind) (one_entry (icb_fields f) (icb_fields g) location other block a b).0);
   zeros = λ location fields is. zeros_none 2048 location (icb_fields fields) is;
   directory = λ parent first size entries blocks h block there location fields is.
       let tag : u16_at 0 block ≡ 257 = All-contains (λ (b : Block). u16_at 0 b ≡ 257) blocks block (directory_none parent first size entries blocks h) there in
+      omega (arith, tag, entry_begins (icb_fields fields) location block is);
+  descriptors = λ size first blocks h block there location fields is.
+      let tag : u16_at 0 block ≡ 258 = All-contains (λ (b : Block). u16_at 0 b ≡ 258) blocks block (descriptors_begin (size - FILE_BYTES * (ENTRY_DESCRIPTORS - 1)) first blocks h) there in
       omega (arith, tag, entry_begins (icb_fields fields) location block is);
   set = λ label moment block h location fields is. omega (arith, begins 256 0 h.fields block h.whole, entry_begins (icb_fields fields) location block is);
 }

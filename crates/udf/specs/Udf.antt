@@ -7,6 +7,7 @@ use Rattle.model.specs.Graph.{Entry}
 use Rattle.durability.specs.Formats.{Block, Formats}
 use Rattle.ecma.specs.Numbers.{u32_at}
 use Rattle.icb.specs.Entry.{IsEntry}
+use Rattle.icb.specs.Extents.{HaveDescriptors, all_descriptors, next_number}
 use Rattle.icb.specs.FileSet.{IsFileSet}
 use Rattle.dir.specs.Directory.{IsDirectory}
 use Rattle.vat.specs.Table.{IsTableAt}
@@ -30,11 +31,17 @@ abbrev pub firsts_in : ℕ → List ℕ → List ℕ
 firsts_in zero descriptors = []
 firsts_in (suc n) descriptors = u32_at 4 descriptors ∷ firsts_in n (drop 16 descriptors)
 
+-- those of these
+abbrev pub all_firsts : List ℕ → List ℕ
+all_firsts descriptors = firsts_in (length descriptors / 16) descriptors
+
 -- A table may have its sessions in either version: what it says is the same.
 abbrev pub udf : Formats
 udf = record {
   IsEntry = λ fields block location. IsEntry (icb_fields fields) location block;
-  firsts = λ descriptors. firsts_in (length descriptors / 16) descriptors;
+  next = next_number;
+  HaveDescriptors = HaveDescriptors;
+  firsts = λ descriptors blocks. all_firsts (all_descriptors descriptors blocks);
   IsFileSet = λ label moment block. IsFileSet (record { label = label; moment = moment }) block;
   IsDirectory = HoldsDirectory;
   IsTable = λ table icb bytes. (version : Version) × IsTableAt icb (table_of version table) bytes;

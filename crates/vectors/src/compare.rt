@@ -79,6 +79,7 @@ fn with_words(
         "states" => volumes::states(alloc, medium, words),
         "moment" => structures::moment(alloc, words),
         "tag" => structures::tag(alloc, &medium.bytes, words),
+        "descriptors" => entries::descriptors(alloc, &medium.bytes, words),
         "directory" => directories::directory(alloc, &medium.bytes, words),
         "numbered" => directories::numbered(alloc, words),
         "spelling" | "name" | "label" | "dstring" => texts::written(alloc, name, words),

@@ -1,4 +1,4 @@
-use Rattle.std.proofs.Common.{ℕ, List, [], true, Ok, Err, inr, subst, arith}
+use Rattle.std.proofs.Common.{ℕ, List, [], true, Err, inr, subst, arith}
 use Rattle.std.specs.Prelude.{⊤}
 use Rattle.drive.specs.Journal.{Event}
 use Rattle.drive.specs.MemDrive.{journal_of}

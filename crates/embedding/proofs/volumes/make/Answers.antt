@@ -1,8 +1,5 @@
-use Rattle.std.proofs.Common.{Err, ap, subst, sym}
+use Rattle.std.proofs.Common.{Err, ap}
 use Rattle.recover.specs.declared.fault.StoreFault.{StoreFault}
-use Rattle.embedding.specs.declared.fault.Fault.{Fault}
-use Rattle.embedding.specs.Formats.{AreWordsRefused}
-use Rattle.embedding.proofs.Wording.{words_made, words_refused}
 use Rattle.embedding.proofs.volumes.make.Goals as goal
 
 pub returns-in-Err-clause-makes : goal.returns-in-Err-clause-makes

@@ -2,7 +2,7 @@ use Rattle.std.proofs.Common.{◌≡◌, ℕ, ◌+◌, sym, subst, ◌∙◌, ar
 use Rattle.std.proofs.lemmas.Bool.{both_ways}
 use Rattle.ecma.specs.Field.{IsAt}
 use Rattle.ecma.specs.Numbers.{u32_at}
-use Rattle.icb.specs.Entry.{long_descriptor}
+use Rattle.icb.specs.Extents.{long_descriptor}
 use Rattle.icb.proofs.EntryLaws.{descriptor_first}
 use Rattle.icb.proofs.rules.is_extent.Goals as goal
 

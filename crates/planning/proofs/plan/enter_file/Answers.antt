@@ -6,7 +6,7 @@ use Rattle.model.specs.Graph.{as_stored}
 use Rattle.model.specs.Graph.Body.{Bytes}
 use Rattle.durability.specs.Plan.{Writing}
 use Rattle.durability.specs.Volume.{bytes_in_extents}
-use Rattle.udf.specs.Udf.{udf}
+use Rattle.udf.specs.Udf.{all_firsts}
 use Rattle.lookup.specs.Extents.{full_size}
 use Rattle.planning.specs.declared.file.NewFile.{NewFile}
 use Rattle.planning.proofs.Replacing.{same_kept}
@@ -35,43 +35,43 @@ returns-in_default-clause-writings c medium = sym (ap (new_file medium c.args.mo
 
 pub returns-clause-written : goal.returns-clause-written
 returns-clause-written c medium kept =
-    let p = c.place_file-placed.result in
-    writes_one medium (file_writing medium c.args.moment p.file) c.args.numbers.now.next (file_data p ++ p.entry ∷ []) p.number (c.place_file-placed.ensures.written medium kept)
+    let p = c.in_ok-placed.placed in
+    writes_one medium (file_writing medium c.args.moment p.file) c.args.numbers.now.next (file_data p ++ p.entry ∷ []) p.number (c.in_ok-placed.ensures.written medium kept)
 
 pub returns-clause-kept : goal.returns-clause-kept
 returns-clause-kept c medium kept =
     let f = c.in-Some.file in
-    let p = c.place_file-placed.result.file in
+    let p = c.in_ok-placed.placed.file in
     let here : AreKeptOn medium f = subst (λ (o : Option NewFile). IfSome o (AreKeptOn medium)) c.in-Some.is kept in
-    same_kept medium f p (sym c.place_file-placed.ensures.kept) here
+    same_kept medium f p (sym c.in_ok-placed.ensures.kept) here
 
 pub returns-clause-enters : goal.returns-clause-enters
 returns-clause-enters c =
-    let p = c.place_file-placed.result in
-    let next = c.place_file-placed.new.self.next in
-    let ends : p.number + 1 ≡ c.args.numbers.now.next + length (file_data p ++ p.entry ∷ []) = c.place_file-placed.ensures.ends in
-    let later : c.args.numbers.now.next + PARTITION_START ≤ next + PARTITION_START = omega (arith, ends, c.place_file-placed.ensures.next) in
+    let p = c.in_ok-placed.placed in
+    let next = c.place_file.new.self.next in
+    let ends : p.number + 1 ≡ c.args.numbers.now.next + length (file_data p ++ p.entry ∷ []) = c.in_ok-placed.ensures.ends in
+    let later : c.args.numbers.now.next + PARTITION_START ≤ next + PARTITION_START = omega (arith, ends, c.in_ok-placed.ensures.next) in
     record {
       table = first_of (search rules, grind (arith, common_steps));
       fits = c.place_node.ensures.fits;
-      next = omega (arith, ends, c.place_file-placed.ensures.next);
-      most = omega (arith, c.place_file-placed.ensures.most, ap file_need c.in-Some.is);
-      below = λ h. c.place_node.ensures.below (next + PARTITION_START) (omega (arith, c.place_file-placed.ensures.next)) (below_later (c.args.numbers.now.next + PARTITION_START) (next + PARTITION_START) c.args.vat.now.entries.items later h);
+      next = omega (arith, ends, c.in_ok-placed.ensures.next);
+      most = omega (arith, c.in_ok-placed.ensures.most, ap file_need c.in-Some.is);
+      below = λ h. c.place_node.ensures.below (next + PARTITION_START) (omega (arith, c.in_ok-placed.ensures.next)) (below_later (c.args.numbers.now.next + PARTITION_START) (next + PARTITION_START) c.args.vat.now.entries.items later h);
       stays = c.place_node.ensures.stays;
     }
 
 pub returns-clause-writings : goal.returns-clause-writings
 returns-clause-writings c medium =
     let m = c.args.moment in
-    let e = c.place_file-placed.ensures in
-    let one : file_writing medium m c.place_file-placed.result.file ≡ file_writing medium m c.in-Some.file =
+    let e = c.in_ok-placed.ensures in
+    let one : file_writing medium m c.in_ok-placed.placed.file ≡ file_writing medium m c.in-Some.file =
     λ i. record {
       address = e.address i;
       kept = full_size (e.kept i);
-      firsts = udf.firsts (e.kept i);
-      stored = as_stored (e.unique i) m (Bytes (bytes_in_extents medium (full_size (e.kept i)) (udf.firsts (e.kept i)) ++ e.bytes i));
+      firsts = all_firsts (e.kept i);
+      stored = as_stored (e.unique i) m (Bytes (bytes_in_extents medium (full_size (e.kept i)) (all_firsts (e.kept i)) ++ e.bytes i));
     } in
     ap (λ (w : Writing). w ∷ []) one ∙ sym (ap (new_file medium m) c.in-Some.is)
 
-pub place_file-placed-requires : goal.place_file-placed-requires
-place_file-placed-requires c = record { room = omega (arith, c.requires.room, ap file_need c.in-Some.is) }
+pub place_file-requires : goal.place_file-requires
+place_file-requires c = record { room = omega (arith, c.requires.room, ap file_need c.in-Some.is) }

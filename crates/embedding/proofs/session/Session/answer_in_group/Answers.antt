@@ -1,4 +1,4 @@
-use Rattle.std.proofs.Common.{◌≡◌, ℕ, List, Option, None, inr, refl, subst, ◌∙◌, rules}
+use Rattle.std.proofs.Common.{◌≡◌, ℕ, List, Option, inr, refl, subst, ◌∙◌, rules}
 use Rattle.request.specs.Frames.{fed}
 use Rattle.embedding.specs.Grouped.{TurnsOver, shown}
 use Rattle.embedding.proofs.session.Session.answer_in_group.Goals as goal

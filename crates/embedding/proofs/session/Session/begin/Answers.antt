@@ -1,4 +1,4 @@
-use Rattle.std.proofs.Common.{◌≡◌, Some, refl, sym, ap, subst, rules}
+use Rattle.std.proofs.Common.{refl, sym, subst, rules}
 use Rattle.engine.specs.Situation.{IsReady, Situation}
 use Rattle.embedding.proofs.GroupCalls.{one_of}
 use Rattle.embedding.proofs.session.Session.begin.Goals as goal

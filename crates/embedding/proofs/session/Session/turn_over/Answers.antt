@@ -1,4 +1,4 @@
-use Rattle.std.proofs.Common.{◌≡◌, ℕ, Bool, true, inr, refl, sym, ap, subst, ◌∙◌, rules, ◌++◌}
+use Rattle.std.proofs.Common.{◌≡◌, true, inr, refl, sym, ap, subst, ◌∙◌, rules, ◌++◌}
 use Rattle.drive.specs.Gathering.{Gathering}
 use Rattle.drive.specs.Journal.{next_of}
 use Rattle.settling.specs.Phases.{two_phases}

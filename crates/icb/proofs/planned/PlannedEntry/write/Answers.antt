@@ -3,7 +3,7 @@ use Rattle.ecma.specs.LongAd.{long_ad}
 use Rattle.ecma.specs.declared.field.LongAd.{LongAd}
 use Rattle.icb.specs.declared.entry.Place.TheVariants as places
 use Rattle.ecma.specs.Blocks.{block_count}
-use Rattle.icb.specs.Entry.{last_size, long_descriptor}
+use Rattle.icb.specs.Extents.{last_size, long_descriptor}
 use Rattle.icb.specs.Entry.Place.{Extents}
 use Rattle.icb.proofs.EntryBlocks.{block_there, block_extended, block_in_extents}
 use Rattle.icb.proofs.planned.PlannedEntry.write.Goals as goal

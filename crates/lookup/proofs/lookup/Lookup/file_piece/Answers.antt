@@ -2,7 +2,7 @@ use Rattle.std.proofs.Common.{◌≡◌, ◌-◌, ◌+◌, ◌≤◌, ◌∙◌,
 use Rattle.std.specs.Prelude.{IsOkAnd}
 use Rattle.limits.specs.declared.TheConstants.{PARTITION_START}
 use Rattle.drive.specs.Journal.{AreWhole, Event, Once, held}
-use Rattle.durability.specs.Volume.{AreWithin, IsWithin, bytes_in_extents}
+use Rattle.durability.specs.Volume.{AreListed, AreWithin, IsWithin, bytes_in_extents, firsts_at}
 use Rattle.recover.specs.Blocks.{medium_bytes_at}
 use Rattle.recover.proofs.Held.{length-held}
 use Rattle.icb.specs.Entry as icb
@@ -125,7 +125,8 @@ returns-in_err-bytes-in-Extents-clause-read g c once honest s there file =
     let h = has_bytes at c.args.self.now.nodes.numbers.now J c.args.address s there file in
     let stored = stored_extents at J s there.fields c.in-Ok.entry h same c.in-Extents.descriptors c.in-Extents.is in
     let once1 = subst (λ (K : List Event). Once K) (sym p.reads.journal) once in
-    let read = c.in_err-bytes-in-Extents.ensures.read honest once1 (subst (λ (M : List (List ℕ)). AreWithin M c.in-Ok.entry.size (udf.firsts c.in-Extents.descriptors.now)) (sym (below_same p)) stored.0) in
+    let read = c.in_err-bytes-in-Extents.ensures.read honest once1 (subst (λ (M : List (List ℕ)). AreListed udf M c.in-Ok.entry.size c.in-Extents.descriptors.now) (sym (below_same p)) stored.0)
+    (subst (λ (M : List (List ℕ)). AreWithin M c.in-Ok.entry.size (firsts_at udf M c.in-Ok.entry.size c.in-Extents.descriptors.now)) (sym (below_same p)) stored.1) in
     failed c.from_residual-in_err-bytes-in-Extents.result _ _ _ c.from_residual-in_err-bytes-in-Extents.ensures.1 read.1
 
 pub returns-in_ok-bytes-in-Extents-clause-read : goal.returns-in_ok-bytes-in-Extents-clause-read
@@ -140,10 +141,11 @@ returns-in_ok-bytes-in-Extents-clause-read g c once honest s there file =
     let within : at ≤ length (held J) = omega (arith, length-held J, c.args.self.now.within) in
     let stored = stored_extents at J s there.fields c.in-Ok.entry h same c.in-Extents.descriptors c.in-Extents.is in
     let once1 = subst (λ (K : List Event). Once K) (sym p.reads.journal) once in
-    let read = c.in_ok-bytes-in-Extents.ensures.read honest once1 (subst (λ (M : List (List ℕ)). AreWithin M c.in-Ok.entry.size (udf.firsts c.in-Extents.descriptors.now)) (sym (below_same p)) stored.0) in
-    let is = read.0 ∙ ap (λ (M : List (List ℕ)). take c.min-count.result (drop c.args.offset (bytes_in_extents M c.in-Ok.entry.size (udf.firsts c.in-Extents.descriptors.now)))) (below_same p) in (
+    let read = c.in_ok-bytes-in-Extents.ensures.read honest once1 (subst (λ (M : List (List ℕ)). AreListed udf M c.in-Ok.entry.size c.in-Extents.descriptors.now) (sym (below_same p)) stored.0)
+    (subst (λ (M : List (List ℕ)). AreWithin M c.in-Ok.entry.size (firsts_at udf M c.in-Ok.entry.size c.in-Extents.descriptors.now)) (sym (below_same p)) stored.1) in
+    let is = read.0 ∙ ap (λ (M : List (List ℕ)). take c.min-count.result (drop c.args.offset (bytes_in_extents M c.in-Ok.entry.size (firsts_at udf M c.in-Ok.entry.size c.in-Extents.descriptors.now)))) (below_same p) in (
       λ whole body.
           let size = size_is at J s there.fields c.in-Ok.entry c.in-Ok.entry.kind h same c.in-Ok.ensures.found.fits.place once c.in_ok-block.ensures.block.whole within whole body in
-          piece_is s _ whole _ c.args.offset c.args.count c.in-Ok.entry.size c.min-count.result stored.1 body size c.min-count.ensures (c.new-in-Extents.ensures ∙ is),
+          piece_is s _ whole _ c.args.offset c.args.count c.in-Ok.entry.size c.min-count.result stored.2 body size c.min-count.ensures (c.new-in-Extents.ensures ∙ is),
       tt,
     )

@@ -7,7 +7,7 @@ use Rattle.planning.specs.Writings.{directory_writing}
 use Rattle.planning.specs.Changes.{new_writing}
 use Rattle.planning.specs.declared.change.NewContent.{NewContent}
 use Rattle.planning.proofs.Replacing.{nothing_kept}
-use Rattle.udf.specs.Udf.{udf}
+use Rattle.udf.specs.Udf.{all_firsts}
 use Rattle.planning.proofs.change.Change.put_new.Goals as goal
 
 pub returns-in-File-clause-put : goal.returns-in-File-clause-put
@@ -16,8 +16,8 @@ returns-in-File-clause-put c medium none empty =
     (λ i. record {
       address = e.address i;
       kept = full_size (e.kept i);
-      firsts = udf.firsts (e.kept i);
-      stored = as_stored (e.unique i) c.args.moment (Bytes (bytes_in_extents medium (full_size (e.kept i)) (udf.firsts (e.kept i)) ++ e.bytes i));
+      firsts = all_firsts (e.kept i);
+      stored = as_stored (e.unique i) c.args.moment (Bytes (bytes_in_extents medium (full_size (e.kept i)) (all_firsts (e.kept i)) ++ e.bytes i));
     } ∷ map directory_writing (empty i))
     ∙ sym (ap (λ (t : NewContent). new_writing c.args.address c.args.unique c.args.moment c.args.parent.address t ∷ []) c.in-File.is)
 

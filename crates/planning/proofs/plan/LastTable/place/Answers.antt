@@ -96,7 +96,8 @@ returns-clause-makes c =
 
 pub returns-in_err-file-clause-refused : goal.returns-in_err-file-clause-refused
 returns-in_err-file-clause-refused c medium takes =
-    absurd (false≢true (sym (c.in_err-file.ensures.used (file_used medium None c.args.moment c.args.change (view c.args.vat) takes))))
+    let p = err_from_is_err_and c.from_residual.result c.from_residual.ensures.1 in
+    rw p.1 (p.2 ∙ c.in_err-file.ensures.used (file_used medium None c.args.moment c.args.change (view c.args.vat) takes))
 
 pub returns-in_err-directories-clause-refused : goal.returns-in_err-directories-clause-refused
 returns-in_err-directories-clause-refused c medium takes =
