@@ -387,18 +387,16 @@ class Putting(Chaos):
             copy = shutil.copy(self.image, os.path.join(folder, "disc.img"))
             if "d s" not in self.client("ls", "/", "--image", copy).splitlines():
                 return {}
-            self.client("get", "-r", "--split", "/s", os.path.join(folder, "back"), "--image", copy)
+            self.client("get", "-r", "/s", os.path.join(folder, "back"), "--image", copy)
             return digests(os.path.join(folder, "back"))
 
     def stored(self, output: str, prefix: str) -> Set[bytes]:
         steps = [json.loads(line) for line in output.splitlines() if line.startswith('{"did": "stored"') and line.endswith("}")]
-        told = {os.fsencode(step.get("whole", step)["path"][len(prefix):]) for step in steps}
-        # A part is no file of the source.
-        return told & set(self.before)
+        return {os.fsencode(step["path"][len(prefix):]) for step in steps} & set(self.before)
 
     def test_put_that_deletes(self) -> None:
         self.keep()
-        words = ("put", "-r", self.source, "/s", "--split", "--delete-source")
+        words = ("put", "-r", self.source, "/s", "--delete-source")
 
         def check(output: str) -> None:
             self.require_kept(output, {path: digest for path, (digest, _) in self.on_volume().items()})

@@ -5,8 +5,9 @@ from __future__ import annotations
 
 import os
 import random
+import re
 import shutil
-from typing import List
+from typing import List, Set
 
 from .support import LARGE, WithArchive, digests, make_tree
 
@@ -17,7 +18,7 @@ TRIALS = 150 if LARGE else 6
 """Rooms that are tried, at random among all up to the one that is enough."""
 
 
-class FullDisk(WithArchive):
+class WithDisk(WithArchive):
     """An archive on a file system of its own, of which the test leaves so many bytes."""
 
     def setUp(self) -> None:
@@ -47,6 +48,10 @@ class FullDisk(WithArchive):
         for path, kept in ((self.archive, self.path("kept")), (self.source, self.path("kept source"))):
             shutil.rmtree(path)
             shutil.copytree(kept, path)
+
+
+class FullDisk(WithDisk):
+    """Whatever the disk has left, all goes on from there."""
 
     def trial(self, room: int) -> int:
         """Adds with so much room, which ends well or not; then there is room, and the same command finishes."""
@@ -81,3 +86,41 @@ class FullDisk(WithArchive):
         self.begin()
         ended = [self.trial(room) for room in self.rooms()]
         self.assertIn(1, ended)
+
+
+class AtOnce(WithDisk):
+    """A disk that is full is named at once, with the file that it has no room for. Only a drive that fails otherwise is waited for, which
+    takes ten seconds and is said."""
+
+    def full(self, room: int) -> str:
+        """The file, as an `add` with so much room names it; empty where the room is enough."""
+        self.fill_but(room)
+        done = self.add(status=None)
+        os.unlink(self.filler)
+        # What was waited for in vain says for how long. How long a command takes on a machine that is at work says nothing.
+        self.assertNotIn("tried for", done.errors)
+        if not done.status:
+            return ""
+        self.assertIn("is full", done.errors)
+        names = {found.group(1) for found in re.finditer(r"/(catalogue\.sqlite|T-000001(?:\.[a-z]+)+)", done.errors)}
+        self.assertEqual(len(names), 1, done.errors)
+        return names.pop()
+
+    def test_of_what_there_is(self) -> None:
+        """The ledger and the image are of a volume that has files."""
+        self.begin()
+        met: Set[str] = set()
+        for room in range(0, 100 * STEP, 4 * STEP):
+            self.again()
+            met.add(self.full(room))
+        self.assertLessEqual(met, {"catalogue.sqlite", "T-000001.ledger", "T-000001.img"})
+        self.assertEqual(len(met), 3)
+
+    def test_of_a_new_volume(self) -> None:
+        make_tree(self.source, 20, 3)
+        for room in (0, 32 * STEP, 130 * STEP):
+            self.init()
+            self.assertIn(self.full(room), {"catalogue.sqlite", "T-000001.img.new"})
+            self.add()
+            self.assertEqual(self.get_all(), digests(self.source))
+            shutil.rmtree(self.archive)

@@ -44,7 +44,7 @@ class ImageMounts(WithMounts, WithArchive):
     def fill(self, *words: str) -> None:
         """A volume that has the source."""
         self.client("format", self.image, "--capacity", "20000")
-        self.client("put", "-r", "--split", "--escape", self.source, "/s", "--image", self.image, *words)
+        self.client("put", "-r", "--escape", self.source, "/s", "--image", self.image, *words)
 
     def words(self) -> List[str]:
         return ["udfburn", "mount", self.image, self.folder]

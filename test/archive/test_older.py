@@ -136,7 +136,7 @@ class Older(WithOlder):
         before = digests(self.archive)["catalogue.sqlite".encode()]
         os.mkdir(self.catalogue + "-wal")
         for words in ((), ("--dry-run",)):
-            self.assertIn("check that the disk works and has room", self.do("rebuild", *words, status=1).errors)
+            self.assertIn("check that its disk works and has room", self.do("rebuild", *words, status=1).errors)
             self.assertEqual(digests(self.archive)["catalogue.sqlite".encode()], before)
         os.rmdir(self.catalogue + "-wal")
         self.assertEqual(self.rows(), rows)

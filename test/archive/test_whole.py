@@ -317,18 +317,35 @@ class InParts(Whole):
         self.assertEqual(self.do("check", "--data").last()["failures"], [])
         self.require_all()
 
-    def test_more_than_a_file_may_have(self) -> None:
-        """Two parts on one volume, gone on with where the first one was cut."""
-        self.init()
-        self.write("film", limits.GREATEST_FILE + 3_000_000)
-        self.cut(50)
+    def test_parts_of_more_extents_than_an_entry_lists(self) -> None:
+        """Each is as large as fits, and one is on each volume."""
+        self.init("--capacity", "66000")
+        self.write("film", 130 * MEBIBYTE)
+        self.add()
+        self.require_all()
+        found = [{name: size for name, size in files_of(self.image(number)).items() if name.startswith("data/s/film/=0")} for number in (1, 2)]
+        first = found[0]["data/s/film/=000000000000000"]
+        self.assertEqual(found, [{"data/s/film/=000000000000000": first}, {f"data/s/film/={first:015}": 130 * MEBIBYTE - first}])
+        self.assertEqual(first % MEBIBYTE, 0)
+        # An append asks for 1,029 blocks, and what `close` writes takes some more.
+        self.assertTrue(118 <= first // MEBIBYTE and 66_000 - os.path.getsize(self.image(1)) // limits.BLOCK < 2000)
+        self.do("close")
+        self.assertEqual(self.do("check", "--data").last()["failures"], [])
+
+    def test_one_file_where_a_volume_has_room(self) -> None:
+        """More extents than an entry lists, gone on with where the append was cut that writes the first descriptor block."""
+        self.init("--capacity", "140000")
+        self.write("small", 3 * MEBIBYTE)
+        self.write("film", 125 * MEBIBYTE + 5)
+        self.cut(116)
         blocks = os.path.getsize(self.image())
         self.add()
         self.require_all()
-        found = {name: size for name, size in files_of(self.image()).items() if name.startswith("data/s/film/=0")}
-        self.assertEqual(found, {"data/s/film/=000000000000000": limits.GREATEST_FILE, "data/s/film/=000000122683392": 3_000_000})
-        self.assertLess(os.path.getsize(self.image()) - blocks, 71 * MEBIBYTE)
+        found = {name: size for name, size in files_of(self.image()).items() if name.startswith("data/s/film")}
+        self.assertEqual(found, {"data/s/film": 125 * MEBIBYTE + 5})
+        self.assertLess(os.path.getsize(self.image()) - blocks, 14 * MEBIBYTE)
         self.assertEqual(self.unfinished(), [])
+        self.assertEqual(self.add().last()["same"], 2)
         self.do("close")
         self.assertEqual(self.do("check", "--data").last()["failures"], [])
 

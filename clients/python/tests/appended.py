@@ -9,13 +9,33 @@ import struct
 from typing import Dict, List, Tuple
 
 from udfburn.protocol.units import BlockNumber, Commit, Moment, Size, VirtualAddress
-from udfburn.reader import FileType, Medium, Volume
-from udfburn.reader.basics import BLOCK, EXTENT_BYTES, PARTITION, entity, write_dstring
+from udfburn.reader import DamageCause, FileType, Medium, Volume
+from udfburn.reader.basics import BLOCK, ENTRY_DESCRIPTORS, EXTENT_BYTES, PARTITION, entity, write_dstring, write_tag
+from udfburn.reader.descriptors import write_descriptors
 from udfburn.reader.directory import write_identifier
-from udfburn.reader.entry import Entry, write_entry
+from udfburn.reader.entry import END, Entry, extent_count, extent_size, read_entry, write_entry
 from udfburn.reader.table import ClientRecord, KeptReply, write_client
 
 MOMENT = Moment(1_700_000_000_123_456)
+
+ZEROS = bytes(BLOCK)
+"""A block of a hole in the image."""
+
+
+def marked(name: str, size: int, index: int) -> bytes:
+    """The bytes of an extent of a file that `Appender.marked` makes: what it is, and zeros."""
+    return f"extent {index} of {name}".encode()[: extent_size(Size(size), index)].ljust(extent_size(Size(size), index), b"\0")
+
+
+def causes_in_entry(entry: Entry, *changes: Tuple[int, bytes]) -> List[DamageCause]:
+    """The causes of an entry's block with other bytes at these places, and a tag that is made good."""
+    block = bytearray(write_entry(entry))
+    for at, data in changes:
+        block[at : at + len(data)] = data
+    length, = struct.unpack_from("<I", block, 172)
+    end = END + length if length <= 1872 and length % 16 == 0 else END
+    block[:16] = write_tag(261, bytes(block[16:end]), entry.location)
+    return [fault.cause for fault in read_entry(bytes(block), entry.location)[1]]
 
 
 class Appender:
@@ -63,12 +83,12 @@ class Appender:
         self.put(spelled)
         links = 1 + sum(old.is_directory for old in self.names)
         self.words[1] = self.put(write_entry(Entry(FileType.DIRECTORY, MOMENT, links, 0, Size(len(spelled)), BlockNumber(first), None, 1, 0, True)))
-        self._table()
+        self.commit_table()
 
     def append(self, name: str, data: bytes) -> None:
         """A commit that appends a piece to a file whose pieces are whole."""
         self._piece(name, data)
-        self._table()
+        self.commit_table()
 
     def file(self, name: str, data: bytes) -> None:
         """A file, piece by piece."""
@@ -76,16 +96,39 @@ class Appender:
         for at in range(EXTENT_BYTES, len(data), EXTENT_BYTES):
             self.append(name, data[at : at + EXTENT_BYTES])
 
+    def marked(self, name: str, size: int, spread: int = 3) -> None:
+        """A file of so many bytes that begins as one of a byte. Of each extent the first block alone is not a hole; after every few of
+        them there is a block that is not the file's. It takes the commits of the last three appends: those before them left no others."""
+        self.create(name, b"x")
+        firsts = []
+        count = extent_count(Size(size))
+        for index in range(count):
+            firsts.append(self.put(marked(name, size, index)[:BLOCK]))
+            self.blocks += [ZEROS] * (-(-extent_size(Size(size), index) // BLOCK) - 1)
+            self.blocks += [b"\xee" * BLOCK] if index % spread == 0 and index + 3 < count else []
+            self.number = self.begin + len(self.blocks)
+            if index + 3 >= count:
+                self.extents(name, min(EXTENT_BYTES * (index + 1), size), firsts)
+                self.commit_table()
+
+    def extents(self, name: str, size: int, firsts: List[int]) -> None:
+        """An entry of a file with these extents, after the descriptor blocks that it takes."""
+        _, virtual, unique = next(known for known in self.added if known[0] == name)
+        entry = Entry(FileType.FILE, MOMENT, 1, unique, Size(size), BlockNumber(firsts[0]), None, virtual, 0, True, tuple(map(BlockNumber, firsts[1:])))
+        if len(firsts) > ENTRY_DESCRIPTORS:
+            entry = entry._replace(descriptors=BlockNumber(self.number))
+        for block in write_descriptors(entry):
+            self.put(block)
+        self.words[virtual] = self.put(write_entry(entry))
+        self.contents[name] = (size, list(firsts))
+
     def _piece(self, name: str, data: bytes) -> None:
         old, firsts = self.contents[name]
         assert old % EXTENT_BYTES == 0 and 0 < len(data) <= EXTENT_BYTES
-        firsts = [*firsts, self.put(data)]
-        size = old + len(data)
-        _, virtual, unique = next(known for known in self.added if known[0] == name)
-        self.words[virtual] = self.put(write_entry(Entry(FileType.FILE, MOMENT, 1, unique, Size(size), BlockNumber(firsts[0]), None, virtual, 0, True, tuple(map(BlockNumber, firsts[1:])))))
-        self.contents[name] = (size, firsts)
+        self.extents(name, old + len(data), [*firsts, self.put(data)])
 
-    def _table(self) -> None:
+    def commit_table(self) -> None:
+        """The table and the VAT ICB, which end a commit."""
         self.commit = Commit(self.commit + 1)
         client = next((known for known in self.clients if known.client == 7), None)
         replies = client.replies[:3] if client is not None else ()
@@ -103,9 +146,11 @@ class Appender:
     def write(self) -> None:
         """Writes the commits after those of the image."""
         with open(self.image, "r+b") as file:
-            file.seek((self.begin + PARTITION) * BLOCK)
-            file.write(b"".join(self.blocks))
-            file.truncate()
+            for at, block in enumerate(self.blocks, self.begin + PARTITION):
+                if block is not ZEROS:
+                    file.seek(at * BLOCK)
+                    file.write(block)
+            file.truncate((self.begin + PARTITION + len(self.blocks)) * BLOCK)
 
 
 __all__ = ["MOMENT", "Appender"]

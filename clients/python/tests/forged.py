@@ -6,7 +6,8 @@ import struct
 from typing import Callable, Dict, List, NamedTuple, Optional
 
 from udfburn.protocol.units import BlockNumber, Moment, Size, VirtualAddress
-from udfburn.reader.basics import BLOCK, PARTITION, UNUSED, entity, write_dstring
+from udfburn.reader.basics import BLOCK, LONGEST_FILE, PARTITION, UNUSED, entity, write_dstring
+from udfburn.reader.descriptors import write_descriptors
 from udfburn.reader.directory import fits, write_identifier
 from udfburn.reader.entry import Entry, FileType, write_entry, write_file_set
 from udfburn.reader.front import blocks_of_front
@@ -276,10 +277,26 @@ def wrong_insides() -> bytes:
     return forge.image()
 
 
+def long_lists() -> bytes:
+    """Files of 879 extents, each with an entry of its own, which all lead to the same descriptor blocks, and these to one mebibyte."""
+    forge = Forge()
+    forge.begin()
+    firsts = (BlockNumber(forge.put(bytes(range(256)) * 4096)),) * 879
+    entry = Entry(FileType.FILE, MOMENT, 1, 16, LONGEST_FILE, firsts[0], None, 2, 0, True, firsts[1:], BlockNumber(forge.number))
+    for block in write_descriptors(entry):
+        forge.put(block)
+    first = forge.listing(lambda index: name_of(index, 2 + index, False), 40 * BLOCK)
+    while forge.left > 40:
+        forge.words.append(forge.put(write_entry(entry._replace(location=len(forge.words)))))
+    forge.words[1] = forge.node(FileType.DIRECTORY, 0, 40 * BLOCK, first, 1)
+    forge.table(1, len(forge.words) - 2, 1)
+    return forge.image()
+
+
 FORGED: Dict[str, Callable[[], bytes]] = {
     make.__name__: make for make in (
         one_data, own_entries, long_paths, one_file, one_table, many_tables, great_commits, wrong_entries, wrong_names, manifests, lost_files,
-        wrong_insides,
+        wrong_insides, long_lists,
     )
 }
 

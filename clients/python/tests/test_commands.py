@@ -164,8 +164,8 @@ class Commands(Local):
         self.assertIn("same /x/a", self.words("put", "--verbose", "-r", self.folder, "/x"))
         self.assertEqual(json.loads(self.words("put", "--json", "-r", self.folder, "/x")[0])["did"], "same")
 
-    def test_files_and_not_parts_are_counted(self) -> None:
-        """Also where some parts are there already."""
+    def test_files_and_not_pieces_are_counted(self) -> None:
+        """Also where the volume has an earlier file."""
         class Terminal(StringIO):
             def isatty(self) -> bool:
                 return True
@@ -176,7 +176,7 @@ class Commands(Local):
             terminal = Terminal()
             bar = Progress(False, False, StringIO(), terminal)
             with self.client() as client:
-                importer = Importer(client, ImportOptions(recursive=True, split=True), bar.told, bar.stored)
+                importer = Importer(client, ImportOptions(recursive=True), bar.told, bar.stored)
                 planned = importer.plan([(self.folder, ("x",))])
                 bar.begin(2, (3 << 20) + 1)
                 importer.run(planned)

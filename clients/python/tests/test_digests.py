@@ -9,7 +9,7 @@ import os
 import random
 import unittest
 from contextlib import redirect_stdout
-from typing import Dict, List, Optional, Type
+from typing import Dict, List, Optional
 from unittest import mock
 
 from udfburn import Client
@@ -18,7 +18,6 @@ from udfburn.commands import cli
 from udfburn import protocol as p
 from udfburn.ledger.digests import Files, SentFile
 from udfburn.wire.operations import Operation, Whole
-from udfburn.base.split import stored_paths
 from udfburn.protocol.units import Commit, Moment, Size
 
 from .server import honestly, request_of
@@ -33,10 +32,6 @@ def sha256(data: bytes) -> bytes:
 
 
 class Digests(WithServer):
-    def setUp(self) -> None:
-        super().setUp()
-        store_in_parts(self)
-
     def files(self) -> Files:
         with self.client() as client:
             return client.known_files()
@@ -142,18 +137,12 @@ class Digests(WithServer):
             self.assertEqual((client.digest_of("/e/big"), client.digest_of("/d/big")), (sha256(data), None))
 
     def store(self, client: Client, data: bytes, path: p.Path = ("big",)) -> None:
-        paths = stored_paths(path, len(data), True)
-        operations = []
-        for index, part in enumerate(paths):
-            whole = Whole(path, Size(len(data)), sha256(data)) if index == len(paths) - 1 else None
-            kind: Type[p.AnyRequest] = p.Replace if client.find(part) else p.Create
-            operations.append(Operation(kind, part, Moment(7), data[index * FULL : (index + 1) * FULL], whole=whole))
-        self.assertEqual({outcome.code for outcome in client.run(operations)}, {p.Code.DONE})
+        store_in_parts(client, path, data)
 
     def put(self) -> "list[dict[str, object]]":
         """Stores the folder `source` by the command, and gives what it prints for programs."""
         output = io.StringIO()
-        words = ["put", "-r", "--json", "--split", os.path.join(self.room, "source"), "/x", "--socket", self.server.path, "--ledger", self.ledger]
+        words = ["put", "-r", "--json", os.path.join(self.room, "source"), "/x", "--socket", self.server.path, "--ledger", self.ledger]
         with redirect_stdout(output):
             self.assertEqual(cli.main(words), 0)
         return [json.loads(line) for line in output.getvalue().split("\n") if line]
@@ -170,11 +159,7 @@ class Digests(WithServer):
         self.write("d/big", big)
         stored = {step["path"]: step for step in self.put() if step["did"] == "stored"}
         self.assertEqual(stored["/x/small"]["sha256"], sha256(b"small").hex())
-        self.assertNotIn("whole", stored["/x/small"])
-        for index in range(3):
-            self.assertEqual(stored[f"/x/d/big.{index:03}"]["sha256"], sha256(big[index * FULL : (index + 1) * FULL]).hex())
-        self.assertNotIn("whole", stored["/x/d/big.001"])
-        self.assertEqual(stored["/x/d/big.002"]["whole"], {"path": "/x/d/big", "bytes": len(big), "sha256": sha256(big).hex()})
+        self.assertEqual((stored["/x/d/big"]["sha256"], stored["/x/d/big"]["bytes"]), (sha256(big).hex(), len(big)))
         with self.client() as client:
             self.assertEqual((client.digest_of("/x/d/big"), client.digest_of("/x/small")), (sha256(big), sha256(b"small")))
 

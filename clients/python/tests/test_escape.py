@@ -148,7 +148,7 @@ class NotKept(WithPrograms):
                                " 2 moments outside 1970 to 2099 (the nearest one is stored), the times of 2 folders")
         if os.geteuid() == 0:
             os.chown(os.path.join(self.room, "source", "plain"), 12345, 12345)
-            self.assertEqual(self.put("--skip-odd", "--split", "-p")[1], {**wanted, "owners": 1})
+            self.assertEqual(self.put("--skip-odd", "-p")[1], {**wanted, "owners": 1})
 
     def test_nothing_is_said_of_a_plain_file(self) -> None:
         local = self.write("plain", b"x")

@@ -14,14 +14,17 @@ from udfburn.image.check_data import check_data
 from udfburn.image.coverage import Coverage
 from udfburn.protocol.units import BlockNumber, Commit, Moment, Size
 from udfburn.reader import DamageCause, FileType, Medium, Volume
-from udfburn.reader.basics import BLOCK, EXTENT_BYTES, GREATEST_FILE, PARTITION
+from udfburn.reader.basics import BLOCK, ENTRY_DESCRIPTORS, EXTENT_BYTES, PARTITION
 from udfburn.reader.budget import Budget
 from udfburn.reader.entry import END, EXTENT, Entry, read_entry, write_entry
 from udfburn.reader.mend import Hint, mend_entry
 from udfburn.salvage.salvage import FILE_DAMAGED, FILE_EARLIER, FILE_UNPROVED, FILE_WHOLE, Salvage
 
-from .appended import Appender
+from .appended import Appender, causes_in_entry
 from .forged import Forge
+
+ENTRY_FILE = ENTRY_DESCRIPTORS * EXTENT_BYTES
+"""The bytes of a file whose entry has all descriptors, at most."""
 
 SIZES = {"two": EXTENT_BYTES + 1, "whole": 2 * EXTENT_BYTES, "three": 2 * EXTENT_BYTES + 777}
 
@@ -44,18 +47,6 @@ class Entries(unittest.TestCase):
                 self.assertEqual((read._replace(check=0), faults), (wanted, []))
                 self.assertEqual([extent.size for extent in read.extents], [EXTENT_BYTES] * (count - 1) + [last])
 
-    def changed(self, entry: Entry, *changes: Tuple[int, bytes]) -> List[DamageCause]:
-        """The causes of an entry with other bytes and a tag that is made good."""
-        from udfburn.reader.basics import write_tag
-
-        block = bytearray(write_entry(entry))
-        for at, data in changes:
-            block[at : at + len(data)] = data
-        length, = struct.unpack_from("<I", block, 172)
-        end = END + length if length <= 1872 and length % 16 == 0 else END
-        block[:16] = write_tag(261, bytes(block[16:end]), 30)
-        return [fault.cause for fault in read_entry(bytes(block), 30)[1]]
-
     def test_faults(self) -> None:
         two = entry_of(EXTENT_BYTES + 5000)
         last = END + EXTENT.size
@@ -73,13 +64,13 @@ class Entries(unittest.TestCase):
         for cause, changes in cases.items():
             for change in changes:
                 with self.subTest(cause=cause, change=change):
-                    self.assertEqual(self.changed(two, *change)[:1], [cause])
-        self.assertEqual(self.changed(two, (last + 4, struct.pack("<I", 449_743 - 3))), [])
-        self.assertEqual(self.changed(entry_of(GREATEST_FILE), (56, struct.pack("<Q", GREATEST_FILE + 1)))[:1], [DamageCause.LENGTHS])
-        self.assertEqual(self.changed(two, (27, b"\4"), (44, b"\xa5\x14"))[:1], [DamageCause.LENGTHS])
+                    self.assertEqual(causes_in_entry(two, *change)[:1], [cause])
+        self.assertEqual(causes_in_entry(two, (last + 4, struct.pack("<I", 449_743 - 3))), [])
+        self.assertEqual(causes_in_entry(entry_of(ENTRY_FILE), (56, struct.pack("<Q", ENTRY_FILE + 1)))[:1], [DamageCause.LENGTHS])
+        self.assertEqual(causes_in_entry(two, (27, b"\4"), (44, b"\xa5\x14"))[:1], [DamageCause.LENGTHS])
 
     def test_wrong_bytes_are_mended(self) -> None:
-        for size in (EXTENT_BYTES + 1, 3 * EXTENT_BYTES, GREATEST_FILE - 5):
+        for size in (EXTENT_BYTES + 1, 3 * EXTENT_BYTES, ENTRY_FILE - 5):
             wanted = entry_of(size)
             for at in (8, 27, 40, 56, 58, 64, 72, 172, 173, END):
                 block = bytearray(write_entry(wanted))
@@ -185,7 +176,7 @@ class OnAVolume(unittest.TestCase):
         """An extent that does not end below the VAT ICB is named with cause 72, and the file is not there."""
         self.appender = Appender(self.image)
         self.appender.words[4] = self.appender.put(write_entry(entry_of(2 * EXTENT_BYTES + 777, 300_000 // 2)._replace(unique=18, location=4)))
-        self.appender._table()
+        self.appender.commit_table()
         self.appender.write()
         with Medium(self.image) as medium:
             volume = Volume(medium)

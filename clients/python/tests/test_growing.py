@@ -7,6 +7,7 @@ import os
 import random
 import unittest
 from typing import Any, Callable, Dict, List, Optional, Tuple
+from unittest import mock
 
 from udfburn import Client
 from udfburn.base import errors as e
@@ -96,10 +97,10 @@ class Put(Growing):
         self.assertEqual(self.files(), {f"/x/f{size}": content(size, size) for size in (MEBIBYTE, MEBIBYTE + 1, 2 * MEBIBYTE - 1, 2 * MEBIBYTE, 2 * MEBIBYTE + 1)})
 
     def test_too_large(self) -> None:
-        """Above what a file may have only --split stores it."""
+        """Above what a file may have nothing is sent."""
         with open(self.write("big", b""), "r+b") as file:
             file.truncate(p.limits.GREATEST_FILE + 1)
-        with self.assertRaisesRegex(e.DoesNotFit, "at most 122683392 .--split stores it in parts"):
+        with self.assertRaisesRegex(e.DoesNotFit, "has 921698305 bytes, and a file has at most 921698304"):
             self.put()
         self.assertEqual(self.volume.commits, 0)
 
@@ -412,8 +413,8 @@ class InMemory(Growing):
             for path, error in (("/d", e.IsDirectory), ("/no/film", e.NoParent), ("/" + "/".join("abcdefghijklmnopq"), e.TooDeep)):
                 with self.assertRaises(error):
                     client.put(path, content(1))
-            with self.assertRaises(e.TooLarge):
-                client.put("/film", bytes(p.limits.GREATEST_FILE + 1))
+            with self.assertRaises(e.TooLarge), mock.patch.object(p.limits, "GREATEST_FILE", PHOTO - 1):
+                client.put("/film", content(1))
         self.assertEqual(self.volume.commits, 1)
 
 

@@ -161,8 +161,8 @@ class Statuses(WithStub):
 
     def test_the_reason(self) -> None:
         """What failed below a call, with its errno and its path, is in the message; 28 is ENOSPC and 5 EIO on Linux."""
-        full = r"UDFBURN_NO_SPACE: the disk of the image is full .fsync: No space left on device. .tried"
-        self.fails(e.ConnectionFailed, full, answer="11", call="fsync", number="28")
+        full = r"UDFBURN_NO_SPACE: the disk of the image is full .fsync: No space left on device.: make room"
+        self.fails(e.DiskFull, full, answer="11", call="fsync", number="28")
         self.fails(e.ConnectionFailed, r"UDFBURN_DEVICE: .* .open of /a/disc.img: Input/output error. .tried", open="2", call="open", number="5")
         self.fails(e.ConnectionFailed, r"UDFBURN_DEVICE: .* .fstat of /a/disc.img. .tried", open="2", call="fstat")
         # That of another call is not taken for it.
@@ -183,7 +183,7 @@ class Statuses(WithStub):
     def test_of_an_answer(self) -> None:
         self.fails(e.ConnectionFailed, "UDFBURN_DEVICE", answer="2")
         self.fails(e.ConnectionFailed, "UDFBURN_MISUSE: another thread", answer="8")
-        self.fails(e.ConnectionFailed, "UDFBURN_NO_SPACE: the disk of the image is full", answer="11")
+        self.fails(e.DiskFull, "UDFBURN_NO_SPACE: the disk of the image is full", answer="11")
         self.fails(e.ConnectionFailed, "UDFBURN_MEMORY", answer="1")
 
     def test_no_answer(self) -> None:

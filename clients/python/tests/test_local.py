@@ -102,27 +102,14 @@ class Preflight(Local):
             with self.assertRaisesRegex(e.DoesNotFit, "No such file"):
                 put_all(client, [(os.path.join(self.folder, "missing"), ("y",))], ImportOptions())
 
-    def test_parts_that_would_be_other_files(self) -> None:
-        self.write("big", bytes(p.limits.FILE + 1))
-        self.write("big.001")
-        self.assertIn("/x/big.001: more than one", self.refused(split=True))
-
-    def test_names_of_parts(self) -> None:
-        """A name that is short enough, but not with the end that a part has."""
-        self.write("x" * 251, bytes(p.limits.FILE + 1))
-        self.write("y" * 250, bytes(p.limits.FILE + 1))
-        told = self.refused(split=True)
-        self.assertRegex(told, "x: the name of a part takes more than 255 bytes")
-        self.assertNotIn("y" * 250, told)
-
     def test_a_path_of_two_files_of_which_the_volume_has_one(self) -> None:
         """The one that is there would be replaced by the other, when its own source is gone."""
         here, there = self.write("here/a", b"one"), self.write("there/a", b"two")
-        big = self.write("parts/big", bytes(p.limits.FILE + 1))
+        big = self.write("large/big", bytes(p.limits.FILE + 1))
         with self.client() as client:
-            put_all(client, [(here, ("a",)), (big, ("big",))], ImportOptions(split=True))
-            options = ImportOptions(split=True, skip_same=True, delete_source=True)
-            for other, path in ((there, ("a",)), (there, ("big.001",)), (there, ("big",))):
+            put_all(client, [(here, ("a",)), (big, ("big",))], ImportOptions())
+            options = ImportOptions(skip_same=True, delete_source=True)
+            for other, path in ((there, ("a",)), (there, ("big",))):
                 with self.assertRaisesRegex(e.DoesNotFit, f"/{path[0]}: more than one"):
                     put_all(client, [(here, ("a",)), (big, ("big",)), (other, path)], options)
         self.assertTrue(os.path.exists(here) and os.path.exists(big))
@@ -137,19 +124,6 @@ class Preflight(Local):
         self.assertEqual((summary.files, self.volume.commits), (1, 0))
         self.assertTrue(os.path.exists(local))
         self.assertFalse(os.path.exists(self.ledger))
-
-    def test_a_dry_run_tells_what_goes(self) -> None:
-        """Also of a file that is there already, beside what a longer one of its name left."""
-        self.write("a", bytes(p.limits.FILE + 1))
-        self.put(split=True)
-        self.write("a")
-        with mock.patch.object(tree.Importer, "_remove_stale"):
-            self.put(split=True)
-        steps: List[Tuple[str, p.Path]] = []
-        with self.client() as client:
-            options = ImportOptions(recursive=True, split=True, skip_same=True, dry_run=True)
-            put_all(client, [(self.folder, ("x",))], options, lambda what, path, *_: steps.append((what, path)))
-        self.assertEqual(steps, [("same", ("x", "a")), ("would remove", ("x", "a.000")), ("would remove", ("x", "a.001"))])
 
     def test_the_program_that_looks_at_the_image(self) -> None:
         """It is the one that is named, also where the requests go to a socket."""
@@ -374,11 +348,11 @@ class Changes(Local):
 
         def sizes(count: int, **options: bool) -> List[int]:
             importer = tree.Importer(self.client(), ImportOptions(**options))  # type: ignore[arg-type]
-            return [len(chunk) for chunk in importer._chunks(Job(source, [()]) for _ in range(count))]
+            return [len(chunk) for chunk in importer._chunks(Job(source) for _ in range(count))]
 
         self.assertEqual(sizes(0), [])
         self.assertEqual(sizes(1500), [1024, 476])
-        for option in ("verify", "delete_source", "split"):
+        for option in ("verify", "delete_source"):
             self.assertEqual(sizes(150, **{option: True}), [64, 64, 22])
         with mock.patch.object(tree, "LIST_BYTES", 35):
             self.assertEqual(sizes(7), [3, 3, 1])

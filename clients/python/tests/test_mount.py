@@ -155,7 +155,7 @@ class Trees(WithImage):
         messages += [MakeDir(1, 3, Moment(9), ("y.parts",)), MakeDir(1, 4, Moment(9), ("y.parts", "00"))]
         messages += [Create(1, 5 + index, Moment(9), ("y.parts", "00", f"{index:03}"), part) for index, part in enumerate(parts)]
         self.send(messages + [MakeDir(1, 7, Moment(9), ("z.parts",)), Create(1, 8, Moment(9), ("w.000",), b"alone")])
-        with mock.patch("udfburn.base.split.FLAT", 1):
+        with mock.patch("udfburn.base.older_parts.FLAT", 1):
             latest = folder_at(self.view(), "latest")
             self.assertEqual(latest.names().keys(), {b"x", b"y", b"z.parts", b"w.000"})
             for name in ("x", "y"):

@@ -18,6 +18,7 @@ from typing import Callable, Dict, List, Optional
 
 from udfburn import Client
 from udfburn.base import errors as e
+from udfburn.base.unfinished import unfinished_path
 from udfburn.commands import cli
 from udfburn import protocol as p
 from udfburn.wire.connection import Connection
@@ -31,7 +32,6 @@ from udfburn.trees.tree import ImportOptions, put_all
 from .programs import PATIENCE, UDFBURN, WithPrograms
 from .server import honestly, is_probe, request_of
 from .test_kills import KILLS, killer
-from .with_files import store_in_parts
 from .with_server import WithServer
 
 FRAMES = "SELECT length(payload), origin, start, size_then FROM frame ORDER BY id"
@@ -53,7 +53,6 @@ class WithSource(WithServer):
 
     def setUp(self) -> None:
         super().setUp()
-        store_in_parts(self)
         self.data = random.Random(3).randbytes(LARGE_DATA + 5)
         self.source = self.write("source", self.data)
 
@@ -63,19 +62,19 @@ class WithSource(WithServer):
             file.write(data)
         return path
 
-    def put(self, *names: str, split: bool = False) -> None:
+    def put(self, *names: str) -> None:
         """Stores files under their names."""
         with self.client(patience=0.1) as client:
-            put_all(client, [(os.path.join(self.room, name), (name,)) for name in names], ImportOptions(split=split))
+            put_all(client, [(os.path.join(self.room, name), (name,)) for name in names], ImportOptions())
 
-    def begin(self, done: bool, *names: str, split: bool = False) -> None:
+    def begin(self, done: bool, *names: str) -> None:
         """A process that ends while the files are on their way."""
         if done:
             self.server.say = loses
         else:
             self.server.before = refuses
         with self.assertRaises((e.DriveFailed, e.ConnectionFailed)):
-            self.put(*(names or ("source",)), split=split)
+            self.put(*(names or ("source",)))
         self.server.say, self.server.before = honestly, lambda payload: None
         self.server.payloads.clear()
 
@@ -91,9 +90,9 @@ class WithSource(WithServer):
 
 class Sources(WithSource):
     def test_what_the_ledger_keeps(self) -> None:
-        """Of a small file all bytes; of a large one, and of each part of one in parts, where they are."""
+        """Of a small file all bytes; of a large one, and of each piece of one above a mebibyte, where they are."""
         self.write("small", bytes(LARGE_DATA - 1))
-        self.write("parts", bytes(MEBIBYTE + LARGE_DATA))
+        self.write("pieces", bytes(MEBIBYTE + LARGE_DATA))
         self.begin(False, "source", "small")
         with closing(sqlite3.connect(self.ledger)) as base:
             large, small = sorted(base.execute(FRAMES).fetchall(), key=lambda row: row[1] is None)
@@ -101,9 +100,9 @@ class Sources(WithSource):
         self.assertEqual(large, (1 + 24 + 1 + 2 + len("source") + 4, os.fsencode(self.source), 0, len(self.data)))
         self.assertEqual(small, (1 + 24 + 1 + 2 + len("small") + 4 + LARGE_DATA - 1, None, None, None))
         self.resumed()
-        self.begin(False, "parts", split=True)
+        self.begin(False, "pieces")
         with closing(sqlite3.connect(self.ledger)) as base:
-            found = {(start, size) for _, origin, start, size in base.execute(FRAMES) if origin == os.fsencode(self.path("parts"))}
+            found = {(start, size) for _, origin, start, size in base.execute(FRAMES) if origin == os.fsencode(self.path("pieces"))}
         self.assertEqual(found, {(0, MEBIBYTE + LARGE_DATA), (MEBIBYTE, MEBIBYTE + LARGE_DATA)})
 
     def path(self, name: str) -> str:
@@ -123,13 +122,14 @@ class Sources(WithSource):
                 self.assertEqual(self.volume.files()[(name,)], self.data)
                 self.assertEqual(self.volume.commits, commit)
 
-    def test_parts_sent_again_as_they_were(self) -> None:
+    def test_pieces_sent_again_as_they_were(self) -> None:
         data = random.Random(8).randbytes(2 * MEBIBYTE + LARGE_DATA)
         self.write("whole", data)
-        self.begin(False, "whole", split=True)
+        self.begin(False, "whole")
         done, lost = self.resumed()
-        self.assertEqual(([(path, code) for _, path, code, _ in done], lost), ([(f"/whole.00{index}", p.Code.DONE) for index in range(3)], []))
-        self.assertEqual(b"".join(self.volume.files()[(f"whole.00{index}",)] for index in range(3)), data)
+        name = unfinished_path(self.client().session().ledger.client, ("whole",))
+        self.assertEqual(([(path, code) for _, path, code, _ in done], lost), ([(p.show(name), p.Code.DONE)] * 3, []))
+        self.assertEqual(self.volume.files()[name], data)
 
     def changes(self) -> "Dict[str, Callable[[], None]]":
         """What may become of a source."""
@@ -246,11 +246,11 @@ class Sources(WithSource):
         del contents["f1"]
         self.assertEqual(self.volume.files(), {(name,): data for name, data in contents.items()})
 
-    def test_a_file_in_parts(self) -> None:
-        """Where one of its parts is gone, those after it are not stored either: it has no hole."""
+    def test_a_file_of_several_pieces(self) -> None:
+        """Where one of its pieces is gone, those after it are not stored either: it has no hole."""
         data = random.Random(9).randbytes(3 * MEBIBYTE + LARGE_DATA)
         self.write("whole", data)
-        self.begin(False, "whole", split=True)
+        self.begin(False, "whole")
         status = os.stat(self.path("whole"))
         with open(self.path("whole"), "r+b") as file:
             file.seek(MEBIBYTE + 7)
@@ -258,10 +258,9 @@ class Sources(WithSource):
         os.utime(self.path("whole"), ns=(status.st_atime_ns, status.st_mtime_ns))
         done, lost = self.resumed()
         self.assertEqual([code for _, _, code, _ in done], [p.Code.DONE] + [p.Code.ROOT] * 3)
-        self.assertEqual(lost, ["/whole.001", "/whole.002", "/whole.003"])
-        self.assertEqual(self.volume.files(), {("whole.000",): data[:MEBIBYTE]})
-        with self.client() as client:
-            self.assertEqual(client.known_files().wholes, {})
+        name = unfinished_path(self.client().session().ledger.client, ("whole",))
+        self.assertEqual(lost, [p.show(name)] * 3)
+        self.assertEqual(self.volume.files(), {name: data[:MEBIBYTE]})
 
     def test_what_is_given_up_stays_so(self) -> None:
         """Also where the process that gave it up was killed, and the source is there again."""

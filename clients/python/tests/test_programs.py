@@ -153,18 +153,18 @@ class Folders(WithPrograms):
         self.assertEqual(os.path.getsize(self.image) // 2048, 262 + (summary.blocks or 0) + (again.blocks or 0))
 
     def test_parts(self) -> None:
+        """A file as earlier versions stored it: read as one, left alone, and replaced by one."""
         self.serve()
         big = random.Random(3).randbytes(2 * p.limits.FILE + 5)
         local = self.write("source/big", big)
         folder = os.path.dirname(local)
         os.truncate(self.write("larger", b""), p.limits.GREATEST_FILE + 1)
-        self.assertIn("--split", self.run_command("put", os.path.join(self.room, "larger"), "/x", status=1))
-        # As earlier programs stored it.
-        store_in_parts(self)
+        self.assertIn("at most 921698304", self.run_command("put", os.path.join(self.room, "larger"), "/x", status=1))
         with self.client() as client:
-            put_all(client, [(folder, ("x",))], ImportOptions(recursive=True, split=True))
+            client.makedirs("/x")
+            store_in_parts(client, ("x", "big"), big)
         client = self.client()
-        self.run_command("put", "-r", "--split", folder, "/x")
+        self.assertIn("1 were there", self.run_command("put", "-r", "--split", folder, "/x"))
         self.assertEqual([name.name for name in client.list("/x")], ["big.000", "big.001", "big.002"])
         self.assertEqual(b"".join(client.get(f"/x/big.{index:03}") for index in range(3)), big)
         self.run_command("verify", "--split", folder, "/x", "--exact")
@@ -172,15 +172,8 @@ class Folders(WithPrograms):
         self.assertEqual(self.read("back"), big)
         self.run_command("get", "-r", "--split", "/x", os.path.join(self.room, "all"))
         self.assertEqual(self.read("all/big"), big)
-        # A smaller file of the same name leaves no part of the larger one.
+        # Another file of the same name leaves no part of it.
         self.write("source/big", big[: p.limits.FILE + 1])
-        self.run_command("put", "-r", "--split", folder, "/x")
-        self.assertEqual([name.name for name in client.list("/x")], ["big.000", "big.001"])
-        self.write("source/big", big[: p.limits.FILE])
-        self.run_command("put", "-r", "--split", folder, "/x")
-        self.assertEqual([name.name for name in client.list("/x")], ["big"])
-        self.run_command("verify", "--split", folder, "/x", "--exact")
-        self.write("source/big", big)
         self.run_command("put", "-r", "--split", "--verify", "--delete-source", folder, "/x")
         self.assertEqual([name.name for name in client.list("/x")], ["big"])
         self.assertFalse(os.path.exists(local))

@@ -29,7 +29,7 @@ SHARED = [
     Shared("ls", "archive.lookups commands.read", "the same"),
     Shared("mount", "archive.mount commands.mount", "the same"),
     Shared("status", "archive.queries commands.volume", "the same"),
-    Shared("BLOCK CLIENTS DEPTH GREATEST_FILE NODES", "protocol.limits reader.basics", "the reader shares no code with what writes, so it says the format's numbers itself"),
+    Shared("BLOCK CLIENTS DEPTH NODES", "protocol.limits reader.basics", "the reader shares no code with what writes, so it says the format's numbers itself"),
     Shared("Path show", "protocol.names reader.volume", "the same"),
     Shared("T", "reader.front reader.mend", "any type"),
 ]

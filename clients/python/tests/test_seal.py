@@ -16,7 +16,6 @@ from udfburn import protocol as p
 from udfburn.base.manifest import ManifestLine, bag_manifest, plain_manifest, read_manifest
 from udfburn.protocol.units import Moment
 from udfburn.trees.seal import seal_directory
-from udfburn.trees.tree import ImportOptions, put_all
 
 from . import bags
 from .model import File
@@ -99,7 +98,7 @@ class Bags(WithPrograms):
         """A copy by udfclient, and `sha256sum`: of names that both have."""
         names = [f"file {index:02}.txt" for index in range(30)]
         where = ["--image", self.image]
-        self.run_command("put", "-r", "--split", "--seal", self.tree(names), "/bag", where=where)
+        self.run_command("put", "-r", "--seal", self.tree(names), "/bag", where=where)
         folders = [self.copied()]
         if bags.copy_by_udfclient(self.image, os.path.join(self.room, "udfclient"), "TEST", 0):
             folders.append(os.path.join(self.room, "udfclient", "all"))
@@ -130,12 +129,13 @@ class Bags(WithPrograms):
 
     def test_files_in_parts(self) -> None:
         """The manifest has the parts, as other readers see them."""
-        self.write("source/big", os.urandom(2 * FULL + 9))
+        big = os.urandom(2 * FULL + 9)
+        self.write("source/big", big)
         where = ["--image", self.image]
-        store_in_parts(self)
         with Client(f"image:{self.image}", ledger=self.ledger, program=UDFBURN) as client:
-            put_all(client, [(os.path.join(self.room, "source"), ("bag", "data"))], ImportOptions(recursive=True, parents=True, split=True))
-        self.run_command("put", "-r", "--split", "--seal", os.path.join(self.room, "source"), "/bag", where=where)
+            client.makedirs("/bag/data")
+            store_in_parts(client, ("bag", "data", "big"), big)
+        self.run_command("put", "-r", "--seal", os.path.join(self.room, "source"), "/bag", where=where)
         bag = os.path.join(self.copied(), "bag")
         self.assertEqual(bags.faults(bag), [])
         self.assertEqual(sorted(bags.listed(bag, "manifest-sha256.txt")), [f"data/big.{index:03}" for index in range(3)])

@@ -1,26 +1,24 @@
-"""Trees that are copied and compared, what earlier ones left, and the blocks that one takes."""
+"""Trees that are copied and compared, and the blocks that one takes."""
 
 from __future__ import annotations
 
-import contextlib
 import inspect
 import os
 import stat
 import struct
 import unittest
-from typing import Any, Dict, Iterator, List
+from typing import Any, Dict, Iterator
 from unittest import mock
 
 from udfburn import Client
 from udfburn import protocol as p
-from udfburn.base import errors as e, split
+from udfburn.base import errors as e, older_parts
 from udfburn.image import blocks
 from udfburn.local import saving
 from udfburn.protocol.units import Address
-from udfburn.trees import fetch, tree
+from udfburn.trees import fetch
 from udfburn.trees.jobs import ImportOptions
 
-from .model import Volume
 from .with_files import Local
 
 
@@ -136,90 +134,11 @@ class Fetch(Local):
 
 
 class Parts(unittest.TestCase):
-    def test_names(self) -> None:
-        full = p.limits.FILE
-        self.assertEqual(split.stored_paths(("a", "b"), full, True), [("a", "b")])
-        self.assertEqual(split.stored_paths(("a", "b"), full + 1, True), [("a", "b.000"), ("a", "b.001")])
-        self.assertEqual(len(split.stored_paths(("b",), 3 * full, True)), 3)
-        self.assertEqual(split.stored_paths(("b",), 3 * full, False), [("b",)])
-
     def test_joined(self) -> None:
         full = p.limits.FILE
-        files, rest = split.joined_parts([("a.000", full), ("a.001", full), ("a.002", 5), ("a.003", 5), ("b.000", full), ("c.000", 5), ("c.001", 5), ("d.000", None), ("e", 1), ("e.000", full), ("e.001", 1)])
+        files, rest = older_parts.joined_parts([("a.000", full), ("a.001", full), ("a.002", 5), ("a.003", 5), ("b.000", full), ("c.000", 5), ("c.001", 5), ("d.000", None), ("e", 1), ("e.000", full), ("e.001", 1)])
         self.assertEqual(files, {"a": ["a.000", "a.001", "a.002"]})
         self.assertEqual(rest, ["a.003", "b.000", "c.000", "c.001", "d.000", "e", "e.000", "e.001"])
-
-
-class Left(Local):
-    """What an earlier file of a name left on the volume, and what only looks like that."""
-
-    def files(self) -> "dict[str, bytes]":
-        return {path[-1]: data for path, data in self.volume.files().items()}
-
-    def test_files_that_are_stored_together(self) -> None:
-        """None is removed for its name, and each is there when its source is deleted."""
-        big = bytes(p.limits.FILE + 1)
-        for name, data in (("log", b"log"), ("log.000", b"0"), ("log.001", b"1"), ("big", big), ("big.002", b"2")):
-            self.write(name, data)
-        wanted = {"log": b"log", "log.000": b"0", "log.001": b"1", "big.000": big[:-1], "big.001": big[-1:], "big.002": b"2"}
-        choices: List[Dict[str, bool]] = [{}, {"skip_same": True}, {}, {"skip_same": True, "delete_source": True}]
-        for options in choices:
-            self.assertEqual(self.put(split=True, **options).failures, [])
-            self.assertEqual(self.files(), wanted)
-        self.assertEqual(os.listdir(self.folder), [])
-
-    def test_files_that_were_stored_before(self) -> None:
-        """A file that is no first part is none that an earlier file left, nor are those after it."""
-        for name in ("log.000", "log.001", "log.002"):
-            self.write(name, name.encode())
-        self.put(split=True, delete_source=True)
-        self.write("log", b"log")
-        self.put(split=True, delete_source=True)
-        self.assertEqual(list(self.files()), ["log.000", "log.001", "log.002", "log"])
-        self.write("log", bytes(p.limits.FILE + 1))
-        self.put(split=True, delete_source=True)
-        self.assertEqual(list(self.files()), ["log.000", "log.001", "log.002"])
-
-    def test_what_was_left(self) -> None:
-        full = p.limits.FILE
-        choices: List[Dict[str, bool]] = [{}, {"skip_same": True}]
-        for before, size, left in ((2 * full + 1, 5, ["big"]), (2 * full + 1, full + 1, ["big.000", "big.001"]), (5, full + 1, ["big.000", "big.001"])):
-            for options in choices:
-                self.server.volume = Volume()
-                self.ledger = os.path.join(self.room, f"{before}-{size}-{len(options)}.sqlite")
-                self.write("big", bytes(before))
-                self.put(split=True)
-                self.write("big", bytes(size))
-                with contextlib.ExitStack() as stack:
-                    if options:
-                        stack.enter_context(mock.patch.object(tree.Importer, "_remove_stale"))
-                    self.put(split=True)
-                told = self.put(split=True, **options).skipped
-                # After a part that is shorter by now nobody can distinguish what was left from a file of its own.
-                doubtful = ["big.002"] if options and before > size > full else []
-                self.assertEqual(sorted(self.files()), left + doubtful)
-                self.assertEqual([line.split(":")[0] for line in told], [f"/x/{name}" for name in doubtful])
-
-    def test_a_file_behind_a_shorter_part(self) -> None:
-        """It is its own, and stays when the parts before it are replaced."""
-        self.write("big", bytes(p.limits.FILE + 1))
-        self.write("big.002", b"own")
-        self.put(split=True, delete_source=True)
-        for size, left in ((p.limits.FILE + 2, ["big.000", "big.001", "big.002"]), (5, ["big", "big.002"])):
-            self.write("big", bytes(size))
-            told = self.put(split=True, delete_source=True).skipped
-            self.assertEqual(sorted(self.files()), left)
-            self.assertEqual([line.split(":")[0] for line in told], ["/x/big.002"])
-
-    def test_directories(self) -> None:
-        with self.client() as client:
-            client.makedirs("/x/log.000")
-            client.makedirs("/x/big")
-        self.write("log", b"log")
-        self.put(split=True)
-        self.write("big", bytes(p.limits.FILE + 1))
-        self.assertIn("/x/big: is a directory, and", self.refused(split=True))
-        self.assertIn(("x", "log.000"), self.volume.nodes)
 
 
 class Reckoned(unittest.TestCase):
@@ -266,8 +185,8 @@ class Typed(unittest.TestCase):
             put("/nonexistent", "/x", recusive=True)
 
     def test_the_options_of_a_tree(self) -> None:
-        """Those of `put_tree` are those of the command, but for what says which command it is."""
-        wanted = set(ImportOptions._fields) - {"recursive", "skip_same", "delete_last"}
+        """Those of `put_tree` are those of the command, but for what says which command it is; `split` is accepted, and does nothing."""
+        wanted = set(ImportOptions._fields) - {"recursive", "skip_same", "delete_last"} | {"split"}
         self.assertEqual(set(self.calls()["put_tree"].parameters) - {"self", "local", "path", "told"}, wanted)
 
 

@@ -8,7 +8,7 @@ import unittest
 from typing import Iterable, List, Optional
 
 from udfburn.protocol.units import BlockNumber, Size
-from udfburn.reader import Medium, Volume, basics, directory, entry, front, table
+from udfburn.reader import Medium, Volume, basics, descriptors, directory, entry, front, table
 
 from .vectors import Answer, answers, shown, text_shown
 
@@ -28,7 +28,8 @@ def entry_said(read: entry.Entry) -> List[str]:
         return said + ["inside", *shown(read.inside)]
     if read.first is None:
         return said + ["nowhere"]
-    return said + (["extents", str(read.first), *map(str, read.others)] if read.others else ["extent", str(read.first)])
+    said += ["extents", str(read.first), *map(str, read.others)] if read.others else ["extent", str(read.first)]
+    return said if read.descriptors is None else said + ["next", str(read.descriptors)]
 
 
 def table_said(data: bytes) -> List[str]:
@@ -119,6 +120,20 @@ class Reader(unittest.TestCase):
                     assert read is not None
                     told = entry_said(read)
                     self.assertEqual(entry.write_entry(read), data)
+                self.assertEqual(told, answer)
+
+    def test_descriptors(self) -> None:
+        for case, data, question, answer in self.each("descriptors.txt", 190, "descriptors"):
+            with self.subTest(case):
+                number, size = BlockNumber(int(question[1])), Size(int(question[2]))
+                count = entry.extent_count(size)
+                extents = range(count if count <= basics.BLOCK_DESCRIPTORS else basics.BLOCK_DESCRIPTORS - 1)
+                read = descriptors.read_descriptor_block(data, number, size, extents)
+                told = first(read.faults)
+                if told is None:
+                    assert read.firsts is not None
+                    told = ["extents", *map(str, read.firsts)] + (["next", str(number + 1)] if len(extents) < count else [])
+                    self.assertEqual(descriptors.write_descriptor_block(number, size, extents, read.firsts), data)
                 self.assertEqual(told, answer)
 
     def test_file_sets(self) -> None:

@@ -163,15 +163,28 @@ class FullDisks(Local):
     """What is said is that the disk is full, and where."""
 
     def test_of_the_image(self) -> None:
+        """It is said at once, and of a drive that fails when it was waited for."""
         self.server.before = lambda payload: p.FAULT if request_of(payload) else None
-        for left, kind, told in ((1000, e.DiskFull, "the disk that .*disc.img is on is full: 1,000 bytes are left"), (10**9, e.DriveFailed, "the drive fails")):
-            with self.client(patience=0.1) as client, mock.patch("udfburn.wire.retrying.room_left", lambda path, left=left: left):
+        for left, patience, kind, told in (
+            (1000, PATIENCE, e.DiskFull, "the disk that .*disc.img is on is full: 1,000 bytes are left. Make room; .* continues$"),
+            (10**9, 0.1, e.DriveFailed, "the drive fails: .* .tried for"),
+        ):
+            with self.client(patience=patience) as client, mock.patch("udfburn.base.disk.room_left", lambda path, left=left: left):
                 client.line.image = "/somewhere/disc.img"
                 with self.assertRaisesRegex(kind, told):
                     client.create("/a", b"")
         with self.client(patience=0.1) as client, self.assertRaisesRegex(e.DriveFailed, "or its disk is full"):
             client.create("/a", b"")
 
+    def test_a_query(self) -> None:
+        """It takes no room, so it is asked again."""
+        faults = [p.FAULT, p.FAULT]
+        with self.client(patience=PATIENCE) as client, mock.patch("udfburn.base.disk.room_left", lambda path: 1000):
+            client.create("/a", b"x")
+            client.line.image = "/somewhere/disc.img"
+            self.server.before = lambda payload: faults.pop() if faults and not request_of(payload) else None
+            self.assertEqual(client.get("/a"), b"x")
+        self.assertEqual(faults, [])
 
     def test_of_the_ledger(self) -> None:
         """SQLite says so, here by a limit of its own; what was not kept was not sent."""
@@ -182,6 +195,10 @@ class FullDisks(Local):
                 for index in range(200):
                     client.create(f"/{index}", bytes(5000))
             commits = self.volume.commits
+            with mock.patch("udfburn.base.disk.room_left", lambda path: 1000):
+                with self.assertRaisesRegex(e.LedgerError, "cannot be written .database or disk is full.: its disk is full: 1,000 bytes are left. Make room"):
+                    client.create("/c", bytes(5000))
+            self.assertEqual(self.volume.commits, commits)
         with self.client() as client:
             self.assertEqual(client.resume(), [])
             self.assertEqual(self.volume.commits, commits)
@@ -202,8 +219,8 @@ class FullDaemon(WithPrograms):
             daemon.process = subprocess.Popen([UDFBURND, image, self.path], cwd=self.room, stderr=subprocess.DEVNULL, preexec_fn=limited)
             self.addCleanup(daemon.kill)
             daemon.await_socket()
-            for left, kind in ((1000, e.DiskFull), (10**9, e.DriveFailed)):
-                with self.client(patience=0.3) as client, mock.patch("udfburn.wire.retrying.room_left", lambda path, left=left: left):
+            for left, patience, kind in ((1000, PATIENCE, e.DiskFull), (10**9, 0.3, e.DriveFailed)):
+                with self.client(patience=patience) as client, mock.patch("udfburn.base.disk.room_left", lambda path, left=left: left):
                     with self.assertRaisesRegex(kind, self.image):
                         client.create("/a", bytes(5000))
                 with suppress(FileNotFoundError):

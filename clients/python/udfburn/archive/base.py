@@ -8,6 +8,7 @@ from contextlib import contextmanager
 from typing import Any, Dict, Iterable, Iterator, List, NamedTuple, Optional, Sequence, Tuple
 
 from ..base.beneath import new_given
+from ..base.disk import why_base_failed
 from ..base.durable import sync_folder
 from ..local.sources import shown
 from .config import without_password
@@ -125,7 +126,7 @@ class SqliteBase(Base):
     def _trouble(self, error: Exception) -> CatalogueError:
         told = f"{shown(self.path)}: {error}"
         if isinstance(error, sqlite3.OperationalError):
-            return CatalogueError(f"{told}: check that the disk works and has room, and run the command again")
+            return CatalogueError(f"{told}: {why_base_failed(self.path, error)}, and run the command again")
         return CatalogueError(f"{told}: 'udfburn-archive rebuild' rebuilds the catalogue from the volumes")
 
     def run(self, statement: str, values: Sequence[Any] = ()) -> List[Row]:

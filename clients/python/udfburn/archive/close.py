@@ -357,7 +357,10 @@ def read_payload(contents: Contents, rows: Sequence[Held], sent: Mapping[int, by
             damaged.append(file)
     for node in contents.payload():
         if node.path not in digests:
-            digests[node.path] = sha256(contents.bytes_of(node)).digest()
+            part = sha256()
+            for piece in contents.pieces_of(node):
+                part.update(piece)
+            digests[node.path] = part.digest()
             size += node.size
     return Payload([ManifestLine(digests[node.path], node.path) for node in contents.payload()], size, damaged)
 

@@ -8,7 +8,7 @@ from bisect import bisect_left, bisect_right
 from hashlib import sha256
 from typing import Dict, Iterator, List, Mapping, NamedTuple, Optional, Set, Tuple
 
-from ..base.manifest import MANIFEST, PAYLOAD_FOLDER, TAG_MANIFEST, read_manifest
+from ..base.manifest import LONGEST_MANIFEST, MANIFEST, PAYLOAD_FOLDER, TAG_MANIFEST, read_manifest
 from ..protocol import Path, limits
 from ..protocol.units import Address, Commit, Moment, Size
 from ..reader import FileType, Medium, NoVolume, Run, State, StateNode, Volume
@@ -121,7 +121,7 @@ def about_of(image: str) -> Optional[About]:
         with Medium(image) as medium:
             volume = Volume(medium)
             node = volume.state().find((ABOUT,))
-            return read_about(volume.read(node).data, image) if node is not None else None
+            return read_about(volume.read(node).data, image) if node is not None and node.size <= LONGEST_MANIFEST else None
     except (NoVolume, VolumeDiffers, ValueError, OverflowError, RecursionError, OSError):
         return None
 
@@ -201,7 +201,9 @@ class Contents:
         return {client.client for client in self.state.clients}
 
     def bytes_of(self, node: StateNode) -> bytes:
-        """The bytes of a file, or `VolumeDiffers` where a block cannot be read."""
+        """The bytes of a file that is read as one, or `VolumeDiffers` where a block cannot be read."""
+        if node.size > LONGEST_MANIFEST:
+            raise VolumeDiffers(f"{self.image}: {text_of(node.path)} has {node.size} bytes, which no such file of an archive has")
         return self._whole(node, self.volume.read(node))
 
     def sha256_of(self, node: StateNode) -> bytes:

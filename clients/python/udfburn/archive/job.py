@@ -62,10 +62,10 @@ class Part:
 
 
 class VolumeJob:
-    """A file, or those of its parts that go to one volume.
+    """A file, or the part of it that goes to one volume: one that no volume has room for is in parts.
 
-    `first` is the first mebibyte that is sent. Where a volume has parts before it already, `begun` is the first of those, `whole`
-    the folder of them and `commit` that of their description, and `added` when the run began that stored it.
+    `first` is the first mebibyte that is sent. Where the volume has a part before it already, `begun` is the first of that, `whole` the
+    folder of both and `commit` that of their description, and `added` when the run began that stored it.
     """
 
     def __init__(self, source: Source, digest: bytes = b"", first: int = 0, in_parts: bool = False):
@@ -143,12 +143,12 @@ class VolumeJob:
         if not self.in_parts:
             return self._plan_whole(tree, unfinished)
         if self.whole is not None:
-            return self._plan_parts(tree, partly, unfinished)
+            return self._plan_rest(tree, partly, unfinished)
         place = tree.place_in_parts(self.source.path[:-1], self.source.path[-1])
         if place is None:
             return False
         self.folders, self.whole = place.folders, place.path[:-1]
-        if not self._plan_parts(tree, partly, unfinished):
+        if not self._plan_rest(tree, partly, unfinished):
             tree.back()
             self.folders, self.whole = (), None
             return False
@@ -172,43 +172,33 @@ class VolumeJob:
             self.commit, self.added = left.commit, left.added
         return True
 
-    def _plan_parts(self, tree: PlannedTree, partly: bool, unfinished: Optional[Unfinished]) -> bool:
-        at, end = self.first * limits.FILE, self.source.identity.size
-        while at < end:
-            most = Size(min(end - at, limits.GREATEST_FILE))
-            part = self._plan_part(tree, at, most, unfinished) or (self._largest(tree, at, most, unfinished) if partly else None)
-            if part is None:
-                break
-            self.parts.append(part)
-            at += part.size
-            if part.size < most:
-                break
-        if at < end and not (partly and self.parts):
-            for _ in self.parts:
-                tree.back()
-            self.parts = []
-            return False
-        return True
+    def _plan_rest(self, tree: PlannedTree, partly: bool, unfinished: Optional[Unfinished]) -> bool:
+        """Plans the rest of the file, or, where that is allowed, as many mebibytes of it as fit, as one part. Whether any were planned."""
+        fits = self._plan_part(tree, Size(self.size()), unfinished) if self.size() <= limits.GREATEST_FILE else None
+        part = self._largest(tree, unfinished) if fits is None and partly else fits
+        self.parts = [part] if part is not None else []
+        return part is not None
 
-    def _plan_part(self, tree: PlannedTree, start: int, size: Size, unfinished: Optional[Unfinished]) -> Optional[Part]:
+    def _plan_part(self, tree: PlannedTree, size: Size, unfinished: Optional[Unfinished]) -> Optional[Part]:
         assert self.whole
+        start = self.first * limits.FILE
         key, left = self.key(start) if size > limits.FILE else (), NOTHING_LEFT
         if key and unfinished is not None:
-            left = unfinished.of_part(key, mebibytes_from(self.source, start // limits.FILE), size)
+            left = unfinished.of_part(key, mebibytes_from(self.source, self.first), size)
         place = tree.place_part(self.whole, start, size, key, left.pieces())
         return None if place is None else Part(place, key, start, size, left)
 
-    def _largest(self, tree: PlannedTree, start: int, most: Size, unfinished: Optional[Unfinished]) -> Optional[Part]:
-        """The greatest part that fits, of whole mebibytes and fewer bytes than this."""
-        low, high = 0, mebibytes_of(most) - 1
+    def _largest(self, tree: PlannedTree, unfinished: Optional[Unfinished]) -> Optional[Part]:
+        """The greatest part that fits, of whole mebibytes and not of all bytes that are left."""
+        low, high = 0, mebibytes_of(Size(min(self.size(), limits.GREATEST_FILE))) - 1
         while low < high:
             middle = (low + high + 1) // 2
-            if self._plan_part(tree, start, Size(middle * limits.FILE), unfinished) is None:
+            if self._plan_part(tree, Size(middle * limits.FILE), unfinished) is None:
                 high = middle - 1
             else:
                 tree.back()
                 low = middle
-        return self._plan_part(tree, start, Size(low * limits.FILE), unfinished) if low else None
+        return self._plan_part(tree, Size(low * limits.FILE), unfinished) if low else None
 
     # ---- stored
 

@@ -8,7 +8,8 @@ from typing import Dict, Iterable, List, NamedTuple, Optional, Tuple
 from ..base.manifest import PAYLOAD_FOLDER
 from ..image.blocks import Layout, Reckoner, Space, blocks_for, data_blocks, table_blocks
 from ..protocol import Path, limits
-from ..protocol.units import Address
+from ..protocol.units import Address, Size
+from ..reader.entry import descriptor_blocks
 from .bag import manifest_size
 from .bundle import MOST
 from .names import DESCRIPTION, SPREAD, bundle_name, spelled, stored_folder, stored_part_name
@@ -122,18 +123,20 @@ class PlannedTree:
         base = manifest_size((PAYLOAD_FOLDER,) + stored_folder(folder))
         root = self.reckoner.layouts.get((), Layout()).blocks() + 1
         for size, name in zip(sizes, names):
-            parts = 0 if size <= limits.GREATEST_FILE else -(-size // limits.GREATEST_FILE)
-            nodes += 1 + (parts + 1 if parts else 0)
+            if size > limits.GREATEST_FILE:
+                return False
+            nodes += 1
             entries = max(entries, nodes + 1)
             table = table_blocks(len(self.space.clients) + 1, entries)
             layout.add(spelled(name)[0])
             if layout.full > 40:
                 layout, nodes = Layout(), nodes + 1
             blocks += table + 2 + data_blocks(size) + layout.blocks()
-            # Each piece is a commit, and so is the one that gives the name; the folder of parts and the description are two.
-            growing = -(-size // limits.FILE) if size > limits.FILE else 0
-            blocks += growing * (table + 2) + (max(parts, 1) * 2 * root + 2 * table if growing else 0) + (parts + 2) * 6 * bool(parts)
-            manifest += max(parts, 1) * (base + 2 + sum(len(piece.encode()) for piece in spelled(name))) + 18 * parts + 80 * bool(parts)
+            # Each piece is a commit, and so is the one that gives the name.
+            if size > limits.FILE:
+                ends = range(limits.FILE, size + limits.FILE, limits.FILE)
+                blocks += len(ends) * (table + 2) + sum(descriptor_blocks(Size(end)) for end in ends) + 2 * root + 2 * table
+            manifest += base + 2 + sum(len(piece.encode()) for piece in spelled(name))
             if nodes > limits.NODES - KEPT_NODES or manifest > GREATEST_MANIFEST:
                 return False
         most = most_nodes(self.nodes, nodes, self.space.next + blocks)

@@ -6,7 +6,8 @@ import os
 from contextlib import ExitStack, closing
 from typing import Dict, Iterator, NamedTuple, Optional
 
-from ..base.errors import Damaged, NumberUsedElsewhere, ProgramFailed, UsageError, WrongVolume
+from ..base.disk import left_if_short
+from ..base.errors import Damaged, DiskFull, NumberUsedElsewhere, ProgramFailed, UsageError, WrongVolume
 from ..base.manifest import PAYLOAD_FOLDER
 from ..base.own_files import move, new as new_file, remove
 from ..base.unfinished import is_unfinished
@@ -47,6 +48,9 @@ where the ledger was lost or the volume was adopted."""
 NODES_LEFT, BLOCKS_LEFT, MANIFEST_MOST = 26, 200, 1_040_000
 """Nodes and blocks that are left, and bytes of the manifest, from which on a volume counts as full: hardly a file would fit."""
 
+NEW_BYTES = 262 * limits.BLOCK
+"""Bytes of the image of a new volume (docs/FORMAT.md: the header, then the file set, the root and the first table)."""
+
 LEDGER = (".ledger", ".ledger-wal", ".ledger-shm", ".ledger.lock")
 """The files of the ledger beside an open image."""
 
@@ -61,10 +65,9 @@ begin with = are the archive's:
                what is in them up into the folder that has them.
   =v2, =v3 ..  Right below data/: later versions of files, under their own paths.
   NAME/=file.txt, NAME/=000000000000000 ..
-               A file above 122,683,392 bytes, or that no volume has room for, in
-               parts, each named by the byte of the file with which it begins:
-               "cat NAME/=0*" joins them. The text has its size and its SHA-256.
-               Where parts are missing here they are on other volumes.
+               A file that no volume has room for, in parts, each named by the byte
+               of the file with which it begins: "cat NAME/=0*" joins them. The text
+               has its size and its SHA-256. The other parts are on other volumes.
   =b1.tar, =b2.tar ..
                Small files of the folder in which it is, in a tar, whose first
                header has a list of them with their SHA-256.
@@ -111,7 +114,13 @@ class OpenVolume:
         for left in (new, self.ledger):
             remove(left)
         new_file(new, self.config.mode)
-        run_program(self.program, ["format", new, self.row.label, str(self.row.formatted), str(self.row.capacity)])
+        try:
+            run_program(self.program, ["format", new, self.row.label, str(self.row.formatted), str(self.row.capacity)])
+        except ProgramFailed as error:
+            room = left_if_short(new, NEW_BYTES)
+            if room is None:
+                raise
+            raise DiskFull(f"{new}: its disk is full: {room:,} bytes are left. Make room, and run the same command again") from error
         move(new, self.image)
 
     def begin(self) -> None:

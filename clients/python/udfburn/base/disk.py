@@ -9,6 +9,12 @@ from typing import Any, Optional
 NO_ROOM = (errno.ENOSPC, errno.EDQUOT)
 """The errors of a file system that has no room, for this user at least."""
 
+BASE_ROOM = 1 << 16
+"""Bytes that SQLite needs on a file system to begin with a change: the index of its log alone has 32 KiB."""
+
+BASE_FAULTS = ("database or disk is full", "disk I/O error", "unable to open database file")
+"""What SQLite says on a file system that has no room, as well as on one that fails."""
+
 
 def is_full(error: BaseException) -> bool:
     """Whether an error says that a file system is full."""
@@ -22,6 +28,18 @@ def room_left(path: str) -> Optional[int]:
     except OSError:
         return None
     return found.f_bavail * found.f_frsize
+
+
+def left_if_short(path: str, least: int) -> Optional[int]:
+    """The bytes that are left on the file system of a file or a folder, where they are fewer than are needed; else None."""
+    left = room_left(path)
+    return left if left is not None and left < least else None
+
+
+def why_base_failed(path: str, error: Exception) -> str:
+    """What is said of a database's file that SQLite could not write, for this error."""
+    left = left_if_short(path, BASE_ROOM) if str(error) in BASE_FAULTS else None
+    return "check that its disk works and has room" if left is None else f"its disk is full: {left:,} bytes are left. Make room"
 
 
 def sync_names(descriptor: int) -> None:
@@ -70,4 +88,4 @@ def find_call() -> Optional[Any]:
     return getattr(ctypes.CDLL(None, use_errno=True), "syncfs", None)
 
 
-__all__ = ["is_full", "room_left", "sync_all", "sync_names"]
+__all__ = ["is_full", "left_if_short", "room_left", "sync_all", "sync_names", "why_base_failed"]

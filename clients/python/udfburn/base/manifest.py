@@ -17,6 +17,9 @@ BAG_DECLARATION, BAG_INFO, PAYLOAD_FOLDER = "bagit.txt", "bag-info.txt", "data"
 DECLARATION = b"BagIt-Version: 1.0\nTag-File-Character-Encoding: UTF-8\n"
 """The bytes of `bagit.txt` (RFC 8493, 2.1.1)."""
 
+LONGEST_MANIFEST = 1 << 26
+"""Bytes of a manifest that is read, at most: the lines of all files of a volume have fewer, however long their paths are."""
+
 
 class ManifestLine(NamedTuple):
     """A line of a manifest: the digest of a file, and its path from the manifest's directory on."""

@@ -118,14 +118,11 @@ class Progress:
             self._print(printable(" ".join(words)))
 
     def stored(self, outcome: Outcome) -> None:
-        """A file or a part was stored; programs get its SHA-256, and with a last part that of the whole file."""
+        """A file was stored; programs get its SHA-256."""
         operation = outcome.operation
-        job, index = operation.tag
-        # The last part of a file is stored whatever parts of it were there. One that got its name is all there.
-        named = operation.whole if job.grows else None
-        last = named is not None or index + 1 == len(job.paths)
+        # One above a mebibyte is stored once it has its name.
+        named = operation.whole if operation.tag[0].grows else None
         path, count = (named.path, named.size) if named is not None else (operation.path, len(operation.data))
-        self.done_files += last - 1
         if not self.as_json or self.quiet:
             self.told("stored", path, count, outcome.commit)
             return
@@ -135,8 +132,6 @@ class Progress:
         sha256 = named.sha256 if named is not None else operation.sha256
         if sha256 is not None:
             step["sha256"] = sha256.hex()
-        if operation.whole is not None and named is None:
-            step["whole"] = {"path": show(operation.whole.path), "bytes": operation.whole.size, "sha256": operation.whole.sha256.hex()}
         self._print_json(step)
 
     def _draw(self, count: int) -> None:
@@ -207,6 +202,11 @@ class Progress:
             self._print_json(fields)
         elif not self.quiet:
             self._print_error(line)
+
+    def warn(self, line: str) -> None:
+        """Something about the words of the command, for people alone."""
+        self.clear()
+        self._print_error(line)
 
     def left_out(self, line: str) -> None:
         """Something that was left out, as it was asked for."""

@@ -6,7 +6,7 @@ path. So no other client makes a file of that name, and this one finds it again 
 
 from __future__ import annotations
 
-from ..protocol import Path, limits, show
+from ..protocol import Path, show
 
 UNFINISHED_PREFIX = ".udfburn-unfinished-"
 """How the name of a file in the root begins that is not whole yet."""
@@ -14,11 +14,6 @@ UNFINISHED_PREFIX = ".udfburn-unfinished-"
 UNDER_WAY = 10
 """Files that are not whole at one time, at most: each is renamed once its pieces are acknowledged, and three parts of 4 MiB go out until
 then. In each of them at most three files begin, and one began before."""
-
-
-def grows(size: int, split: bool) -> bool:
-    """Whether a file of this size is stored piece by piece as one."""
-    return size > limits.FILE and not split
 
 
 def is_unfinished(path: Path) -> bool:
@@ -33,4 +28,4 @@ def unfinished_path(client: int, path: Path) -> Path:
     return (f"{UNFINISHED_PREFIX}{client:016x}-{sha256(show(path).encode()).hexdigest()[:32]}",)
 
 
-__all__ = ["UNDER_WAY", "UNFINISHED_PREFIX", "grows", "is_unfinished", "unfinished_path"]
+__all__ = ["UNDER_WAY", "UNFINISHED_PREFIX", "is_unfinished", "unfinished_path"]

@@ -40,7 +40,7 @@ def add_commands(subs: Subs) -> None:
     )
     compare.add_argument("local", metavar="LOCAL", help="the local file or folder")
     compare.add_argument("path", metavar="PATH", help="the path where it was stored")
-    compare.add_argument("--split", action="store_true", help="large files were stored in parts")
+    compare.add_argument("--split", action="store_true", help="files may be in parts, as earlier versions stored them")
     compare.add_argument("--skip-odd", action="store_true", help="leave out what cannot be stored, and name it")
     compare.add_argument("--escape", action="store_true", help="names that UDF cannot encode were stored with --escape")
     compare.add_argument("--exact", action="store_true", help="report names that are only on the volume, too")
@@ -64,7 +64,7 @@ def add_get(subs: Subs) -> None:
     words.add_argument("path", metavar="PATH", help="the file or directory on the volume, beginning with /")
     words.add_argument("local", metavar="LOCAL", help="the new file or folder; - means the standard output")
     words.add_argument("-r", "--recursive", action="store_true", help="copy a directory with everything below it")
-    words.add_argument("--split", action="store_true", help="treat a file in parts (NAME.000, NAME.001, ..) as one file NAME")
+    words.add_argument("--split", action="store_true", help="treat a file in parts, as earlier versions stored it (NAME.000, NAME.001, ..), as one file NAME")
     words.add_argument("--force", action="store_true", help="replace existing local files, and write into a folder that has other names")
     words.add_argument("--as-of", **PAST)
 

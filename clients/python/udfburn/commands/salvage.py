@@ -5,7 +5,7 @@ from __future__ import annotations
 import argparse
 from collections import Counter
 from contextlib import suppress
-from typing import TYPE_CHECKING, Counter as Counts, Dict, Iterator, List, Optional
+from typing import TYPE_CHECKING, Callable, Counter as Counts, Dict, Iterator, List, Optional
 
 from ..base.beneath import mode_for
 from ..base.disk import is_full
@@ -16,6 +16,7 @@ from ..protocol.units import Commit
 from .arguments import add_output, commit_number
 
 if TYPE_CHECKING:
+    from ..reader import Volume
     from ..reader.chain import Link, Span
     from ..salvage.salvage import Salvage, SalvageOutcome
     from .arguments import Subs
@@ -98,6 +99,7 @@ class Report:
         from ..salvage.write import Output
 
         target = output if isinstance(output, Output) else None
+        tell_group(self.found.volume, self._said)
         for outcome in self.found.outcomes(target):
             self._outcome(outcome, target is not None)
         notes = self.found.notes
@@ -122,6 +124,9 @@ class Report:
             f"commit {missing[0]}{what}{more}: acknowledged to the ledger, and not in this copy, whose newest commit is {self.found.link.numbers}",
             True, did="missing", commit=missing[0], commits=self.missing, path="/" + "/".join(stored.path) if stored is not None else None,
         )
+
+    def _said(self, line: str, **fields: object) -> None:
+        self._told(line, False, **fields)
 
     def _told(self, line: str, is_bad: bool, **fields: object) -> None:
         if self.progress.as_json:
@@ -186,6 +191,13 @@ def outcome_line(outcome: "SalvageOutcome", path: str, writes: bool) -> str:
     return " ".join(words)
 
 
+def tell_group(volume: "Volume", say: "Callable[..., None]") -> None:
+    """Says that an image ends with a group of commits that was not finished."""
+    begin, end = volume.end, volume.medium.blocks
+    if begin < end:
+        say(f"a group of commits that was not finished is left out: blocks {begin} to {end - 1}", did="group", block=begin, blocks=end - begin)
+
+
 # ---- log
 
 def log(arguments: argparse.Namespace) -> int:
@@ -201,6 +213,7 @@ def log(arguments: argparse.Namespace) -> int:
         raise UsageError(str(error)) from error
     with medium:
         volume = Volume(medium)
+        tell_group(volume, progress.note)
         chain = Chain(volume, Survey(volume))
         if not chain.links:
             return progress.fail(f"{shown(arguments.image_path)}: no table of a volume can be read")

@@ -17,8 +17,9 @@ class Status(NamedTuple):
     """What is known of a volume. None stands for what is not known.
 
     `moment` is that of the format, in microseconds from 1970; `uuid` is what `blkid` shows of it. `written`, `capacity` and `left`
-    count blocks of 2,048 bytes, `loose` those after the newest commit. `nodes` counts the root too. `unfinished` has the paths of files
-    that no client has finished, `unknown` names what is not known, `notes` what was met that is not as it must be.
+    count blocks of 2,048 bytes, `loose` those after the newest commit; those of a group that was not settled are not written. `nodes`
+    counts the root too. `unfinished` has the paths of files that no client has finished, `unknown` names what is not known, `notes` what
+    was met that is not as it must be.
     """
 
     where: str
@@ -50,10 +51,10 @@ def of_image(image: str) -> Status:
         table = state.table
         files = [node for node in state.walk() if node.kind is FileType.FILE]
         total, left_over = sum(node.size for node in files), [show(node.path) for node in files if is_unfinished(node.path)]
-        left = max(volume.capacity - medium.blocks, 0) if volume.capacity is not None else None
+        left = max(volume.capacity - volume.end, 0) if volume.capacity is not None else None
         return Status(
             shown(image), volume.label, volume.moment, None if volume.moment is None else f"{volume.moment:016x}", table.commit,
-            volume.capacity, medium.blocks, left, medium.blocks - table.address - 1, table.files + table.directories, table.files,
+            volume.capacity, volume.end, left, medium.blocks - table.address - 1, table.files + table.directories, table.files,
             table.directories, total, table.clients, left_over, [], [str(note) for note in volume.notes.all()],
         )
 

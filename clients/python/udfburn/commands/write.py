@@ -40,7 +40,7 @@ def add_commands(subs: Subs) -> None:
     )
     remove.add_argument("path", nargs="+", metavar="PATH", help="a file or an empty directory; any directory with -r")
     remove.add_argument("-r", "--recursive", action="store_true", help="remove directories with everything below them")
-    remove.add_argument("--split", action="store_true", help="remove a file in parts by its own name")
+    remove.add_argument("--split", action="store_true", help="remove a file in parts, as earlier versions stored it, by its own name")
     again = command(
         subs, "resume", resume, "finish what an earlier command began",
         "Sends each request again that has no reply in the ledger, under its number. Every command that changes the tree does this first.", ledger=True,
@@ -59,7 +59,7 @@ def add_put(subs: Subs) -> None:
     words.add_argument("path", metavar="PATH", help="the path of LOCAL on the volume; with a slash at its end, or with several LOCALs, the directory to put them into; a single folder put to / becomes the root")
     words.add_argument("-r", "--recursive", action="store_true", help="store folders with everything in them")
     words.add_argument("-p", "--parents", action="store_true", help="make missing parent directories")
-    words.add_argument("--split", action="store_true", help="store files above 117 MiB in parts: NAME.000, NAME.001, ..; above 400 MiB NAME.parts/00/000, ..")
+    words.add_argument("--split", action="store_true", help="a file takes the place of its parts, as earlier versions stored it (NAME.000, ..)")
     words.add_argument("--rewrite", action="store_true", help="store files again even if their bytes are already there")
     words.add_argument("--skip-same", action="store_true", help="leave files alone whose bytes are already there (the default)")
     words.add_argument("--skip-odd", action="store_true", help="leave out what cannot be stored, and name it: symbolic links, pipes, sockets, devices, and names that UDF cannot encode")
@@ -98,14 +98,14 @@ def put(arguments: argparse.Namespace) -> int:
         raise UsageError("--manifest-only goes with --seal")
     if arguments.rewrite and arguments.skip_same:
         raise UsageError("--rewrite stores again what --skip-same leaves alone")
-    fields = ("recursive", "parents", "split", "rewrite", "skip_odd", "escape", "delete_source", "verify", "dry_run", "moment", "image")
+    fields = ("recursive", "parents", "rewrite", "split", "skip_odd", "escape", "delete_source", "verify", "dry_run", "moment", "image")
     options = ImportOptions(**{name: getattr(arguments, name) for name in fields}, delete_last=arguments.seal)
     options = options._replace(parents=options.parents or arguments.seal)
     progress = progress_of(arguments)
     with writer(arguments) as client:
         importer = Importer(client, options, progress.told, progress.stored)
         planned = importer.plan(targets(arguments.local, payload_of(arguments), arguments.escape))
-        sources = [source for source, _ in planned.files] + [job.source for job in importer.same]
+        sources = planned.files + [job.source for job in importer.same]
         if arguments.seal and arguments.manifest_only:
             refuse_manifests(sources)
         progress.begin(len(sources), sum(source.identity.size for source in sources))
@@ -266,8 +266,7 @@ def would_remove(client: Client, paths: List[Path], planned: Set[Path]) -> None:
 def paths_below(client: Client, path: Path, arguments: argparse.Namespace) -> List[Path]:
     """What goes with a path, in the order in which it goes: the leaves first, and the last part of a file before the others."""
     if arguments.split and client.find(path) is None:
-        file = find_file(client, path, True)
-        return sorted(file.parts + file.folders, reverse=True)
+        return find_file(client, path, True).removal()
     if client.stat(path).kind is NodeKind.FILE or not arguments.recursive:
         return [path]
     found = [at + (name.name,) for at, names in walk(client, path) for name in names]

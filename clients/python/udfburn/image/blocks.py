@@ -9,8 +9,9 @@ from typing import Dict, Iterable, List, Optional, Set
 from ..base.beneath import open_medium
 from ..base.errors import ProgramFailed
 from ..protocol import Path, limits, spelled_size
-from ..protocol.units import Address
+from ..protocol.units import Address, Size
 from ..reader.basics import INSIDE, PARTITION
+from ..reader.entry import descriptor_blocks
 from ..reader.table import HEAD_SIZE
 from ..wire.connection import run_program
 
@@ -98,9 +99,10 @@ class Reckoner:
         parent = self._named(path)
         return self._write(2 * data_blocks(size) + 1 + parent.most(), data_blocks(size) + 1 + parent.blocks())
 
-    def append(self, size: int) -> bool:
+    def append(self, offset: int, size: int) -> bool:
         """A piece at the end of a file, which is never inside its entry."""
-        return self._write(2 * blocks_for(size) + 1, blocks_for(size) + 1)
+        others = descriptor_blocks(Size(offset + size)) + 1
+        return self._write(2 * blocks_for(size) + others, blocks_for(size) + others)
 
     def remove(self, path: Path) -> bool:
         """A file that goes."""
@@ -115,7 +117,7 @@ class Reckoner:
     def grow(self, path: Path, size: int, kept: int, unfinished: Path, replaces: bool) -> bool:
         """A file above a mebibyte, of which so many pieces are there: its others, and its name."""
         fits = [] if kept else [self.create(unfinished, limits.FILE)]
-        fits += [self.append(min(size - at, limits.FILE)) for at in range(max(kept, 1) * limits.FILE, size, limits.FILE)]
+        fits += [self.append(at, min(size - at, limits.FILE)) for at in range(max(kept, 1) * limits.FILE, size, limits.FILE)]
         fits += [self.remove(path)] if replaces else []
         return all([*fits, self.rename(unfinished, path)])
 

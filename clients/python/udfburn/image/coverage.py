@@ -109,6 +109,9 @@ class Coverage:
 
     def _take_manifest(self, path: Path) -> None:
         node, above = self.nodes[path], path[:-1]
+        if node.size > m.LONGEST_MANIFEST:
+            self.faults.append((path, "is longer than a manifest may be"))
+            return
         run = self.volume.read(node)
         if run.missing:
             self.faults.append((path, f"cannot be read (block {run.missing[0]})"))

@@ -8,7 +8,7 @@ from __future__ import annotations
 
 from typing import Dict, NamedTuple, Optional, Tuple, Union
 
-from ..base.split import stored_paths
+from ..base.older_parts import stored_paths
 from ..protocol import Code, Kind, Path, path_of
 from ..protocol.units import Commit, Moment, Size
 from ..wire.operations import known_below
@@ -80,7 +80,7 @@ class Files:
         known = SentFile(deed.path, deed.size, deed.moment, sent.facts.sha256, sent.commit, sent.number)
         self.now[deed.path] = self.by_commit[sent.commit] = known
         if whole is not None:
-            parts = tuple(stored_paths(whole.path, whole.size, True))
+            parts = tuple(stored_paths(whole.path, whole.size))
             self._wholes[whole.path] = KnownWhole(whole.path, whole.size, whole.sha256, parts, sent.commit, sent.number)
 
     def _append(self, sent: Sent) -> None:

@@ -13,6 +13,7 @@ import time
 from contextlib import contextmanager
 from typing import Any, Dict, Iterable, Iterator, List, Mapping, Optional, Sequence, Set, Tuple, Union
 
+from ..base.disk import why_base_failed
 from ..base.durable import make_folder, sync_file, sync_folder
 from ..base.errors import LedgerError
 from ..protocol import limits
@@ -124,7 +125,7 @@ class Ledger:
     def _unusable(self, error: Exception) -> LedgerError:
         """What is reported if the database cannot be opened, or is not a ledger's."""
         if isinstance(error, sqlite3.OperationalError) and not str(error).startswith("no such"):
-            return LedgerError(f"{self.path}: cannot be written ({error}): check that its disk works and has room")
+            return LedgerError(f"{self.path}: cannot be written ({error}): {why_base_failed(self.path, error)}")
         return LedgerError(f"{self.path}: is not a ledger ({error}): name another with --ledger")
 
     def _client(self, base: sqlite3.Connection, wanted: Optional[int]) -> Optional[int]:

@@ -8,7 +8,7 @@ from __future__ import annotations
 import os
 import stat
 import time
-from typing import Dict, Generator, Iterator, List, NamedTuple, Optional, Set, Tuple
+from typing import Dict, Generator, Iterator, List, NamedTuple, Optional, Tuple
 
 from ..base.beneath import Place, Root, open_from_top, place_of
 from ..base.errors import SourceChanged, SourceError
@@ -73,15 +73,13 @@ class Folder(NamedTuple):
 
 
 class Scan:
-    """What was found: folders before what is in them, files, the paths of those that are in parts, those that the volume has already, the
-    parts that it has of others, by their paths and numbers, each with its SHA-256, unfinished files that go, and what cannot be stored,
-    each with why."""
+    """What was found: folders before what is in them, files, those that the volume has already, the pieces that it has of others, by
+    their paths and numbers, each with its SHA-256, unfinished files that go, and what cannot be stored, each with why."""
 
     def __init__(self) -> None:
         self.folders: List[Folder] = []
         self.roots: Dict[str, Root] = {}
         self.files: List[Source] = []
-        self.split: Set[Path] = set()
         self.same: List[Source] = []
         self.kept: Dict[Path, Dict[int, bytes]] = {}
         self.unfinished: List[Path] = []

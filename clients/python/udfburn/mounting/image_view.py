@@ -14,12 +14,14 @@ from ..base.errors import Damaged
 from ..base.escape import decode
 from ..base.manifest import BAG_DECLARATION, MANIFEST, TAG_MANIFEST, read_manifest
 from ..base.progress import Progress
-from ..base.split import SUFFIX, joined_folder, joined_parts
+from ..base.older_parts import SUFFIX, joined_folder, joined_parts
 from ..base.unfinished import is_unfinished
 from ..protocol import limits, printed, shown
 from ..protocol.units import Commit, Moment, Size, VirtualAddress
 from ..reader import FileType, Medium, NoVolume, State, StateNode, Volume
-from ..reader.basics import DEPTH, NODES, address_of, blocks_of
+from ..reader.basics import DEPTH, ENTRY_DESCRIPTORS, GREATEST_CAPACITY, NODES, address_of, blocks_of
+from ..reader.budget import Work, block_budget
+from ..reader.descriptors import read_descriptors, with_descriptors
 from ..reader.directory import Identifier
 from ..reader.entry import Entry, read_entry
 from ..reader.volume import Path
@@ -56,6 +58,7 @@ class StateTree:
         """Those of them that are directories."""
         self.incomplete: Set[Path] = set()
         self._names = self._blocks = 0
+        self._room = block_budget(min(volume.medium.blocks, GREATEST_CAPACITY))
         self._reached: Set[VirtualAddress] = {root.virtual}
         self._wanted: Optional[Dict[Path, List[Tuple[int, bytes]]]] = None
         waiting = [root]
@@ -75,7 +78,7 @@ class StateTree:
             why = self._fault(node, name)
             child = state.child(node, name) if why is None else None
             if child is not None:
-                names[name.name] = child
+                names[name.name] = self._fitting(child)
                 continue
             broken[name.name] = why or "its entry cannot be read"
             if name.is_directory:
@@ -83,6 +86,13 @@ class StateTree:
         if not state.is_complete(node):
             self.incomplete.add(node.path)
         return [child for child in names.values() if child.kind is FileType.DIRECTORY]
+
+    def _fitting(self, node: StateNode) -> StateNode:
+        """A node, where all files have blocks of their own, as far as their number shows it: so there are no more extents than fit."""
+        self._room -= node.blocks if node.kind is FileType.FILE else 0
+        if self._room < 0:
+            raise Damaged(f"{self.called}: {Work.NODES.text}")
+        return node
 
     def _fault(self, node: StateNode, name: Identifier) -> Optional[str]:
         """Why a name is not followed."""
@@ -140,11 +150,14 @@ class StateTree:
 
 
 def exact_entry(medium: Medium, node: StateNode) -> Optional[Entry]:
-    """The entry of a node as it is now; None where a byte of it is not as it must be. Its CRC covers where the bytes of the file are, or has
-    them in it."""
+    """The entry of a node as it is now; None where a byte of it, or of one of its descriptor blocks, is not as it must be. Their CRCs cover
+    where the bytes of the file are, or the bytes in the entry."""
     block = medium.block(node.address)
     entry, faults = read_entry(block, node.virtual) if block is not None else (None, [])
-    return entry if not faults else None
+    if entry is None or faults or entry.is_whole:
+        return entry if not faults else None
+    blocks = read_descriptors(medium, entry)
+    return with_descriptors(entry, blocks) if not any(block.faults for block in blocks) else None
 
 
 class ImageView(ShownFolder):
@@ -288,7 +301,8 @@ class ImageFile(ShownFile):
     def _entry(self, node: StateNode) -> Entry:
         entry = exact_entry(self.view.medium, node)
         if entry is None:
-            raise Damaged(f"{self.view.called(self.commit, node.path)}: its entry in block {node.address} is damaged")
+            what = " or a descriptor block of it" if len(node.extents) > ENTRY_DESCRIPTORS else ""
+            raise Damaged(f"{self.view.called(self.commit, node.path)}: its entry in block {node.address}{what} is damaged")
         return entry
 
     def piece(self, index: int, way: None) -> bytes:

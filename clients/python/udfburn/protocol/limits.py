@@ -11,8 +11,8 @@ PAYLOAD = 1_114_112
 FILE = 1_048_576
 """Bytes of a file in one message, at most: a longer one is read piece by piece."""
 
-GREATEST_FILE = 122_683_392
-"""Bytes of a file on a volume, at most."""
+GREATEST_FILE = 921_698_304
+"""Bytes of a file, at most: no volume has room for quite as many."""
 
 MOMENT = 4_102_444_800_000_000
 """The first moment that cannot be said: 2100-01-01 UTC, in microseconds from 1970."""

@@ -9,8 +9,9 @@ from ..protocol.units import Address, BlockNumber, Commit, VirtualAddress
 from .basics import FIRST_UNIQUE, GREATEST_CAPACITY, NODES, PARTITION, UNUSED, address_of, blocks_of, is_label, number_of, read_dstring
 from .budget import Work, block_budget
 from .chain import Chain, Link
+from .descriptors import note_descriptors, read_descriptors, with_descriptors
 from .directory import KnownIdentifiers, read_directory
-from .entry import FileType, read_entry, read_file_set
+from .entry import Entry, FileType, descriptor_blocks, read_entry, read_file_set
 from .front import note_front, read_front
 from .notes import DamageCause, StructureFault
 from .numbering import greatest_at
@@ -144,12 +145,12 @@ class Audit:
                 self.notes.add(link.start, DamageCause.ENTRY, f"virtual address {virtual} leads to block number {new}, which the commit did not write")
                 return
         else:
-            self._node(virtual, new)
+            self._node(link, virtual, new)
         self._used += (new != UNUSED) - (old != UNUSED)
         self._entries[virtual] = new
 
-    def _node(self, virtual: VirtualAddress, number: BlockNumber) -> None:
-        """Looks at the entry of a node, and at the data of a directory."""
+    def _node(self, link: Link, virtual: VirtualAddress, number: BlockNumber) -> None:
+        """Looks at the entry of a node, and at what it leads to."""
         at = address_of(number)
         self._room -= 1
         if self._room < 0:
@@ -168,12 +169,24 @@ class Audit:
             return
         entry, faults = read_entry(block, virtual)
         self.notes.extend(at, faults)
-        if entry is not None and entry.kind is FileType.DIRECTORY and entry.first is not None and self._room >= blocks_of(entry.size):
+        if entry is not None and self._leads_on(entry, number_of(link.address)) > number_of(link.address):
+            self.notes.add(at, DamageCause.RANGE, "what the entry leads to does not lie below the VAT ICB")
+        elif entry is not None and entry.kind is FileType.DIRECTORY and entry.first is not None and self._room >= blocks_of(entry.size):
             self._room -= blocks_of(entry.size)
             run = self.medium.run(address_of(entry.first), blocks_of(entry.size))
             for gone in run.missing:
                 self.notes.add(gone, DamageCause.MISSING, "a block of a directory cannot be read")
             self.notes.extend(address_of(entry.first), read_directory(run.data, entry.size, entry.first, self._known)[1])
+
+    def _leads_on(self, entry: Entry, limit: BlockNumber) -> BlockNumber:
+        """Looks at the descriptor blocks of an entry, where they lie below a block. The number after the last block to which it leads."""
+        if entry.is_whole or entry.end > limit or self._room < descriptor_blocks(entry.size):
+            return entry.end
+        self._room -= descriptor_blocks(entry.size)
+        blocks = read_descriptors(self.medium, entry)
+        note_descriptors(self.notes, blocks)
+        whole = with_descriptors(entry, blocks)
+        return whole.end if whole is not None else entry.end
 
 
 def record_texts(records: bytes, size: int) -> List[bytes]:

@@ -30,10 +30,16 @@ DEPTH = 16
 EXTENT_BYTES = Size(1_048_576)
 """The bytes of an extent, at most: each of a file but its last has so many."""
 
-EXTENTS = 117
-"""The extents of a file, at most."""
+ENTRY_DESCRIPTORS = 117
+"""The allocation descriptors of an entry, at most. Where a file has more extents, the last of them leads on to a descriptor block."""
 
-GREATEST_FILE = Size(EXTENTS * EXTENT_BYTES)
+BLOCK_DESCRIPTORS = 126
+"""The allocation descriptors of a descriptor block, at most. Where further extents remain, the last of them leads on to the next one."""
+
+EXTENTS = 879
+"""The extents of a file, at most: so many begin in the greatest partition."""
+
+LONGEST_FILE = Size(EXTENTS * EXTENT_BYTES)
 INSIDE = Size(1_872)
 CLIENTS = 64
 FIRST_UNIQUE = 16

@@ -18,6 +18,7 @@ class Work(Enum):
     IDENTIFIERS = "wrong bytes of identifiers"
     DIRECTORIES = "blocks of directories"
     NODES = "blocks of files and directories"
+    DESCRIPTORS = "descriptor blocks"
     NAMES = "names"
     VERSIONS = "earlier entries"
     HASHED = "bytes that may be those of lost files"
@@ -35,7 +36,7 @@ class Budget:
     def __init__(self, blocks: int):
         self._left: Dict[Work, int] = {
             Work.MENDS: 500_000, Work.IDENTIFIERS: 20_000, Work.DIRECTORIES: 4 * blocks + 512, Work.NODES: block_budget(blocks),
-            Work.NAMES: 16 * NODES, Work.VERSIONS: 20_000 + blocks, Work.HASHED: 1 << 31, Work.FLIPS: 200,
+            Work.DESCRIPTORS: 20_000 + blocks, Work.NAMES: 16 * NODES, Work.VERSIONS: 20_000 + blocks, Work.HASHED: 1 << 31, Work.FLIPS: 200,
         }
 
     def take(self, what: Work, count: int = 1) -> bool:

@@ -14,7 +14,7 @@ from .notes import DamageCause
 from .numbering import Link, Span, greatest_at, number_links
 from .survey import Survey
 from .table import Table, entries_at, read_clients, read_entries, read_head, used_size
-from .volume import Volume
+from .volume import Volume, is_table_entry
 
 
 TABLES_KEPT = 16
@@ -170,8 +170,9 @@ class Chain:
 
     def _at(self, address: Address) -> Optional[Link]:
         """The link at an address to which a table leads."""
-        index = bisect_left(self.survey.tables, address)
-        if self.survey.tables[index : index + 1] == [address]:
+        block = self.volume.medium.block(address)
+        # Where a writer is at work, the survey may have come by before this block was written, and to the table after it later.
+        if block is not None and is_table_entry(block, address):
             return self._link(address)
         return self._mended(address) or self._by_head(address)
 

@@ -8,14 +8,17 @@ from typing import Iterator, List, NamedTuple, Optional, Tuple
 
 from ..protocol.units import BlockNumber, Moment, Size
 from .basics import (
-    BLOCK, BLOCK_NUMBERS, CHARACTER_SET, DEVELOPER, EXTENTS, EXTENT_BYTES, GREATEST_FILE, INSIDE, UDF_SUFFIX, blocks_of, crc, entity, is_label, read_dstring, read_tag,
-    read_timestamp, tag_faults, write_dstring, write_tag, write_timestamp,
+    BLOCK, BLOCK_DESCRIPTORS, BLOCK_NUMBERS, CHARACTER_SET, DEVELOPER, ENTRY_DESCRIPTORS, EXTENT_BYTES, INSIDE, LONGEST_FILE, UDF_SUFFIX, UNUSED, blocks_of, crc,
+    entity, is_label, read_dstring, read_tag, read_timestamp, tag_faults, write_dstring, write_tag, write_timestamp,
 )
 from .notes import DamageCause, Faults, StructureFault
 
 FILE_ENTRY, FILE_SET = 261, 256
 LONG, EMBEDDED = 1, 3
 """The flags of an entry: its allocation descriptors are long ones, or its bytes are in their place."""
+
+LEADS_ON = 3 << 30 | BLOCK
+"""The length of a descriptor that leads on: its kind is 3 (ECMA-167 4/14.14.1.1), and a descriptor block is one block."""
 
 
 class FileType(IntEnum):
@@ -41,10 +44,26 @@ class Extent(NamedTuple):
         """The number after the last block."""
         return BlockNumber(self.first + blocks_of(self.size))
 
+    @property
+    def is_known(self) -> bool:
+        """Whether it is known where it is. Of one whose descriptor is lost it is not, and `first` is UNUSED."""
+        return self.first != UNUSED
+
 
 def extent_count(size: Size) -> int:
     """The extents that so many bytes are in."""
     return -(-size // EXTENT_BYTES)
+
+
+def own_extents(size: Size) -> int:
+    """How many of them have their descriptors in the entry: all, or where one of its descriptors leads on, those before that."""
+    count = extent_count(size)
+    return count if count <= ENTRY_DESCRIPTORS else ENTRY_DESCRIPTORS - 1
+
+
+def descriptor_blocks(size: Size) -> int:
+    """The descriptor blocks of a file of this size."""
+    return max(-(-(extent_count(size) - ENTRY_DESCRIPTORS) // (BLOCK_DESCRIPTORS - 1)), 0)
 
 
 def extent_size(size: Size, index: int) -> Size:
@@ -58,7 +77,8 @@ class Entry(NamedTuple):
     `moment` is None where none can be read. `first` is the number of the first block of the bytes, None where they are in
     `inside` or where there are none. `location` and `check` are those of the tag: the virtual address of a node or the number of
     a VAT ICB, and the CRC. `proved` says that the CRC agrees with the fields. `others` are the numbers of the first blocks of a file's
-    further extents.
+    further extents, as far as they are known. `descriptors` is the number of the first of its descriptor blocks; None where the entry
+    has all descriptors.
     """
 
     kind: FileType
@@ -72,10 +92,11 @@ class Entry(NamedTuple):
     check: int
     proved: bool
     others: Tuple[BlockNumber, ...] = ()
+    descriptors: Optional[BlockNumber] = None
 
     @property
     def extents(self) -> Tuple[Extent, ...]:
-        """Where the bytes are, in order; empty where no blocks hold them."""
+        """Where the bytes are, in order; empty where no blocks hold them. What descriptor blocks say is among them once it was read."""
         if self.first is None:
             return ()
         firsts = (self.first, *self.others)
@@ -83,8 +104,14 @@ class Entry(NamedTuple):
 
     @property
     def end(self) -> BlockNumber:
-        """The number after the last block of the bytes; 0 where no blocks hold them."""
-        return max((extent.end for extent in self.extents), default=BlockNumber(0))
+        """The number after the last block of the bytes and of descriptors; 0 where there is none."""
+        end = max((extent.end for extent in self.extents if extent.is_known), default=BlockNumber(0))
+        return end if self.descriptors is None else max(end, BlockNumber(self.descriptors + descriptor_blocks(self.size)))
+
+    @property
+    def is_whole(self) -> bool:
+        """Whether it has each of its extents; else those that its descriptor blocks have are missing."""
+        return self.first is None or len(self.others) + 1 == extent_count(self.size)
 
     @property
     def blocks(self) -> int:
@@ -165,6 +192,7 @@ def sensible(block: bytes, fields: EntryFields) -> Optional[Entry]:
     size, inside = fields.size, None
     first: Optional[BlockNumber] = None
     others: Tuple[BlockNumber, ...] = ()
+    descriptors: Optional[BlockNumber] = None
     if size > greatest(FILE_TYPES[fields.type]):
         return None
     if fields.flags == EMBEDDED:
@@ -172,10 +200,14 @@ def sensible(block: bytes, fields: EntryFields) -> Optional[Entry]:
             return None
         inside = block[END : END + size]
     elif size:
-        firsts = firsts_at(block, size)
+        firsts = firsts_at(block, END, range(own_extents(size)), size)
         if firsts is None:
             return None
         first, others = firsts[0], firsts[1:]
+        if descriptor_blocks(size):
+            descriptors = next_at(block, size)
+            if descriptors is None:
+                return None
     elif fields.type != FileType.FILE:
         return None
     tag = read_tag(block)
@@ -183,24 +215,29 @@ def sensible(block: bytes, fields: EntryFields) -> Optional[Entry]:
     moment = next((stamp for stamp in stamps if stamp is not None), None)
     body = block[16 : descriptor_end(fields)]
     proved = tag.crc == crc(body)
-    return Entry(FILE_TYPES[fields.type], moment, fields.links, fields.unique, size, first, inside, tag.location, tag.crc, proved, others)
+    return Entry(FILE_TYPES[fields.type], moment, fields.links, fields.unique, size, first, inside, tag.location, tag.crc, proved, others, descriptors)
 
 
 def greatest(kind: FileType) -> Size:
     """The bytes of what is of a kind, at most."""
-    return GREATEST_FILE if kind is FileType.FILE else EXTENT_BYTES
+    return LONGEST_FILE if kind is FileType.FILE else EXTENT_BYTES
 
 
-def firsts_at(block: bytes, size: Size) -> Optional[Tuple[BlockNumber, ...]]:
-    """The numbers of the first blocks of the extents of so many bytes; None where they make no sense. Of one alone, its length is the
-    size."""
-    count = extent_count(size)
-    found = [EXTENT.unpack_from(block, END + EXTENT.size * index)[:2] for index in range(count)]
-    if any(first + blocks_of(extent_size(size, index)) > BLOCK_NUMBERS for index, (_, first) in enumerate(found)):
+def firsts_at(block: bytes, at: int, extents: range, size: Size) -> Optional[Tuple[BlockNumber, ...]]:
+    """The numbers of the first blocks of these extents of so many bytes, whose descriptors begin at a place of the block; None where they
+    make no sense. Of one alone, its length is the size."""
+    found = [EXTENT.unpack_from(block, at + EXTENT.size * place)[:2] for place in range(len(extents))]
+    if any(first + blocks_of(extent_size(size, index)) > BLOCK_NUMBERS for index, (_, first) in zip(extents, found)):
         return None
-    if count > 1 and any(length % 2**30 != extent_size(size, index) for index, (length, _) in enumerate(found)):
+    if extent_count(size) > 1 and any(length % 2**30 != extent_size(size, index) for index, (length, _) in zip(extents, found)):
         return None
     return tuple(first for _, first in found)
+
+
+def next_at(block: bytes, size: Size) -> Optional[BlockNumber]:
+    """The number of the first descriptor block, by the last descriptor of an entry; None where that makes no sense."""
+    length, first = EXTENT.unpack_from(block, END + EXTENT.size * own_extents(size))[:2]
+    return first if length % 2**30 == BLOCK and first + descriptor_blocks(size) <= BLOCK_NUMBERS else None
 
 
 def entry_faults(block: bytes, fields: EntryFields, location: int) -> Iterator[StructureFault]:
@@ -245,17 +282,33 @@ def place_faults(block: bytes, fields: EntryFields, kind: FileType) -> Iterator[
         if not 0 < size <= INSIDE or fields.blocks or length != size:
             yield StructureFault(DamageCause.LENGTHS, f"the size {size}, the blocks {fields.blocks} and the length {length} do not agree")
         return
-    count = extent_count(size)
-    agree = size <= greatest(kind) and fields.blocks == blocks_of(size) and length == EXTENT.size * count
+    own, further = own_extents(size), descriptor_blocks(size)
+    agree = size <= greatest(kind) and fields.blocks == blocks_of(size) and length == EXTENT.size * (own + (further > 0))
     agree = agree and (struct.unpack_from("<I", block, END)[0] % 2**30 == extent_size(size, 0) if size else kind is FileType.FILE)
+    last = END + EXTENT.size * own
     if not agree:
         yield StructureFault(DamageCause.LENGTHS, f"the size {size}, the blocks {fields.blocks}, the length {length} and the extents do not agree")
-    for index in range(count if count <= EXTENTS else 0):
-        extent, first, partition, used, last = EXTENT.unpack_from(block, END + EXTENT.size * index)
-        if extent != extent_size(size, index) or partition or used or last:
-            yield StructureFault(DamageCause.EXTENT, "an extent's kind, length, partition or implementation use is not as it must be")
-        if first + blocks_of(extent_size(size, index)) > BLOCK_NUMBERS:
-            yield StructureFault(DamageCause.EXTENT, f"the extent from block number {first} on ends past the greatest partition")
+    if size > LONGEST_FILE:
+        return
+    yield from extent_faults(block, END, range(own), size)
+    if further:
+        yield from descriptor_faults(block, last, LEADS_ON, further)
+
+
+def extent_faults(block: bytes, at: int, extents: range, size: Size) -> Iterator[StructureFault]:
+    """What is wrong with the descriptors of these extents of so many bytes, which begin at a place of the block."""
+    for place, index in enumerate(extents):
+        length = extent_size(size, index)
+        yield from descriptor_faults(block, at + EXTENT.size * place, length, blocks_of(length))
+
+
+def descriptor_faults(block: bytes, at: int, wanted: int, blocks: int) -> Iterator[StructureFault]:
+    """What is wrong with an allocation descriptor (ECMA-167 4/14.14.2) that has to say this length, and lead to so many blocks."""
+    length, first, partition, used, last = EXTENT.unpack_from(block, at)
+    if length != wanted or partition or used or last:
+        yield StructureFault(DamageCause.EXTENT, "an extent's kind, length, partition or implementation use is not as it must be")
+    if first + blocks > BLOCK_NUMBERS:
+        yield StructureFault(DamageCause.EXTENT, f"the extent from block number {first} on ends past the greatest partition")
 
 
 def write_entry(entry: Entry) -> bytes:
@@ -267,7 +320,9 @@ def write_entry(entry: Entry) -> bytes:
         flags, blocks, allocation = EMBEDDED, 0, entry.inside
     else:
         flags, blocks = LONG, blocks_of(entry.size)
-        allocation = b"".join(EXTENT.pack(extent.size, extent.first, 0, 0, 0) for extent in entry.extents)
+        allocation = b"".join(EXTENT.pack(extent.size, extent.first, 0, 0, 0) for extent in entry.extents[: own_extents(entry.size)])
+        if entry.descriptors is not None:
+            allocation += EXTENT.pack(LEADS_ON, entry.descriptors, 0, 0, 0)
     fields = EntryFields(
         0, 4, 0, 1, 0, entry.kind, bytes(6), flags, 0xFFFFFFFF, 0xFFFFFFFF, PERMISSIONS[entry.kind], entry.links, 0, 0, 0, entry.size,
         blocks, stamp, stamp, stamp, 1, bytes(16), DEVELOPER, entry.unique, 0, len(allocation),

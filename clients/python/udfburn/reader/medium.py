@@ -56,9 +56,12 @@ class RescueMap:
 
     def has(self, address: Address) -> bool:
         """Whether the whole block was read."""
-        start = address * BLOCK
+        return self.has_bytes(address * BLOCK, (address + 1) * BLOCK)
+
+    def has_bytes(self, start: int, end: int) -> bool:
+        """Whether the bytes from one place to another were read."""
         index = bisect_right(self._starts, start) - 1
-        return index >= 0 and start + BLOCK <= self._ends[index]
+        return index >= 0 and end <= self._ends[index]
 
 
 def join(ranges: List[Tuple[int, int]], start: int, end: int) -> None:
@@ -123,11 +126,13 @@ class Medium:
         return Run(b"".join(block or bytes(BLOCK) for _, block in blocks), gone)
 
     def rest(self) -> bytes:
-        """The bytes after the last whole block, as far as the system gives them."""
+        """The bytes after the last whole block; none where not all of them can be read."""
+        begin = self.blocks * BLOCK
         try:
-            return b"" if self._map is not None else os.pread(self._file, BLOCK - 1, self.blocks * BLOCK)
+            data = os.pread(self._file, BLOCK - 1, begin)
         except OSError:
             return b""
+        return data if self._map is None or self._map.has_bytes(begin, begin + len(data)) else b""
 
     def pieces(self, start: Address, end: Address) -> Iterator[Tuple[Address, Run]]:
         """All blocks from one address to another, in pieces."""

@@ -7,9 +7,15 @@ from itertools import product
 from typing import Iterable, Iterator, List, NamedTuple, Optional, Sequence, Tuple, TypeVar
 
 from ..protocol.units import BlockNumber, Size, VirtualAddress
-from .basics import BLOCK, BLOCK_NUMBERS, EXTENTS, EXTENT_BYTES, GREATEST_CAPACITY, INSIDE, NODES, blocks_of, crc, expand, is_name, read_tag, read_timestamp, write_tag
+from .basics import (
+    BLOCK, BLOCK_NUMBERS, ENTRY_DESCRIPTORS, EXTENT_BYTES, GREATEST_CAPACITY, INSIDE, LONGEST_FILE, NODES, blocks_of, crc, expand, is_name, read_tag, read_timestamp,
+    write_tag,
+)
 from .budget import Budget, Work
-from .entry import EMBEDDED, END, ENTRY_LAYOUT, EXTENT, FILE_TYPES, LONG, PERMISSIONS, Entry, EntryFields, FileType, extent_count, extent_size, read_entry, write_entry
+from .entry import (
+    EMBEDDED, END, ENTRY_LAYOUT, EXTENT, FILE_TYPES, LONG, PERMISSIONS, Entry, EntryFields, FileType, descriptor_blocks, extent_count, extent_size, own_extents,
+    read_entry, write_entry,
+)
 
 T = TypeVar("T")
 
@@ -51,10 +57,11 @@ def mend_entry(block: bytes, hint: Hint, budget: Budget) -> Optional[Entry]:
 
 
 def confirms(block: bytes, written: bytes) -> bool:
-    """Whether the block is this one with wrong bytes: by its CRC; or by its checksum where only its tag differs."""
+    """Whether the block is this one with wrong bytes: by its CRC; or where that alone differs, by its checksum, with which the CRC that is
+    there does not agree."""
     if block[8:10] == written[8:10]:
         return True
-    return block[16:] == written[16:] and block[4] == written[4] and block[:8] + block[10:16] == written[:8] + written[10:16]
+    return not read_tag(block).agrees and block[16:] == written[16:] and block[4] == written[4] and block[:8] + block[10:16] == written[:8] + written[10:16]
 
 
 def confirms_location(block: bytes, entry: Entry, location: int) -> bool:
@@ -75,8 +82,8 @@ def possible_entries(block: bytes, hint: Hint, location: int) -> Iterator[Entry]
             for links in links_of(kind, fields.links):
                 yield Entry(kind, moment, links, unique, size, place, inside, location, read_tag(block).crc, True)
         if kind is FileType.FILE:
-            for size, firsts in lists(block, fields):
-                yield Entry(kind, moment, 1, unique, size, firsts[0], None, location, read_tag(block).crc, True, firsts[1:])
+            for size, firsts, following in lists(block, fields):
+                yield Entry(kind, moment, 1, unique, size, firsts[0], None, location, read_tag(block).crc, True, firsts[1:], following)
 
 
 def places(
@@ -96,15 +103,26 @@ def places(
                     yield size, place, None
 
 
-def lists(block: bytes, fields: EntryFields) -> Iterator[Tuple[Size, Tuple[BlockNumber, ...]]]:
-    """The sizes and the first blocks of several extents that a file's entry may say."""
-    for count in unlike((extent_count(fields.size), fields.allocation_length // EXTENT.size)):
-        if not 1 < count <= EXTENTS:
-            continue
-        found = [EXTENT.unpack_from(block, END + EXTENT.size * index)[:2] for index in range(count)]
-        for size in unlike((fields.size, (count - 1) * EXTENT_BYTES + found[-1][0] % 2**30)):
-            if extent_count(size) == count and all(first + blocks_of(extent_size(size, index)) <= BLOCK_NUMBERS for index, (_, first) in enumerate(found)):
-                yield size, tuple(first for _, first in found)
+def lists(block: bytes, fields: EntryFields) -> Iterator[Tuple[Size, Tuple[BlockNumber, ...], Optional[BlockNumber]]]:
+    """The sizes and the first blocks of several extents that a file's entry may say, and the number of its first descriptor block."""
+    for size in long_sizes(block, fields):
+        found = [EXTENT.unpack_from(block, END + EXTENT.size * index)[1] for index in range(min(extent_count(size), ENTRY_DESCRIPTORS))]
+        firsts, further = tuple(found[: own_extents(size)]), descriptor_blocks(size)
+        is_below = all(first + blocks_of(extent_size(size, index)) <= BLOCK_NUMBERS for index, first in enumerate(firsts))
+        if is_below and (not further or found[-1] + further <= BLOCK_NUMBERS):
+            yield size, firsts, found[-1] if further else None
+
+
+def long_sizes(block: bytes, fields: EntryFields) -> List[Size]:
+    """The sizes above a mebibyte that a file's entry may say: in their field, by its last descriptor, and by its blocks."""
+    found = [fields.size]
+    for count in (extent_count(fields.size), fields.allocation_length // EXTENT.size):
+        if 1 < count <= ENTRY_DESCRIPTORS:
+            last, = struct.unpack_from("<I", block, END + EXTENT.size * (count - 1))
+            found.append(Size((count - 1) * EXTENT_BYTES + last % 2**30))
+    if fields.blocks != blocks_of(fields.size):
+        found.append(Size(fields.blocks * BLOCK))
+    return [size for size in unlike(found) if EXTENT_BYTES < size <= LONGEST_FILE]
 
 
 def links_of(kind: FileType, said: int) -> Sequence[int]:

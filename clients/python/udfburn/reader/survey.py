@@ -25,12 +25,13 @@ class Survey:
     """Where structures are, by the blocks themselves. Addresses go up.
 
     `tables` are VAT ICBs that are as they must be: the writer leaves no block that is one by chance. `hurt` are blocks that
-    have something of an entry and are none, `heads` those that have the head of a table.
+    have something of an entry and are none, `heads` those that have the head of a table. Of a group that was not settled these do not
+    count: only its nodes are looked for.
     """
 
     def __init__(self, volume: Volume):
         self.medium = medium = volume.medium
-        self._budget = volume.budget
+        self._budget, self._end = volume.budget, volume.end
         self.tables: List[Address] = []
         self.hurt: List[Address] = []
         self.heads: List[Address] = []
@@ -47,15 +48,19 @@ class Survey:
             if data[offset : offset + 4] == ENTRY_TAG or data[offset + 16 : offset + 27] == ICB_TAG:
                 self._entry(Address(start + offset // BLOCK), data[offset : offset + BLOCK])
             elif data[offset + HEAD_AT : offset + HEAD_AT + 32] == SESSIONS:
-                self.heads.append(Address(start + offset // BLOCK))
+                self._found(self.heads, Address(start + offset // BLOCK))
+
+    def _found(self, known: List[Address], at: Address) -> None:
+        if at < self._end:
+            known.append(at)
 
     def _entry(self, at: Address, block: bytes) -> None:
         if block[27] == TABLE_TYPE and is_table_entry(block, at):
-            self.tables.append(at)
+            self._found(self.tables, at)
             return
         entry = mend_entry(block, Hint(number_of(at)), self._budget)
         if entry is None or not entry.proved or entry.kind is FileType.TABLE:
-            self.hurt.append(at)
+            self._found(self.hurt, at)
         else:
             self._nodes.setdefault(entry.location, array("I")).append(at)
 

@@ -7,9 +7,11 @@ from typing import Dict, Iterator, List, NamedTuple, Optional, Set, Tuple
 from ..protocol.units import Address, BlockNumber, Commit, Moment, Size, VirtualAddress
 from .basics import BLOCK, DEPTH, FIRST_UNIQUE, GREATEST_CAPACITY, PARTITION, UNUSED, address_of, blocks_of, number_of, read_dstring
 from .budget import TABLE_BYTES, Budget, Work, block_budget
+from .descriptors import note_descriptors, read_descriptors, with_descriptors
 from .directory import Directory, Identifier, KnownIdentifiers, read_directory
 from .entry import Entry, Extent, FileType, is_entry_like, read_entry, read_file_set
 from .front import Front, note_front, read_front
+from .group import counted_blocks
 from .medium import Medium, Run
 from .notes import DamageCause, Notes
 from .table import ClientRecord, Table, entries_at, is_sensible, previous_of, read_clients, read_entries, read_head, table_faults
@@ -31,7 +33,8 @@ class StateNode(NamedTuple):
     `path` has its names, `unique` and `virtual` are its unique ID and its virtual address, `address` is that of its entry and
     `moment` microseconds from 1970-01-01 UTC. `size` is the bytes of a file, or of a directory's data. The data is `blocks` blocks
     from the address `data` on; `data` is None where the bytes are inside the entry, or where there are none. The data of a file of more
-    than a mebibyte is in several `extents`, of which `data` is the address of the first; `blocks` counts them all.
+    than a mebibyte is in several `extents`, of which `data` is the address of the first; `blocks` counts them all, and no descriptor
+    blocks.
     """
 
     path: Path
@@ -56,10 +59,12 @@ class Volume:
     """What a medium holds. Nothing is refused for a wrong byte: it is noted in `notes`.
 
     `label`, `moment` (of the format) and `capacity` (in blocks) are None where neither sequence of the volume header says them.
+    `end` is the address after the blocks that count: no commit of a group does that was not settled when the medium was opened.
     """
 
     def __init__(self, medium: Medium):
         self.medium = medium
+        self.end = Address(counted_blocks(medium))
         self.notes = Notes()
         self.budget = Budget(min(medium.blocks, GREATEST_CAPACITY))
         self.known = KnownIdentifiers(self.budget)
@@ -89,9 +94,9 @@ class Volume:
         raise NoVolume(f"{self.medium.path}: the chain has commits {chain[-1].commit} to {chain[0].commit}, and not {commit}")
 
     def last_entry(self) -> Optional[Address]:
-        """The address of the last VAT ICB that is as it must be."""
+        """The address of the last VAT ICB that counts and is as it must be."""
         # A device may be larger than any volume.
-        end = min(self.medium.blocks, GREATEST_CAPACITY)
+        end = min(self.end, GREATEST_CAPACITY)
         for start in range((end - 1) // 512 * 512, -1, -512):
             run = self.medium.run(Address(start), min(512, end - start))
             for index in range(len(run.data) // BLOCK - 1, -1, -1):
@@ -339,7 +344,12 @@ class State:
             return None
         if kind is FileType.FILE and entry.links != 1:
             notes.add(at, DamageCause.IDENTITY, f"{show(path)} has {entry.links} links, and not 1")
-        if entry.end > number_of(self.table.address):
+        limit = number_of(self.table.address)
+        whole = entry if entry.is_whole or entry.end > limit else self._whole(at, name.virtual, entry)
+        if whole is None:
+            return None
+        entry = whole
+        if entry.end > limit:
             notes.add(at, DamageCause.RANGE, f"the bytes of {show(path)} do not lie below the VAT ICB")
             return None
         data = address_of(entry.first) if entry.first is not None else None
@@ -359,6 +369,14 @@ class State:
             self.volume.notes.extend(at, faults)
         self._seen.entries[at, virtual] = entry
         return entry
+
+    def _whole(self, at: Address, virtual: VirtualAddress, entry: Entry) -> Optional[Entry]:
+        """An entry with the extents of its descriptor blocks; None where these cannot be used. What is wrong with them is noted."""
+        blocks = read_descriptors(self.volume.medium, entry)
+        note_descriptors(self.volume.notes, blocks)
+        whole = with_descriptors(entry, blocks)
+        self._seen.entries[at, virtual] = whole
+        return whole
 
     def _directory(self, node: StateNode) -> Optional[Directory]:
         if node.data is None:

@@ -6,9 +6,12 @@ import hashlib
 from typing import Callable, Optional
 
 from ..protocol.units import Address
-from ..reader.basics import BLOCK, EXTENT_BYTES, blocks_of
+from ..reader.basics import BLOCK, EXTENT_BYTES, LONGEST_FILE, blocks_of, number_of, read_tag
 from ..reader.budget import Work
 from ..reader.chain import Chain
+from ..reader.descriptors import DESCRIPTOR_BLOCK
+from ..reader.entry import descriptor_blocks
+from ..reader.mend import unlike
 from ..reader.notes import DamageCause
 
 STARTS = 20_000
@@ -27,8 +30,28 @@ class Carver:
 
     def find(self, address: Address, is_kept: IsKept, before: bytes = b"") -> Optional[bytes]:
         """The bytes of the file whose entry was at an address, where some that it may have had have a digest that is kept. `before` are
-        those of its earlier extents."""
+        those of its earlier extents, which were written before the descriptor blocks that are there."""
         earlier = hashlib.sha256(before)
+        for end in unlike((self._without_descriptors(address), address)):
+            found = self._last_bytes(end, is_kept, earlier)
+            if found is not None:
+                return before + found
+        return None
+
+    def _without_descriptors(self, address: Address) -> Address:
+        """The address after the data that ends before an entry: descriptor blocks may lie between them."""
+        end = address
+        while end > address - descriptor_blocks(LONGEST_FILE) and self._is_descriptor_block(Address(end - 1)):
+            end = Address(end - 1)
+        return end
+
+    def _is_descriptor_block(self, address: Address) -> bool:
+        block = self.chain.volume.medium.block(address)
+        tag = read_tag(block) if block is not None else None
+        return tag is not None and tag.agrees and (tag.identifier, tag.location) == (DESCRIPTOR_BLOCK, number_of(address))
+
+    def _last_bytes(self, address: Address, is_kept: IsKept, earlier: "hashlib._Hash") -> Optional[bytes]:
+        """The bytes of a file's last extent, which ended at an address, where they have such a digest after earlier ones."""
         volume = self.chain.volume
         low = max(self.chain.floor(address), Address(address - blocks_of(EXTENT_BYTES)))
         run = volume.medium.run(low, max(address - low, 0))
@@ -45,7 +68,7 @@ class Carver:
                 return None
             found = with_digest(run.data[start * BLOCK :], is_kept, earlier)
             if found is not None:
-                return before + found
+                return found
         return None
 
 

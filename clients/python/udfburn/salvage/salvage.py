@@ -6,7 +6,7 @@ import hashlib
 from typing import Dict, FrozenSet, Iterator, List, NamedTuple, Optional, Set, Tuple
 
 from ..base.errors import UdfburnError
-from ..base.manifest import BAG_DECLARATION
+from ..base.manifest import BAG_DECLARATION, LONGEST_MANIFEST
 from ..protocol import escaped
 from ..protocol.units import Address, Commit, Size
 from ..reader import FileType, Medium, Note, Volume
@@ -14,12 +14,13 @@ from ..reader.audit import audit
 from ..reader.basics import BLOCK, EXTENT_BYTES, address_of, blocks_of, crc
 from ..reader.budget import Work
 from ..reader.chain import Chain, Link, Span
-from ..reader.entry import Entry
+from ..reader.entry import Entry, Extent, descriptor_blocks
 from ..reader.notes import DamageCause
 from ..reader.survey import Survey
 from ..reader.volume import Path
 from .carve import Carver, IsKept
 from .digests import Digests, Manifest, add_manifests, folder_of, is_manifest
+from .extents import all_but_last
 from .ledger import NOTHING_KEPT, FoundFile, LedgerFile, LedgerRecords, commits_of
 from .tree import LOST_AND_FOUND, Item, SalvageTree
 from .write import InTheWay, Output, WrittenFile
@@ -99,8 +100,16 @@ class Salvage:
         return sorted(self.volume.notes.all())
 
     def paths(self) -> Dict[Address, str]:
-        """The paths of nodes, by the addresses of their entries."""
-        return {item.version.address: "/" + "/".join(item.path) for item in self.tree.items if item.version is not None}
+        """The paths of nodes, by the addresses of their entries, and of their descriptor blocks."""
+        found: Dict[Address, str] = {}
+        for item in self.tree.items:
+            path = "/" + "/".join(item.path)
+            if item.version is not None:
+                found[item.version.address] = path
+            if item.entry is not None and item.entry.descriptors is not None:
+                begin = address_of(item.entry.descriptors)
+                found.update({Address(begin + index): path for index in range(descriptor_blocks(item.entry.size))})
+        return found
 
     def missing(self) -> List[Commit]:
         """The commits that were acknowledged to the ledger and that come after the newest table."""
@@ -129,7 +138,7 @@ class Salvage:
         bags = {path[:-1] for path in files if path[-1] == BAG_DECLARATION}
         for path, item in files.items():
             is_nameless = path[0] == LOST_AND_FOUND and bool(item.why)
-            if (is_nameless or is_manifest(path[-1])) and item.version is not None:
+            if (is_nameless or is_manifest(path[-1])) and item.version is not None and item.version.entry.size <= LONGEST_MANIFEST:
                 read, digest = self.bytes_of(item.version.entry), hashlib.sha256
                 folder = folder_of(read.data, files) if is_nameless else path[:-1]
                 if folder is not None:
@@ -166,7 +175,7 @@ class Salvage:
     def _carved(self, item: Item) -> Optional[bytes]:
         """The newest bytes of a file whose newest entry is lost, where a digest of them is kept."""
         address = self.tree.address(item)
-        is_lost = item.version is None or item.version.commit is not None or is_carved(item.version.entry)
+        is_lost = item.version is None or item.version.commit is not None or is_carved(item.version.entry) or all_but_last(item.version.entry) is not None
         if address is None or not is_lost or item.is_unfinished:
             return None
         commits = self.chain.commit_of(address)
@@ -185,37 +194,55 @@ class Salvage:
         return self._appended(item, address, is_known) or self._carver.find(address, is_known)
 
     def _appended(self, item: Item, address: Address, is_kept: IsKept) -> Optional[bytes]:
-        """The bytes of a file whose newest entry is lost, where the one before it has all of its extents but the last."""
+        """The bytes of a file of which all extents but the last are known: its newest entry is lost, or the descriptor block that has the
+        last."""
         entry = item.entry
-        if entry is None or item.version is None or item.version.commit is None or not entry.size or entry.size % EXTENT_BYTES:
+        if entry is None or item.version is None:
             return None
-        before = self.bytes_of(entry)
-        return self._carver.find(address, is_kept, before.data) if not before.why else None
+        shorter = all_but_last(entry)
+        if shorter is None and (item.version.commit is None or not entry.size or entry.size % EXTENT_BYTES):
+            return None
+        before = self.bytes_of(shorter or entry)
+        if before.ranges:
+            return None
+        end = min(address, address_of(entry.descriptors)) if shorter is not None and entry.descriptors is not None else address
+        return self._carver.find(end, is_kept, before.data)
 
     # ---- files
 
     def bytes_of(self, entry: Entry) -> RecoveredBytes:
         """The bytes of a file."""
-        doubt = "" if entry.proved else "its entry has a wrong byte, which may be one of its own"
-        if is_carved(entry):
-            doubt = "its entry is lost, and how many bytes it has is not known"
         if entry.inside is not None:
-            return RecoveredBytes(entry.inside, (), doubt)
+            return RecoveredBytes(entry.inside, (), doubt_of(entry))
         if entry.first is None:
-            return RecoveredBytes(b"", (), doubt)
-        ranges, pieces = [], []
+            return RecoveredBytes(b"", (), doubt_of(entry))
+        ranges: List[Tuple[int, int]] = []
+        # As long as the file may be, there is one copy of it.
+        data = bytearray(entry.size) if entry.others else b""
         for index, extent in enumerate(entry.extents):
-            start = address_of(extent.first)
-            run = self.medium.run(start, blocks_of(extent.size))
-            for at in run.missing:
-                begin = (at - start) * BLOCK
-                ranges.append((EXTENT_BYTES * index + begin, min(BLOCK, extent.size - begin)))
-                self.volume.notes.add(at, DamageCause.MISSING, "a block of a file cannot be read")
-            if not run.missing and any(run.data[extent.size :]):
-                self.volume.notes.add(Address(address_of(extent.end) - 1), DamageCause.TAIL, "a byte after the bytes of a file is not zero")
-            pieces.append(run.data[: extent.size])
-        data = pieces[0] if len(pieces) == 1 else b"".join(pieces)
-        return RecoveredBytes(data, joined_ranges(ranges), "blocks of it cannot be read" if ranges else doubt)
+            begin = EXTENT_BYTES * index
+            piece, gone = self._extent(extent)
+            ranges += [(begin + start, count) for start, count in gone]
+            if isinstance(data, bytearray):
+                data[begin : begin + extent.size] = piece
+            else:
+                data = piece
+        is_known = all(extent.is_known for extent in entry.extents)
+        why = "blocks of it cannot be read" if is_known else "a descriptor block of it is damaged, and where some of its bytes are is not known"
+        return RecoveredBytes(data, joined_ranges(ranges), why if ranges else doubt_of(entry))
+
+    def _extent(self, extent: Extent) -> Tuple[bytes, List[Tuple[int, int]]]:
+        """The bytes of an extent, with zeros where they are missing, and the ranges of those."""
+        if not extent.is_known:
+            return bytes(extent.size), [(0, extent.size)]
+        start = address_of(extent.first)
+        run = self.medium.run(start, blocks_of(extent.size))
+        for at in run.missing:
+            self.volume.notes.add(at, DamageCause.MISSING, "a block of a file cannot be read")
+        if not run.missing and any(run.data[extent.size :]):
+            self.volume.notes.add(Address(address_of(extent.end) - 1), DamageCause.TAIL, "a byte after the bytes of a file is not zero")
+        begins = [(at - start) * BLOCK for at in run.missing]
+        return run.data[: extent.size], [(begin, min(BLOCK, extent.size - begin)) for begin in begins]
 
     def judged(self, item: Item) -> Tuple[SalvageOutcome, bytes]:
         """What was had of a file, and its bytes."""
@@ -351,6 +378,15 @@ def target_of(item: Item, outcome: SalvageOutcome) -> Path:
     if outcome.state == FILE_WHOLE:
         return item.target[:-1] + (item.path[-1],)
     return item.target
+
+
+def doubt_of(entry: Entry) -> str:
+    """Why the bytes to which an entry leads are not certain."""
+    if is_carved(entry):
+        return "its entry is lost, and how many bytes it has is not known"
+    if entry.descriptors is not None:
+        return "" if entry.proved else "its entry or a descriptor block of it has a wrong byte, so it is not certain where its bytes are"
+    return "" if entry.proved else "its entry has a wrong byte, which may be one of its own"
 
 
 def is_carved(entry: Entry) -> bool:

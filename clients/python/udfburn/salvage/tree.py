@@ -10,12 +10,14 @@ from ..protocol.units import Address, BlockNumber, Commit, Size, VirtualAddress
 from ..reader.basics import BLOCK, DEPTH, EXTENT_BYTES, UNUSED, address_of, blocks_of, number_of
 from ..reader.budget import Work
 from ..reader.chain import Chain, Span
+from ..reader.descriptors import DescriptorBlock, note_descriptors, read_descriptors
 from ..reader.directory import OF_PARENT, Directory, Identifier, KnownIdentifiers, piece_at, read_directory, said_by
-from ..reader.entry import Entry, FileType, read_entry
+from ..reader.entry import Entry, FileType, descriptor_blocks, read_entry
 from ..reader.medium import Medium
 from ..reader.mend import Hint, mend_entry
 from ..reader.notes import DamageCause
 from ..reader.volume import ROOT, Path, show
+from .extents import EarlierEntry, whole_entry
 
 LOST_AND_FOUND = "lost+found"
 LISTINGS = 100
@@ -305,9 +307,34 @@ class SalvageTree:
         entry = item.entry
         if not self._takes(Work.NODES, 1 + (entry.blocks if entry is not None else 0)):
             return
+        if item.version is not None and not item.version.entry.is_whole:
+            item = item._replace(version=self._whole(item, item.version))
         self.items.append(item)
         if item.kind is FileType.DIRECTORY:
             self._descend(item)
+
+    # ---- descriptor blocks
+
+    def _whole(self, item: Item, version: Version) -> Version:
+        """The entry of a file with all of its extents, as far as its descriptor blocks or earlier entries say where they are."""
+        blocks = self._descriptors(version.entry, item.is_unfinished)
+        if version.commit is None:
+            note_descriptors(self.notes, blocks)
+        return version._replace(entry=whole_entry(version.entry, blocks, self._entries_before(item, version)))
+
+    def _descriptors(self, entry: Entry, is_unfinished: bool = False) -> List[DescriptorBlock]:
+        """The descriptor blocks of an entry; none where they do not lie below the VAT ICB."""
+        end = self.medium.blocks if is_unfinished else self.link.address
+        if entry.end > number_of(Address(end)) or not self._takes(Work.DESCRIPTORS, descriptor_blocks(entry.size)):
+            return []
+        return read_descriptors(self.medium, entry)
+
+    def _entries_before(self, item: Item, version: Version) -> Iterator[EarlierEntry]:
+        """The entries that a file had before one of them, the newest first."""
+        for at, _ in self.versions(item.virtual, min(version.address, self.link.start)):
+            older = self._entry(at, item.virtual, version.entry.unique, FileType.FILE)
+            if older is not None and older.proved:
+                yield EarlierEntry(older, self._descriptors(older))
 
     def _recover(self, item: Item) -> None:
         """Takes the nodes that a directory lost, by the names that its newest earlier listings have."""
@@ -360,7 +387,7 @@ class SalvageTree:
 
 
     def _add_unfinished(self) -> None:
-        """Takes the nodes of a commit that has no VAT ICB: it was cut, or its last block is lost."""
+        """Takes the nodes of a commit that has no VAT ICB, as it was cut, or its last block is lost; and those of an unfinished group."""
         names = {name.virtual: name for at in self.survey.nodes_after(self.link.address) for name in self._names_at(at)}
         for at in self.survey.nodes_after(self.link.address):
             block = self.medium.block(at)
@@ -371,7 +398,8 @@ class SalvageTree:
             name = names.get(virtual)
             called = f", and its name is {name.name}" if name is not None and name.unique == entry.unique else ""
             path = (LOST_AND_FOUND, f"{entry.unique}.unfinished")
-            why = f"the commit that wrote it has no VAT ICB: it was interrupted, or its last block is lost{called}"
+            cut = "the commit that wrote it has no VAT ICB: it was interrupted, or its last block is lost"
+            why = (cut if at < self.volume.end else "it is of a group of commits that was not finished") + called
             self._put(Item(path, path, FileType.FILE, virtual, Version(entry, at, None), None, why, True))
 
     def _names_at(self, at: Address) -> Iterator[Identifier]:

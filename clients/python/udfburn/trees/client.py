@@ -147,7 +147,7 @@ class Client:
         return self.do(Remove, path, moment)
 
     def put(self, path: PathLike, data: bytes, moment: Optional[Moment] = None) -> Commit:
-        """Stores a file of at most 122,683,392 bytes: creates it, or replaces the one that is there. Above a mebibyte it takes a request
+        """Stores a file of at most 921,698,304 bytes: creates it, or replaces the one that is there. Above a mebibyte it takes a request
         for each mebibyte, and is there whole or not at all. Raises `IsDirectory` if a directory is at its path."""
         if len(data) > limits.FILE:
             from .growing import put_bytes
@@ -309,7 +309,7 @@ class Client:
         from .walk import quiet
 
         options = ImportOptions(
-            recursive=True, parents=parents, split=split, rewrite=rewrite, skip_odd=skip_odd, escape=escape, delete_source=delete_source,
+            recursive=True, parents=parents, rewrite=rewrite, split=split, skip_odd=skip_odd, escape=escape, delete_source=delete_source,
             verify=verify, dry_run=dry_run, moment=moment, image=image,
         )
         return put_tree(self, local, path_of(path), options, told or quiet)

@@ -5,14 +5,14 @@ from __future__ import annotations
 from contextlib import closing
 from typing import TYPE_CHECKING, Callable, Dict, List, Optional, Set, Tuple
 
-from ..base.errors import IsDirectory, NotFound, SourceError
-from ..base.split import base_of, part_folders, stays_in_parts, stored_paths
+from ..base.errors import SourceError
+from ..base.older_parts import base_of, is_in_parts, part_folders, stored_paths
 from ..base.unfinished import is_unfinished
 from ..local.sources import Scan, Source, scan
-from ..protocol import Node, NodeKind, Path, Stat, limits, printed, show
+from ..protocol import Node, NodeKind, Path, Stat, limits, show
 from ..wire.pieces import queries_of
 from .jobs import same_bytes
-from .stored import find_file
+from .older_parts import faults_of_parts
 from .walk import StepTold, quiet, walk
 
 if TYPE_CHECKING:
@@ -44,17 +44,15 @@ def verify_tree(
         for folder in found.folders:
             compare_kind(show(folder.path), kinds.get(folder.path), NodeKind.DIRECTORY, result)
         there: List[Source] = []
-        parts = {file.path for file in found.files if split and stays_in_parts(file.path, file.identity.size, kinds)}
+        parts = {file.path for file in found.files if split and is_in_parts(file.path, file.identity.size, kinds)}
         for source in found.files:
-            paths = stored_paths(source.path, source.identity.size, source.path in parts)
-            wanted.update(paths, part_folders(source.path, source.identity.size, source.path in parts))
+            paths = stored_paths(source.path, source.identity.size) if source.path in parts else [source.path]
+            wanted.update(paths, part_folders(source.path, source.identity.size) if source.path in parts else ())
             if all([compare_kind(show(part), kinds.get(part), NodeKind.FILE, result) for part in paths]):
                 there.append(source)
         begin(len(there), sum(source.identity.size for source in there))
         same = compare_files(client, there, parts, result, told)
-        for source in same:
-            if source.path in parts:
-                compare_parts(client, source, result)
+        result.differences += [fault for source in same if source.path in parts for fault in faults_of_parts(client, source)]
     result.folders = len(found.folders)
     result.extra = sorted(show(extra) for extra in kinds if extra not in wanted and len(extra) > len(path) and not is_unfinished(extra))
     return result
@@ -86,20 +84,6 @@ def compare_kind(path: str, kind: Optional[NodeKind], wanted: NodeKind, result: 
     return False
 
 
-def compare_parts(client: Client, source: Source, result: Comparison) -> None:
-    """Compares the parts of a file with those that are read as one file: an earlier, longer one may have left more, or a whole one."""
-    paths = stored_paths(source.path, source.identity.size, True)
-    if len(paths) == 1:
-        return
-    try:
-        others = [part for part in find_file(client, source.path, True).parts if part not in paths]
-    except (IsDirectory, NotFound):
-        result.differences.append((show(source.path), "is there in parts, but with --split they are not read as one file"))
-        return
-    if others:
-        result.differences.append((show(source.path), f"is there, but with --split {printed(others[0])} is read as a part of it"))
-
-
 def of_other_size(client: Client, sources: List[Source], parts: Set[Path]) -> Set[Path]:
     """The files of more than a mebibyte that have another size on the volume: they are read piece by piece, as far as the local ones go."""
     large = [source for source in sources if source.path not in parts and source.identity.size > limits.FILE]
@@ -112,7 +96,8 @@ def compare_files(client: Client, sources: List[Source], parts: Set[Path], resul
     equal: List[Source] = []
     others = of_other_size(client, sources, parts)
     asked = [
-        [] if source.path in others else queries_of(stored_paths(source.path, source.identity.size, source.path in parts), source.identity.size)
+        [] if source.path in others
+        else queries_of(stored_paths(source.path, source.identity.size) if source.path in parts else [source.path], source.identity.size)
         for source in sources
     ]
     with closing(client.ask_all(query for queries in asked for query in queries)) as answers:

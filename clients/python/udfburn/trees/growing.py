@@ -18,7 +18,7 @@ from ..protocol.units import Commit, Moment, Size
 from ..wire.operations import Operation, Whole, now
 from ..wire.pieces import queries_of
 from ..wire.refusals import commit_of
-from .jobs import same_parts
+from .jobs import same_pieces
 from .walk import remove_paths
 
 if TYPE_CHECKING:
@@ -81,7 +81,7 @@ def pieces_there(client: Client, source: Source, path: Path, size: int) -> Optio
     queries = queries_of([path], size)
     with closing(client.ask_all(queries)) as answers:
         try:
-            kept = same_parts(source, len(queries), range(len(queries)), answers)
+            kept = same_pieces(source, len(queries), answers)
         except SourceError:
             # Whoever stores it reports that.
             return None

@@ -19,14 +19,15 @@ class ImportOptions(NamedTuple):
     """How folders and files are stored.
 
     A file whose bytes are there already is left alone, unless `rewrite`. `skip_same` is that default's own name, and changes nothing.
+    With `split` a file takes the place of its parts, as earlier versions stored it; without it they stay, and are named.
     With `delete_last` nothing is deleted before `Importer.delete_kept` is called.
     """
 
     recursive: bool = False
     parents: bool = False
-    split: bool = False
     skip_same: bool = True
     rewrite: bool = False
+    split: bool = False
     skip_odd: bool = False
     escape: bool = False
     delete_source: bool = False
@@ -50,15 +51,15 @@ class ImportSummary:
 
 
 class Job:
-    """A file on its way: the paths of its parts, the SHA-256 of those that the volume has already, by their numbers, the SHA-256 of each that was read
-    and of all so far, what became of it, and the moment that the volume has of an earlier one. One above a mebibyte with one path
-    grows by appends, and is `named` once it has this path: its parts are its pieces."""
+    """A file on its way: the SHA-256 of those of its pieces that the volume has already, by their numbers, the SHA-256 of each that was read
+    and of all so far, what became of it, and the moment that the volume has of an earlier one. One above a mebibyte grows by appends, and
+    is `named` once it has its own path. `parts` are those that an earlier version stored, which are only compared."""
 
-    def __init__(self, source: Source, paths: List[Path], same: Optional[Dict[int, bytes]] = None):
+    def __init__(self, source: Source, same: Optional[Dict[int, bytes]] = None, parts: Sequence[Path] = ()):
         self.source = source
-        self.paths = paths
-        self.grows = len(paths) == 1 and source.identity.size > limits.FILE
-        self.count = -(-source.identity.size // limits.FILE) if self.grows else len(paths)
+        self.parts = parts or [source.path]
+        self.grows = source.identity.size > limits.FILE
+        self.count: int = max(-(-source.identity.size // limits.FILE), 1)
         self.named = not self.grows
         self.same: Dict[int, bytes] = same or {}
         self.digests: List[bytes] = []
@@ -67,17 +68,12 @@ class Job:
         self.moment: Optional[Moment] = None
         self.failure: Optional[str] = None
 
-    def size_of(self, index: int) -> int:
-        """The bytes of a part."""
-        size: int = self.source.identity.size
-        return min(limits.FILE, size - index * limits.FILE) if len(self.paths) > 1 else size
-
-    def take(self, part: bytes) -> Optional[Whole]:
-        """Takes a part that was read and is to be sent. With the last of several parts: the whole file."""
-        self.digests.append(digest(part))
+    def take(self, piece: bytes) -> Optional[Whole]:
+        """Takes a piece that was read and is to be sent. With the last of several: the whole file."""
+        self.digests.append(digest(piece))
         if self.count == 1:
             return None
-        self.whole.update(part)
+        self.whole.update(piece)
         last = len(self.digests) == self.count
         return self.of_whole() if last else None
 
@@ -86,32 +82,31 @@ class Job:
         self.failure = self.failure or why
 
     def stored(self) -> bool:
-        """Whether all of its parts are stored, under its own path."""
+        """Whether all of its pieces are stored, under its own path."""
         return self.failure is None and self.done == self.count and self.named
 
     def queries(self) -> List[Query]:
-        """The queries that give its parts."""
-        return queries_of(self.paths, self.source.identity.size)
+        """The queries that give its pieces."""
+        return queries_of(self.parts, self.source.identity.size)
 
     def of_whole(self) -> Whole:
-        """The whole file, once all of its parts were read."""
+        """The whole file, once all of its pieces were read."""
         return Whole(self.source.path, self.source.identity.size, self.whole.digest())
 
 
-def same_parts(source: Source, count: int, indexes: Sequence[int], answers: Iterator[object]) -> Dict[int, bytes]:
-    """The first parts of a file, so many, whose bytes answers have, by their numbers, and the SHA-256 of each. There is an answer for each
-    of these numbers, and all are taken. Raises where the file cannot be read, or changed meanwhile."""
-    asked = set(indexes)
+def same_pieces(source: Source, count: int, answers: Iterator[object]) -> Dict[int, bytes]:
+    """The first pieces of a file, so many, whose bytes answers have, by their numbers, and the SHA-256 of each. There is an answer for each,
+    and all are taken. Raises where the file cannot be read, or changed meanwhile."""
     same: Dict[int, bytes] = {}
     error: Optional[SourceError] = None
-    with closing(read_parts(source)) as parts:
+    with closing(read_parts(source)) as pieces:
         for index in range(count):
-            answer = next(answers) if index in asked else None
+            answer = next(answers)
             try:
-                part = None if error else next(parts, None)
+                piece = None if error else next(pieces, None)
             except SourceError as failed:
                 error = failed
-            if error is None and isinstance(answer, Data) and answer.data == part:
+            if error is None and isinstance(answer, Data) and answer.data == piece:
                 same[index] = digest(answer.data)
     if error is not None:
         raise error
@@ -119,12 +114,12 @@ def same_parts(source: Source, count: int, indexes: Sequence[int], answers: Iter
 
 
 def same_bytes(source: Source, count: int, answers: Iterator[object]) -> bool:
-    """Whether answers have the bytes of a file, part by part. As many are taken as it has parts. Raises as `same_parts` does."""
-    return len(same_parts(source, count, range(count), answers)) == count
+    """Whether answers have the bytes of a file, piece by piece. As many are taken as it has pieces. Raises as `same_pieces` does."""
+    return len(same_pieces(source, count, answers)) == count
 
 
 def reads_back(job: Job, answers: Iterator[object]) -> bool:
-    """Whether answers have the bytes that were sent. As many are taken as the file has parts."""
+    """Whether answers have the bytes that were sent. As many are taken as the file has pieces."""
     same = True
     for wanted in job.digests:
         answer = next(answers)
@@ -132,4 +127,4 @@ def reads_back(job: Job, answers: Iterator[object]) -> bool:
     return same
 
 
-__all__ = ["ImportOptions", "ImportSummary", "Job", "digest", "reads_back", "same_bytes", "same_parts"]
+__all__ = ["ImportOptions", "ImportSummary", "Job", "digest", "reads_back", "same_bytes", "same_pieces"]

@@ -3,15 +3,14 @@
 from __future__ import annotations
 
 from collections import Counter
-from typing import TYPE_CHECKING, Dict, List, Optional, Set, Tuple
+from typing import TYPE_CHECKING, Dict, List, Optional, Set
 
-from ..base.split import base_of, has_form, needs_parts, next_part, own_paths, part_count, part_folders, stored_paths
-from ..base.unfinished import UNDER_WAY, UNFINISHED_PREFIX, grows, is_unfinished, unfinished_path
-from ..local.sources import Folder, Scan, Source, shown, why_not
+from ..base.unfinished import UNDER_WAY, UNFINISHED_PREFIX, is_unfinished, unfinished_path
+from ..local.sources import Folder, Scan, Source, shown
 from ..protocol import NodeKind, Path, limits, printed
 
 if TYPE_CHECKING:
-    from ..image.blocks import Space
+    from ..image.blocks import Reckoner, Space
 
 
 class Present:
@@ -27,80 +26,49 @@ class Present:
 
 
 class Plan:
-    """What an import does: directories that are made, those for parts among them, files with the paths of their parts, the
-    parts and pieces that stay as they are, and what goes: after a file is stored, or, of `unfinished`, before."""
+    """What an import does: directories that are made, files, the pieces of them that are there, and what goes: parts of an earlier version
+    after their file is stored, and what is `unfinished` before."""
 
     def __init__(self, faults: List[str]):
         self.folders: List[Folder] = []
-        self.part_folders: List[Folder] = []
-        self.files: List[Tuple[Source, List[Path]]] = []
+        self.files: List[Source] = []
         self.kept: Dict[Path, Dict[int, bytes]] = {}
-        self.stale: Dict[Path, List[Path]] = {}
+        self.parts: Dict[Path, List[Path]] = {}
         self.unfinished: List[Path] = []
         self.faults = faults
         self.blocks: Optional[int] = None
         self.left: Optional[int] = None
 
 
-def plan(scan: Scan, present: Present, split: bool, space: Optional[Space], stale: Optional[Dict[Path, List[Path]]] = None) -> Plan:
-    """Plans an import, with all that speaks against it. `stale` is what goes with it."""
+def plan(scan: Scan, present: Present, space: Optional[Space], parts: Optional[Dict[Path, List[Path]]] = None) -> Plan:
+    """Plans an import, with all that speaks against it. `parts` are those that files take the place of, in the order in which they go."""
     planned = Plan(list(scan.faults))
-    planned.kept, planned.stale, planned.unfinished = scan.kept, stale or {}, scan.unfinished
+    planned.files, planned.kept, planned.parts, planned.unfinished = scan.files, scan.kept, parts or {}, scan.unfinished
     for folder in scan.folders:
         if present.kinds.get(folder.path) is NodeKind.FILE:
             planned.faults.append(f"{printed(folder.path)}: is a file, and is to be a directory")
         elif folder.path not in present.kinds:
             planned.folders.append(folder)
-    planned.files = [(source, stored_paths(source.path, source.identity.size, source.path in scan.split)) for source in scan.files]
-    taken = {folder.path for folder in scan.folders}
-    for source, _ in planned.files:
-        add_part_folders(planned, present, source, source.path in scan.split, taken)
-    sources = [source for source, _ in planned.files]
-    check_shared(planned, [path for source in sources + scan.same for path in own_paths(source.path, source.identity.size, source.path in scan.split)])
-    if split:
-        check_next_parts(planned, present, scan)
+    check_shared(planned, [source.path for source in scan.files + scan.same])
     check_paths(planned, present)
     check_counts(planned, present)
     reckon(planned, present, space)
     return planned
 
 
-def refuse_sizes(scan: Scan, split: bool) -> None:
-    """Takes out the files that no volume may have, by their sizes or the names of their parts: each is a fault."""
-    faults = [fault_of(source, split) for source in scan.files]
+def refuse_files(scan: Scan) -> None:
+    """Takes out the files that no volume may have, by their sizes or their paths: each is a fault."""
+    faults = [fault_of(source) for source in scan.files]
     scan.faults += [f"{shown(source.local)}: {fault}" for source, fault in zip(scan.files, faults) if fault]
     scan.files = [source for source, fault in zip(scan.files, faults) if not fault]
 
 
-def fault_of(source: Source, split: bool) -> Optional[str]:
-    """Why a file cannot be stored by its size and its name, if it cannot."""
-    size, split = source.identity.size, split and needs_parts(source.identity.size)
+def fault_of(source: Source) -> Optional[str]:
+    """Why a file cannot be stored by its size and its path, if it cannot."""
+    size = source.identity.size
     if is_unfinished(source.path):
         return f"would have a path that begins with /{UNFINISHED_PREFIX}: such files are not whole, and clients remove them"
-    if grows(size, split):
-        return f"has {size} bytes, and a file has at most {limits.GREATEST_FILE} (--split stores it in parts)" if size > limits.GREATEST_FILE else None
-    if part_count(size) > limits.NODES:
-        return f"takes {part_count(size):,} parts, and a volume has at most {limits.NODES:,} files and directories"
-    # All parts have names of one length. What is whole has a name that was looked at where it was found.
-    names = [path[-1] for path in own_paths(source.path, size, split)[1:2]]
-    if any(why_not(name) for name in names):
-        return "the name of a part takes more than 255 bytes as it is encoded on the medium"
-    return None
-
-
-def add_part_folders(planned: Plan, present: Present, source: Source, split: bool, taken: Set[Path]) -> None:
-    """Plans the folders that the parts of a file take, where they are missing. What else has one of their paths is a fault."""
-    base = base_of(source.path)
-    for path in part_folders(source.path, source.identity.size, split):
-        if path in taken:
-            planned.faults.append(f"{printed(path)}: a folder has this path, and so would the parts of {shown(source.local)}")
-            break
-        elif present.kinds.get(path) is NodeKind.FILE:
-            planned.faults.append(f"{printed(path)}: is a file, and the parts of {shown(source.local)} take a directory there")
-        elif path not in present.kinds:
-            planned.part_folders.append(Folder(source.local, path, source.identity.modified))
-        elif path == base and present.names.get(base) and not has_form(base, present.names, present.kinds):
-            planned.faults.append(f"{printed(path)}: has other names than those of parts, and would have the parts of {shown(source.local)}")
+    return f"has {size} bytes, and a file has at most {limits.GREATEST_FILE}" if size > limits.GREATEST_FILE else None
 
 
 def check_shared(planned: Plan, taken: List[Path]) -> None:
@@ -111,27 +79,13 @@ def check_shared(planned: Plan, taken: List[Path]) -> None:
             planned.faults.append(f"{printed(path)}: more than one of the files and folders would have this path")
 
 
-def check_next_parts(planned: Plan, present: Present, scan: Scan) -> None:
-    """Files that would be read as a part of another one, though they are none: those after a last part that is full."""
-    sources = [source for source, _ in planned.files] + scan.same
-    stored = {path for source in sources for path in stored_paths(source.path, source.identity.size, source.path in scan.split)}
-    stale = {path for paths in planned.stale.values() for path in paths}
-    for source in [source for source in sources if source.path in scan.split]:
-        path = next_part(source.path, source.identity.size)
-        if path is not None and (path in stored or (present.kinds.get(path) is NodeKind.FILE and path not in stale)):
-            planned.faults.append(f"{printed(path)}: would be read as a part of {shown(source.local)}, which has no more parts: give one of them another name")
-
-
 def check_paths(planned: Plan, present: Present) -> None:
     """Names, depths, kinds and parents."""
-    made: Set[Path] = {folder.path for folder in planned.folders + planned.part_folders}
-    # The parts of a file have one depth, and in a folder of parts one parent that is made.
-    targets = [paths[0] for _, paths in planned.files]
-    for source, paths in planned.files:
-        for path in dict.fromkeys([source.path, *paths]):
-            if present.kinds.get(path) is NodeKind.DIRECTORY:
-                planned.faults.append(f"{printed(path)}: is a directory, and {shown(source.local)} is a file")
-    for path in targets + sorted(made):
+    made: Set[Path] = {folder.path for folder in planned.folders}
+    for source in planned.files:
+        if present.kinds.get(source.path) is NodeKind.DIRECTORY:
+            planned.faults.append(f"{printed(source.path)}: is a directory, and {shown(source.local)} is a file")
+    for path in [source.path for source in planned.files] + sorted(made):
         if is_unfinished(path):
             planned.faults.append(f"{printed(path)}: begins with /{UNFINISHED_PREFIX}, as the names of files do that clients have not finished")
         if len(path) > limits.DEPTH:
@@ -144,7 +98,7 @@ def check_paths(planned: Plan, present: Present) -> None:
 
 def new_paths(planned: Plan, present: Present) -> List[Path]:
     """The paths that an import adds."""
-    paths = [folder.path for folder in planned.folders + planned.part_folders] + [path for _, paths in planned.files for path in paths]
+    paths = [folder.path for folder in planned.folders] + [source.path for source in planned.files]
     return [path for path in dict.fromkeys(paths) if path not in present.kinds]
 
 
@@ -152,7 +106,7 @@ def check_counts(planned: Plan, present: Present) -> None:
     """Names in a directory, and nodes of the volume."""
     added = new_paths(planned, present)
     counts = Counter(path[:-1] for path in added if path)
-    growing = [path for source, (path, *more) in planned.files if not more and source.identity.size > limits.FILE]
+    growing = [source.path for source in planned.files if source.identity.size > limits.FILE]
     elsewhere = min(UNDER_WAY, sum(path[:-1] != () or path in present.kinds for path in growing))
     if elsewhere:
         counts[()] += elsewhere
@@ -168,7 +122,7 @@ def check_counts(planned: Plan, present: Present) -> None:
 
 
 def reckon(planned: Plan, present: Present, space: Optional[Space]) -> None:
-    """Blocks, where the image is there to be looked at."""
+    """Blocks, where the image is there to be looked at. The first file that does not fit is named."""
     if space is None or planned.faults:
         return
     from ..image.blocks import Reckoner
@@ -177,22 +131,26 @@ def reckon(planned: Plan, present: Present, space: Optional[Space]) -> None:
     reckoner = Reckoner(space)
     for path, names in present.names.items():
         reckoner.directory(path, names)
-    fits = [reckoner.make(folder.path) for folder in planned.folders + planned.part_folders]
-    fits += [reckoner.remove(path) for path in planned.unfinished]
-    for source, paths in planned.files:
-        left: int = source.identity.size
-        kept = planned.kept.get(source.path, ())
-        if len(paths) == 1 and left > limits.FILE:
-            fits.append(reckoner.grow(source.path, left, len(kept), unfinished_path(0, source.path), source.path in present.kinds))
-            continue
-        for index, path in enumerate(paths):
-            size = min(left, limits.FILE)
-            left -= size
-            if index in kept:
-                continue
-            fits.append(reckoner.replace(size) if path in present.kinds else reckoner.create(path, size))
+    fits = all([reckoner.make(folder.path) for folder in planned.folders])
+    fits = all([reckoner.remove(path) for path in planned.unfinished]) and fits
+    for source in planned.files:
+        left = max(space.left(), 0)
+        if not reckon_file(reckoner, planned, present, source):
+            if fits:
+                planned.faults.append(f"{printed(source.path)}: has {source.identity.size} bytes, and there is no room for them: {left * limits.BLOCK} are free by then")
+            fits = False
     planned.blocks = space.next - begin
-    if not all(fits):
+    if not fits:
         planned.faults.append(
             f"the import takes {planned.blocks} blocks, and {reckoner.end - begin} must be free while it is written; {planned.left} are free"
         )
+
+
+def reckon_file(reckoner: Reckoner, planned: Plan, present: Present, source: Source) -> bool:
+    """Goes on by a file, and by the parts whose place it takes. Whether it fits."""
+    path, size, there = source.path, source.identity.size, source.path in present.kinds
+    if size > limits.FILE:
+        fits = reckoner.grow(path, size, len(planned.kept.get(path, ())), unfinished_path(0, path), there)
+    else:
+        fits = reckoner.replace(size) if there else reckoner.create(path, size)
+    return all([reckoner.remove(part) for part in planned.parts.get(path, [])]) and fits

@@ -6,7 +6,7 @@ from contextlib import closing
 from typing import TYPE_CHECKING, Dict, List, NamedTuple, Sequence
 
 from ..base.errors import IsDirectory
-from ..base.split import SUFFIX, base_of, joined_folder, joined_parts
+from ..base.older_parts import SUFFIX, base_of, joined_folder, joined_parts
 from ..base.unfinished import is_unfinished
 from ..protocol import Name, Node, NodeKind, Path, Stat, show
 from ..protocol.units import Moment
@@ -26,6 +26,10 @@ class StoredFile(NamedTuple):
     moment: Moment
     size: int
     folders: List[Path]
+
+    def removal(self) -> List[Path]:
+        """All of these paths in the order in which they go: what is below a folder before it, and the last part first."""
+        return sorted(self.parts + self.folders, reverse=True)
 
 
 class StoredTree:

@@ -4,22 +4,23 @@ from __future__ import annotations
 
 from collections import deque
 from contextlib import closing, suppress
-from typing import TYPE_CHECKING, Callable, Deque, Iterable, Iterator, List, Optional, Tuple, Type
+from typing import TYPE_CHECKING, Callable, Deque, Dict, Iterable, Iterator, List, Optional, Set, Tuple, Type
 
 from ..base.errors import Differs, DoesNotFit, Full, SourceError, UsageError
-from ..base.split import stays_in_parts, stored_paths
-from ..base.unfinished import grows, unfinished_path
-from ..local.sources import Folder, Scan, delete, origin_of, scan, shown
-from ..protocol import AnyRequest, Code, Create, Get, MakeDir, Node, NodeKind, Path, Query, Remove, Rename, Replace, Stat, limits, printed
+from ..base.older_parts import base_of, may_be_in_parts, part_path
+from ..base.unfinished import unfinished_path
+from ..local.sources import Folder, Scan, Source, delete, origin_of, scan, shown
+from ..protocol import AnyRequest, Code, Create, MakeDir, Node, NodeKind, Path, Remove, Rename, Replace, Stat, limits, printed
 from ..protocol.units import Moment
 from ..wire.connection import find_program
 from ..wire.operations import Operation, Outcome, now
 from ..wire.refusals import refusal
 from .ahead import Ahead
 from .growing import find_begun, naming, piece_request
-from .jobs import ImportOptions, ImportSummary, Job, reads_back, same_parts
-from .preflight import Plan, Present, plan, refuse_sizes
-from .stale import StalePaths, find_stale
+from .jobs import ImportOptions, ImportSummary, Job, reads_back, same_pieces
+from .older_parts import files_in_parts, left_parts
+from .preflight import Plan, Present, plan, refuse_files
+from .stored import StoredFile
 from .walk import StepTold, look_up, quiet, remove_paths, remove_tree, walk
 
 if TYPE_CHECKING:
@@ -38,7 +39,7 @@ class Importer:
     """Stores local files and folders."""
 
     def __init__(self, client: Client, options: ImportOptions, told: StepTold = quiet, stored: Optional[Callable[[Outcome], None]] = None):
-        """`told` is called for each step; `stored`, where it is given, of each file or part in place of that, with its digests."""
+        """`told` is called for each step; `stored`, where it is given, of each file in place of that, with its digest."""
         if options.verify and options.dry_run:
             raise UsageError("nothing is read back of a dry run")
         self.client = client
@@ -61,42 +62,53 @@ class Importer:
         wanted = list(jobs)
         for local, path in wanted:
             scan(local, path, options.recursive, options.skip_odd, found, options.escape)
-        refuse_sizes(found, options.split)
+        refuse_files(found)
         self.summary.skipped = found.skipped
         with self.client.held():
             # What an earlier process began comes first, so that it changes nothing after this look.
             if not options.dry_run:
                 self.client.resume()
-            whole = bool(found.folders) or options.image is not None or options.split
-            paths = [] if whole else [file.path for file in found.files] + [path for _, path in wanted]
-            self.present = look_up(self.client, paths, whole)
-            if options.split:
-                found.split = {file.path for file in found.files if stays_in_parts(file.path, file.identity.size, self.present.kinds)}
-            stale = self._stale(found)
+            whole = bool(found.folders) or options.image is not None or any(file.identity.size > limits.FILE for file in found.files)
+            files = [file.path for file in found.files]
+            near = [path for file in files for path in (file, part_path(file, 0, False), base_of(file))]
+            self.present = look_up(self.client, [] if whole else near + [path for _, path in wanted], whole)
+            in_parts = self._find_parts(found)
             if not options.rewrite:
-                self._leave_same(found)
+                self._leave_same(found, in_parts)
             if not options.dry_run:
                 self._find_begun(found)
         if options.parents:
             self._add_parents(found, [path for _, path in wanted])
-        planned = plan(found, self.present, options.split, self._space(), stale)
+        left = {source.path for source in found.files}
+        planned = plan(found, self.present, self._space(), self._replaced(in_parts, left))
         self.summary.blocks, self.summary.left = planned.blocks, planned.left
         self.summary.not_kept = found.not_kept.counts()
         if planned.faults:
             raise DoesNotFit("\n".join(planned.faults))
         return planned
 
-    def _stale(self, found: Scan) -> StalePaths:
-        """What earlier files of the same names left, by the path of each file."""
-        if not self.options.split:
-            return {}
-        stale, doubtful = find_stale(self.client, found, self.present)
-        self.summary.skipped += doubtful
-        return stale
+    def _find_parts(self, found: Scan) -> Dict[Path, StoredFile]:
+        """The files that the volume has in parts, as earlier versions stored them, unless something that is stored now has the path of one."""
+        own = {file.path for file in found.files} | {folder.path for folder in found.folders}
+        files = [file.path for file in found.files if may_be_in_parts(file.path, self.present.kinds)]
+        self.summary.skipped += left_parts(self.client, sorted(own - {folder.path for folder in found.folders}), self.present.kinds, own)
+        there = files_in_parts(self.client, files)
+        return {path: file for path, file in there.items() if own.isdisjoint(file.parts + file.folders)}
+
+    def _replaced(self, in_parts: Dict[Path, StoredFile], left: Set[Path]) -> Dict[Path, List[Path]]:
+        """What goes when files take the place of their parts. Without `split` nothing does: the parts may be files of their own."""
+        there = {path: file for path, file in in_parts.items() if path in left}
+        if self.options.split:
+            return {path: file.removal() for path, file in there.items()}
+        self.summary.skipped += [
+            f"{printed(file.parts[0])}: stays, since it may be a file of its own as well as a part of {printed(path)}; --split takes it for a part"
+            for path, file in sorted(there.items())
+        ]
+        return {}
 
     def _find_begun(self, found: Scan) -> None:
         """Looks for what an earlier run began of files that are stored piece by piece."""
-        growing = [source for source in found.files if grows(source.identity.size, source.path in found.split)]
+        growing = [source for source in found.files if source.identity.size > limits.FILE]
         if growing:
             begun = find_begun(self.client, self._number(), growing)
             found.kept.update(begun.kept)
@@ -133,19 +145,18 @@ class Importer:
         try:
             with self.client.held():
                 self._make(planned)
-                self._finish_same(planned)
+                self._finish_same()
                 if planned.unfinished:
                     remove_paths(self.client, planned.unfinished, self.told)
-                for chunk in self._chunks(Job(source, paths, planned.kept.get(source.path)) for source, paths in planned.files):
+                for chunk in self._chunks((Job(source, planned.kept.get(source.path)) for source in planned.files), bool(planned.parts)):
                     self._chunk(chunk, planned)
         finally:
             self._ahead.close()
         return self.summary
 
-    def _chunks(self, jobs: Iterable[Job]) -> Iterator[List[Job]]:
+    def _chunks(self, jobs: Iterable[Job], has_parts: bool = False) -> Iterator[List[Job]]:
         """The files that are stored together: the fewer lists, the less often nothing is under way."""
-        options = self.options
-        is_done_later = options.verify or options.delete_source or options.split
+        is_done_later = self.options.verify or self.options.delete_source or has_parts
         most = FILES_AT_ONCE if is_done_later else LIST_FILES
         chunk: List[Job] = []
         size = 0
@@ -160,21 +171,17 @@ class Importer:
             yield chunk
 
     def _tell_plan(self, planned: Plan) -> ImportSummary:
-        for folder in planned.folders + planned.part_folders:
+        for folder in planned.folders:
             self.told("would make", folder.path, 0, 0)
         for job in self.same:
             self.told("same", job.source.path, job.source.identity.size, 0)
-        for source, paths in planned.files:
-            kept = planned.kept.get(source.path, ())
-            for index, path in enumerate(paths):
-                if index not in kept:
-                    size = Job(source, paths).size_of(index)
-                    self.told("would replace" if path in self.present.kinds else "would store", path, size, 0)
-        for source in [job.source for job in self.same] + [source for source, _ in planned.files]:
-            for path in planned.stale.get(source.path, []):
+        for source in planned.files:
+            self.told("would replace" if source.path in self.present.kinds else "would store", source.path, source.identity.size, 0)
+        for paths in planned.parts.values():
+            for path in paths:
                 self.told("would remove", path, 0, 0)
-        self.summary.files, self.summary.folders = len(planned.files), len(planned.folders) + len(planned.part_folders)
-        self.summary.bytes = sum(source.identity.size for source, _ in planned.files)
+        self.summary.files, self.summary.folders = len(planned.files), len(planned.folders)
+        self.summary.bytes = sum(source.identity.size for source in planned.files)
         return self.summary
 
     def _moment(self, modified: Moment) -> Moment:
@@ -182,8 +189,7 @@ class Importer:
 
     def _make(self, planned: Plan) -> None:
         """Makes the directories. One that another client made meanwhile is as good."""
-        folders = planned.folders + planned.part_folders
-        for outcome in self.client.run(Operation(MakeDir, folder.path, self._moment(folder.moment())) for folder in folders):
+        for outcome in self.client.run(Operation(MakeDir, folder.path, self._moment(folder.moment())) for folder in planned.folders):
             if outcome.code is Code.DONE:
                 self.summary.folders += 1
                 self.told("made", outcome.operation.path, 0, outcome.commit)
@@ -200,7 +206,7 @@ class Importer:
             else:
                 self.summary.failures.append(job.failure or f"{printed(job.source.path)}: was not stored")
         stored = [job for job in chunk if job.stored()]
-        self._remove_stale([job.source.path for job in stored], planned)
+        self._remove_parts([job.source.path for job in stored], planned)
         if self.options.verify:
             stored = self._read_back(stored)
         if self.options.delete_source:
@@ -227,15 +233,15 @@ class Importer:
             )
 
     def _request(self, job: Job, index: int, data: bytes) -> Operation:
-        """The request that stores a part."""
+        """The request that stores a piece."""
         moment = self._moment(job.source.moment())
         if job.grows:
             return piece_request(unfinished_path(self._number(), job.source.path), index, data, moment)
-        path = job.paths[index]
+        path = job.source.path
         return Operation(Replace if path in self.present.kinds else Create, path, moment, data)
 
     def _count(self, job: Job) -> None:
-        """Counts a part that is there."""
+        """Counts a piece that is there."""
         job.done += 1
         if job.grows and job.done == job.count and job.failure is None:
             self._whole.append(job)
@@ -329,52 +335,45 @@ class Importer:
         else:
             self._count(job)
 
-    def _leave_same(self, found: Scan) -> None:
-        """Takes the files out of which the volume has all bytes already; of others in parts it keeps which parts these are."""
-        jobs = [Job(source, stored_paths(source.path, source.identity.size, source.path in found.split)) for source in found.files]
-        there = self._sized(jobs)
-        asked: List[List[Query]] = [job.queries() if job.grows else [Get(job.paths[index]) for index in indexes] for job, indexes in there]
-        with closing(self.client.ask_all(query for queries in asked for query in queries)) as answers:
-            for job, indexes in there:
-                indexes = list(range(job.count)) if job.grows else indexes
+    def _leave_same(self, found: Scan, in_parts: Dict[Path, StoredFile]) -> None:
+        """Takes the files out of which the volume has all bytes already, as one or in parts."""
+        jobs = self._sized(found.files, in_parts)
+        with closing(self.client.ask_all(query for job in jobs for query in job.queries())) as answers:
+            for job in jobs:
                 # One that cannot be read is reported when it is stored.
                 with suppress(SourceError):
-                    job.same = same_parts(job.source, job.count, indexes, answers)
-        self.same = [job for job, _ in there if len(job.same) == job.count]
+                    job.same = same_pieces(job.source, job.count, answers)
+        self.same = [job for job in jobs if len(job.same) == job.count]
         found.same = [job.source for job in self.same]
-        # The last part is stored with each change: it has the moment of the file, and with it the digest of the whole file is kept.
-        found.kept = {job.source.path: {index: sha256 for index, sha256 in job.same.items() if index + 1 < len(job.paths)} for job, _ in there if not job.grows}
         if self.options.moment == "mtime":
             found.not_kept.newer = sum(job.moment != job.source.moment() for job in self.same)
         left = set(map(id, found.same))
         found.files = [source for source in found.files if id(source) not in left]
 
-    def _sized(self, jobs: List[Job]) -> List[Tuple[Job, List[int]]]:
-        """The files of which the volume has parts of the right sizes, with the numbers of these. What is whole is one part."""
-        asked = [(job, [i for i, path in enumerate(job.paths) if self.present.kinds.get(path) is NodeKind.FILE]) for job in jobs]
-        sized: List[Tuple[Job, List[int]]] = []
-        with closing(self.client.ask_all(Stat(job.paths[index]) for job, indexes in asked for index in indexes)) as answers:
-            for job, indexes in asked:
-                nodes = {index: next(answers) for index in indexes}
-                right = [index for index, node in nodes.items() if isinstance(node, Node) and node.size == job.size_of(index)]
-                last = nodes.get(len(job.paths) - 1)
-                job.moment = last.moment if isinstance(last, Node) else None
-                if right:
-                    sized.append((job, right))
-        return sized
+    def _sized(self, sources: List[Source], in_parts: Dict[Path, StoredFile]) -> List[Job]:
+        """The files of which the volume has as many bytes."""
+        jobs: List[Job] = []
+        there = [source for source in sources if self.present.kinds.get(source.path) is NodeKind.FILE or source.path in in_parts]
+        with closing(self.client.ask_all(Stat(source.path) for source in there if source.path not in in_parts)) as answers:
+            for source in there:
+                file = in_parts.get(source.path)
+                answer = next(answers) if file is None else file
+                if isinstance(answer, (Node, StoredFile)) and answer.size == source.identity.size:
+                    jobs.append(Job(source, parts=file.parts if file is not None else ()))
+                    jobs[-1].moment = answer.moment
+        return jobs
 
-    def _finish_same(self, planned: Plan) -> None:
+    def _finish_same(self) -> None:
         """What is done with the files that the volume has: their bytes were read just now."""
         for job in self.same:
             self.summary.same += 1
             self.told("same", job.source.path, job.source.identity.size, 0)
-        self._remove_stale([job.source.path for job in self.same], planned)
         if self.options.delete_source:
             self._delete(self.same)
 
-    def _remove_stale(self, stored: List[Path], planned: Plan) -> None:
-        """Removes what an earlier file of the same name left, the last part first, so that no part is without those before."""
-        paths = [path for name in stored for path in reversed(planned.stale.get(name, []))]
+    def _remove_parts(self, stored: List[Path], planned: Plan) -> None:
+        """Removes the parts of an earlier version whose place these files took."""
+        paths = [path for name in stored for path in planned.parts.get(name, [])]
         if paths:
             remove_paths(self.client, paths, self.told)
 

@@ -9,7 +9,7 @@ import ctypes
 import os
 from typing import Dict, List, NamedTuple, Optional, Tuple
 
-from ..base.errors import DAMAGE, Damaged, UsageError
+from ..base.errors import DAMAGE, Damaged, DiskFull, UsageError
 from ..protocol import shown
 from ..protocol.units import Moment
 from .connection import Connection, Lost
@@ -171,13 +171,15 @@ def refusal_of(refused: CallRefused) -> Exception:
     """What a refused call means for the conversation."""
     if refused.name == "UDFBURN_VOLUME":
         return Damaged(DAMAGE)
+    if refused.name == "UDFBURN_NO_SPACE":
+        # That does not pass by itself, so it is not waited for.
+        return DiskFull(f"UDFBURN_NO_SPACE: the disk of the image is full{refused.reason()}: make room; 'resume', or the same command, continues")
     why = {
         "UDFBURN_BUSY": "another program has the image",
         "UDFBURN_DEVICE": "the image is not a regular file, its folder is missing, or its disk failed",
         "UDFBURN_MEMORY": "there is not enough memory",
         "UDFBURN_MISUSE": "another thread is in a call on the volume, or a parent process opened it",
         "UDFBURN_NO_IMAGE": "there is no such image",
-        "UDFBURN_NO_SPACE": "the disk of the image is full",
         "UDFBURN_READ_ONLY": "the image may not be written",
     }
     return Lost(f"{refused.name}: {why.get(refused.name, 'the library refused')}{refused.reason()}")

@@ -8,7 +8,7 @@ from contextlib import contextmanager
 from itertools import islice
 from typing import Deque, Generator, Iterable, Iterator, List, Optional, Tuple, Type
 
-from ..base.disk import room_left
+from ..base.disk import left_if_short
 from ..base.errors import DAMAGE, ConnectionFailed, Damaged, DiskFull, DriveFailed, OutOfMemory, UdfburnError, UsageError
 from ..protocol import (
     DAMAGED, FAULT, MEMORY, Answer, BadAnswer, Bare, Data, Gap, Get, List as ListQuery, Malformed, Names, Node, Query, Read, Committed,
@@ -143,8 +143,9 @@ class RetryingConnection:
         """Whether it is time to let others have a turn. An image that is open with the library stays open until it is closed."""
         return self._connection is not None and self.endpoint.library is None and time.monotonic() - self._opened > self._turn
 
-    def troubled(self, answer: Answer) -> bool:
-        """Pauses where an answer says that the program is troubled: then what was asked is to be asked again."""
+    def troubled(self, answer: Answer, is_request: bool = True) -> bool:
+        """Pauses where an answer says that the program is troubled: then what was asked is to be asked again. Raises where a disk has no
+        room for a request: that does not pass by itself."""
         if answer not in (FAULT, MEMORY):
             return False
         if self.image is None and self._connection is not None:
@@ -152,6 +153,8 @@ class RetryingConnection:
         self.drop()
         if answer == FAULT:
             kind, why = self._why_fault()
+            if kind is DiskFull and is_request:
+                raise kind(f"{self.endpoint}: {why}")
             self.patience.wait(kind, f"{self.endpoint}: {why}")
         else:
             self.patience.wait(OutOfMemory, f"{self.endpoint}: the program has no memory")
@@ -163,8 +166,8 @@ class RetryingConnection:
             return DriveFailed, "the recorder fails, or its disc does"
         if self.image is None:
             return DriveFailed, "the drive fails, or its disk is full: check the disk with the daemon's image"
-        left = room_left(self.image)
-        if left is not None and left < COMMIT:
+        left = left_if_short(self.image, COMMIT)
+        if left is not None:
             return DiskFull, f"the disk that {shown(self.image)} is on is full: {left:,} bytes are left. Make room; 'resume', or the same command, continues"
         return DriveFailed, f"the drive fails: check the disk that {shown(self.image)} is on"
 
@@ -230,7 +233,7 @@ class RetryingConnection:
         if answer in (FAULT, MEMORY):
             unsent[:0] = asked
             asked.clear()
-            self.troubled(answer)
+            self.troubled(answer, is_request=False)
             return None
         check_query(asked.popleft(), answer)
         return answer
