@@ -13,7 +13,7 @@ FRONT = 257
 """Blocks before the partition."""
 PIECE = 1_048_576
 """Bytes of each piece of a file but the last, and of an answer's data at most."""
-GREATEST_FILE = 117 * PIECE
+GREATEST_FILE = 879 * PIECE
 MOST_NAMES = 512
 MOST_NODES = 4096
 MOST_DEPTH = 16

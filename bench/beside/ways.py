@@ -83,8 +83,8 @@ def stores(programs: Programs, room: str, source: str) -> list[Way]:
     image, socket, tar = (os.path.join(at, name) for name in ("disc.img", "socket", "t.tar"))
     keys = {"PYTHONPATH": installed(room), "UDFBURN": programs.udfburn}
     begin = ["sh", "-c", 'mkdir "$1" && exec "$2" format "$3" BENCH 0 450000', "-", at, programs.udfburn, image]
-    put = package("udfburn", "put", "-r", "--split", "--quiet", source, "/t", "--ledger", os.path.join(at, "ledger.sqlite"))
-    back = package("udfburn", "get", "-r", "--split", "--quiet", "/t", "{}/t", "--image", image)
+    put = package("udfburn", "put", "-r", "--quiet", source, "/t", "--ledger", os.path.join(at, "ledger.sqlite"))
+    back = package("udfburn", "get", "-r", "--quiet", "/t", "{}/t", "--image", image)
     archive, restic, borg = ways(programs.udfburn, room, source)
     found = [once(PIPE, sys.executable, keys, begin, [*put, "--image", image], back),
              once(SOCKET, programs.udfburnd, keys, begin, ["sh", "-c", SERVED, "-", programs.udfburnd, image, socket, *put, "--socket", socket], back)]

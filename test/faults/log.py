@@ -7,7 +7,7 @@ from typing import NamedTuple, Union
 
 # In the order of `enum kind` in shim.c.
 KINDS = ("open", "stat", "pread", "pwrite", "fsync", "fadvise", "ftruncate", "fstat", "flock", "close", "folderopen", "foldersync",
-         "send", "recv", "accept", "stdout", "stdin")
+         "send", "recv", "accept", "stdout", "stdin", "ioctl")
 
 
 class Record(NamedTuple):

@@ -6,7 +6,8 @@
    FAULT_RULES   rules, separated by ';': CALL:WHICH:ACTION
 
    CALL     a name below. But for `folderopen` and `foldersync` (any folder), `send`, `recv`, `accept` (any socket), `stdout` and
-            `stdin` (descriptors 1 and 0), calls count only where they are on the image.
+            `stdin` (descriptors 1 and 0), calls count only where they are on the image. `ioctl` is a call by which a descriptor, any,
+            begins or ceases to wait (FIONBIO); it is not logged.
    WHICH    N (the N-th such call of this process, from 1), N+ (from the N-th on), N-M, * (each)
    ACTION   E5      fails with errno 5, and nothing is done
             A5      is done, and fails with errno 5
@@ -31,6 +32,7 @@
 #include <stdlib.h>
 #include <string.h>
 #include <sys/file.h>
+#include <sys/ioctl.h>
 #include <sys/socket.h>
 #include <sys/stat.h>
 #include <sys/syscall.h>
@@ -39,12 +41,12 @@
 #include <time.h>
 #include <unistd.h>
 
-/* In the order of `KINDS` in harness.py. */
+/* In the order of `KINDS` in log.py. */
 enum kind { OPEN, STAT, PREAD, PWRITE, FSYNC, FADVISE, FTRUNCATE, FSTAT, FLOCK, CLOSE, FOLDEROPEN, FOLDERSYNC, SEND, RECV, ACCEPT,
-            STDOUT, STDIN, KINDS };
+            STDOUT, STDIN, IOCTL, KINDS };
 
 static const char *const names[KINDS] = { "open", "stat", "pread", "pwrite", "fsync", "fadvise", "ftruncate", "fstat", "flock",
-                                          "close", "folderopen", "foldersync", "send", "recv", "accept", "stdout", "stdin" };
+                                          "close", "folderopen", "foldersync", "send", "recv", "accept", "stdout", "stdin", "ioctl" };
 
 struct record {
     uint32_t magic, process, kind;
@@ -367,5 +369,18 @@ int accept4(int descriptor, struct sockaddr *address, socklen_t *length, int fla
     int left_out = before(what, NULL, &result);
     if (!left_out) result = syscall(SYS_accept4, descriptor, address, length, flags);
     note(ACCEPT, what, descriptor, 0, 0, result, NULL, 0);
+    return (int)(left_out ? result : behind(what, result));
+}
+
+/* Other requests than FIONBIO, of which each has an argument of its own, are neither counted nor changed. */
+int ioctl(int descriptor, unsigned long request, ...) {
+    va_list rest;
+    va_start(rest, request);
+    void *given = va_arg(rest, void *);
+    va_end(rest);
+    const char *what = request == FIONBIO ? action(IOCTL) : "";
+    ssize_t result;
+    int left_out = before(what, NULL, &result);
+    if (!left_out) result = syscall(SYS_ioctl, descriptor, request, given);
     return (int)(left_out ? result : behind(what, result));
 }

@@ -31,6 +31,8 @@ UDFCLIENT_LEAVES = ("deepest",)
 UDFCLIENT_LEAST = 300
 # Up to Linux 6.12 a table whose head is longer than a block is refused, as it is with 39 clients and more.
 LINUX_LEAVES = ("allclients",)
+# Files of 600 megabytes together are read once.
+LINUX_ONCE = ("descriptors",)
 # Linux looks for the VAT ICB in the last four blocks, and where a drive reports the size alone in the last three.
 LINUX_LOOKS_BACK = 3
 
@@ -60,7 +62,7 @@ def mounts(volumes: List[Volume], discs: bool) -> List[Tuple[str, linux.Job, Tre
         if volume.behind <= LINUX_LOOKS_BACK:
             out.append((volume.name, linux.Job(volume.image), volume.tree))
         # What a cut left after the VAT ICB is passed by where the entry's address is said.
-        for address, tree in [(volume.last, volume.tree)] + volume.earlier:
+        for address, tree in [] if volume.name in LINUX_ONCE else [(volume.last, volume.tree)] + volume.earlier:
             out.append(("%s at %d" % (volume.name, address), linux.Job(volume.image, address), tree))
         if discs and volume.behind < LINUX_LOOKS_BACK and volume.name in ("names", "sizes", "die", "cut1", "cut2"):
             out.append(("%s in a drive" % volume.name, linux.Job(volume.image, disc=True), volume.tree))
@@ -86,7 +88,7 @@ def made(given: argparse.Namespace, counts: Counts) -> List[Volume]:
     maker = Maker(os.path.abspath(given.udfburn), given.room)
     volumes: List[Volume] = []
     try:
-        volumes = [maker.volume(plan) for plan in PLANS] + maker.cut() + [maker.nested(), maker.appended()]
+        volumes = [maker.volume(plan) for plan in PLANS] + maker.cut() + [maker.nested(), maker.appended(), maker.descriptors()]
     except RuntimeError as fault:
         counts.check("the images", [str(fault)])
     print("readers: %d images, %.1f s" % (len(volumes), time.monotonic() - began), flush=True)

@@ -13,7 +13,7 @@ sys.path.insert(0, str(Path(__file__).resolve().parent.parent.parent / "clients/
 
 from protocol import BLOCK, DONE, FRONT, Directory, File, Script, Tree  # noqa: E402
 from tests.appended import MOMENT, Appender  # noqa: E402
-from udfburn.reader.basics import EXTENTS, EXTENT_BYTES  # noqa: E402
+from udfburn.reader.basics import ENTRY_DESCRIPTORS, EXTENT_BYTES  # noqa: E402
 
 # Names of all kinds. Those of characters up to U+00FF are spelled with one byte each, others with two.
 NAMES = (
@@ -290,7 +290,7 @@ class Maker:
         self.format(image, script)
         cast, tree, earlier = random.Random(11), Tree(MOMENT), []
         appender = Appender(str(image))
-        for name, size in (("two", EXTENT_BYTES + 1), ("three", 3 * EXTENT_BYTES), ("117", EXTENTS * EXTENT_BYTES - 777)):
+        for name, size in (("two", EXTENT_BYTES + 1), ("three", 3 * EXTENT_BYTES), ("117", ENTRY_DESCRIPTORS * EXTENT_BYTES - 777)):
             data = some_bytes(cast, size)
             appender.file(name, data)
             tree.root.names[name] = File(data, MOMENT)
@@ -298,6 +298,28 @@ class Maker:
             earlier.append((appender.previous + FRONT, tree.copy()))
         appender.write()
         return Volume("appended", script, image, tree, earlier[:1], 0, earlier[-1][0])
+
+    def descriptors(self) -> Volume:
+        """Files whose entries lead on to one descriptor block, to a full one, and to two. So that the image stays small, their extents lie
+        over one another, and each begins at another block."""
+        script = Script("DESCRIPTORS", capacity=66_000)
+        image = self.room / "descriptors.img"
+        self.format(image, script)
+        cast, tree = random.Random(118), Tree(MOMENT)
+        appender = Appender(str(image))
+        shared = some_bytes(cast, 3 * EXTENT_BYTES)
+        first = appender.put(shared)
+        for count in (118, 242, 243):
+            places = [cast.randrange(1024) for _ in range(count)]
+            size = (count - 1) * EXTENT_BYTES + 4096 + count
+            appender.create(str(count), b"x")
+            appender.extents(str(count), size, [first + place for place in places])
+            appender.commit_table()
+            pieces = [shared[place * BLOCK : place * BLOCK + EXTENT_BYTES] for place in places]
+            tree.root.names[str(count)] = File(b"".join(pieces)[:size], MOMENT)
+            tree.nodes += 1
+        appender.write()
+        return Volume("descriptors", script, image, tree, [], 0, appender.previous + FRONT)
 
 
 def sealed(block: bytes, location: int) -> bytes:
