@@ -99,11 +99,11 @@ def read_files_back(client: Client, paths: List[Path], sent: Dict[Path, SentFile
     """The files as the volume has them; `Differs` where the ledger sent other bytes."""
     found: FilesRead = {}
     faults: List[str] = []
-    for path, node, data in with_data(client, paths):
+    for path, node, pieces in with_pieces(client, paths):
         expected = sent.get(path)
         # A file of another size or moment is not the one that the ledger sent: another client replaced it.
         known = expected is not None and (expected.size, expected.moment) == (node.size, node.moment)
-        found[path] = FileRead(path, len(data), sha256(data).digest(), known, data if path[-1] in TAG_FILES else b"")
+        found[path] = file_read(path, pieces, known)
         if expected is not None and known and expected.sha256 != found[path].sha256:
             faults.append(
                 f"{printed(path)}: has other bytes than were sent (commit {expected.commit}): SHA-256 {expected.sha256.hex()} was sent,"
@@ -114,14 +114,25 @@ def read_files_back(client: Client, paths: List[Path], sent: Dict[Path, SentFile
     return found
 
 
-def with_data(client: Client, paths: List[Path]) -> Iterator[Tuple[Path, Node, bytes]]:
-    """Files with their nodes and their bytes."""
+def file_read(path: Path, pieces: Iterable[bytes], known: bool) -> FileRead:
+    """A file whose bytes come piece by piece. Of these none is kept but those of a file that sealing may write."""
+    size, digest, kept = 0, sha256(), []
+    for data in pieces:
+        size += len(data)
+        digest.update(data)
+        if path[-1] in TAG_FILES:
+            kept.append(data)
+    return FileRead(path, size, digest.digest(), known, b"".join(kept))
+
+
+def with_pieces(client: Client, paths: List[Path]) -> Iterator[Tuple[Path, Node, Iterator[bytes]]]:
+    """Files with their nodes and their bytes, in pieces. Those of one are to be taken before the next."""
     with closing(client.ask_all(map(Stat, paths))) as answers:
         nodes = [expected(Node, Stat(path), answer) for path, answer in zip(paths, answers)]
     asked = [queries_of([path], node.size) for path, node in zip(paths, nodes)]
     with closing(client.ask_all(query for queries in asked for query in queries)) as answers:
         for path, node, queries in zip(paths, nodes, asked):
-            yield path, node, b"".join(data_of(query, next(answers)) for query in queries)
+            yield path, node, (data_of(query, next(answers)) for query in queries)
 
 
 def require_agreement(found: FilesRead) -> None:
