@@ -9,11 +9,12 @@ import struct
 import tempfile
 import unittest
 from typing import Dict, List, Tuple
+from unittest import mock
 
 from udfburn.image.check_data import check_data
 from udfburn.image.coverage import Coverage
-from udfburn.protocol.units import BlockNumber, Commit, Moment, Size
-from udfburn.reader import DamageCause, FileType, Medium, Volume
+from udfburn.protocol.units import Address, BlockNumber, Commit, Moment, Size
+from udfburn.reader import DamageCause, FileType, Medium, Run, Volume
 from udfburn.reader.basics import BLOCK, ENTRY_DESCRIPTORS, EXTENT_BYTES, PARTITION
 from udfburn.reader.budget import Budget
 from udfburn.reader.entry import END, EXTENT, Entry, read_entry, write_entry
@@ -22,6 +23,7 @@ from udfburn.salvage.salvage import FILE_DAMAGED, FILE_EARLIER, FILE_UNPROVED, F
 
 from .appended import Appender, causes_in_entry
 from .forged import Forge
+from .salvaged import judged
 
 ENTRY_FILE = ENTRY_DESCRIPTORS * EXTENT_BYTES
 """The bytes of a file whose entry has all descriptors, at most."""
@@ -104,8 +106,8 @@ class OnAVolume(unittest.TestCase):
     def salvaged(self, commit: "Commit | None" = None) -> Dict[str, Tuple[str, bytes, "Tuple[Tuple[int, int], ...]"]]:
         with Medium(self.image) as medium:
             found = Salvage(medium, commit)
-            judged = [found.judged(item) for item in found.tree.items if item.kind is FileType.FILE]
-        return {outcome.path[-1]: (outcome.state, data, outcome.ranges) for outcome, data in judged}
+            given = [judged(found, item) for item in found.tree.items if item.kind is FileType.FILE]
+        return {outcome.path[-1]: (outcome.state, data, outcome.ranges) for outcome, data in given}
 
     def zero(self, number: int) -> None:
         with open(self.image, "r+b") as file:
@@ -159,6 +161,23 @@ class OnAVolume(unittest.TestCase):
         self.zero(node.data - PARTITION)
         self.assertEqual(self.salvaged()["three"][:2], (FILE_EARLIER, self.data["three"][: 2 * EXTENT_BYTES]))
 
+    def test_a_lost_entry_whose_extents_read_otherwise(self) -> None:
+        """They are read once for the digest, and again to be written: the bytes of that time decide."""
+        self.zero(self.appender.words[4])
+        at, read, seen = self.appender.contents["three"][1][1] + PARTITION, Medium.run, []
+
+        def run(medium: Medium, address: Address, count: int) -> Run:
+            found = read(medium, address, count)
+            if (address, count) != (at, EXTENT_BYTES // BLOCK):
+                return found
+            seen.append(address)
+            return found if len(seen) == 1 else Run(b"?" + found.data[1:], ())
+
+        with mock.patch.object(Medium, "run", run):
+            state, data, ranges = self.salvaged()["three"]
+        self.assertEqual((state, ranges, len(seen)), (FILE_DAMAGED, (), 2))
+        self.assertEqual(data[EXTENT_BYTES : EXTENT_BYTES + 2], b"?" + self.data["three"][EXTENT_BYTES + 1 : EXTENT_BYTES + 2])
+
     def test_missing_blocks(self) -> None:
         """A block of the second extent that cannot be read is named by its place in the file."""
         gone = self.appender.contents["three"][1][1] + PARTITION + 3
@@ -169,7 +188,7 @@ class OnAVolume(unittest.TestCase):
         with Medium(self.image, rescue) as medium:
             found = Salvage(medium)
             item = next(item for item in found.tree.items if item.path == ("three",))
-            outcome = found.judged(item)[0]
+            outcome = found.judged(item)
         self.assertEqual((outcome.state, outcome.ranges), (FILE_DAMAGED, ((EXTENT_BYTES + 3 * BLOCK, BLOCK),)))
 
     def test_past_the_table(self) -> None:

@@ -20,6 +20,7 @@ from udfburn.salvage.salvage import FILE_DAMAGED, FILE_EARLIER, FILE_UNPROVED, F
 
 from .appended import Appender, marked
 from .forged import Forge
+from .salvaged import judged
 
 LAST_BYTES = 5_000
 OTHER = b"another file " * 400
@@ -114,11 +115,11 @@ class OnImage(unittest.TestCase):
         """What is had of the file, where the other one is whole."""
         with Medium(self.image) as medium:
             found = Salvage(medium, commit)
-            judged = {item.path[-1]: found.judged(item) for item in found.tree.items if item.kind is FileType.FILE}
+            given = {item.path[-1]: judged(found, item) for item in found.tree.items if item.kind is FileType.FILE}
             self.salvage_noted = [(note.block - PARTITION, note.cause) for note in found.notes]
             self.salvage_paths = found.paths()
-        self.assertEqual(judged["other"][1], OTHER)
-        return judged["film"]
+        self.assertEqual(given["other"][1], OTHER)
+        return given["film"]
 
     def require_pieces(self, data: bytes, missing: Tuple[Tuple[int, int], ...] = ()) -> None:
         """Each piece is as it was stored, but those that are missing, which are zeros."""
@@ -235,7 +236,7 @@ class OneBlock(OnImage):
             file.write(f"0x0 + 1\n0x0 0x{gone * BLOCK:x} +\n0x{gone * BLOCK:x} 0x800 -\n0x{(gone + 1) * BLOCK:x} 0x{size - (gone + 1) * BLOCK:x} +\n")
         with Medium(self.image, rescue) as medium:
             found = Salvage(medium)
-            outcome, data = found.judged(next(item for item in found.tree.items if item.path == ("film",)))
+            outcome, data = judged(found, next(item for item in found.tree.items if item.path == ("film",)))
         self.assertEqual((outcome.state, outcome.ranges), (FILE_DAMAGED, self.lost()))
         self.assertIn((gone, DamageCause.MISSING), [(note.block, note.cause) for note in found.notes])
         self.require_pieces(data, self.lost())

@@ -25,6 +25,7 @@ from udfburn.salvage.salvage import FILE_DAMAGED, FILE_LOST, FILE_UNPROVED, FILE
 
 from .losses import BLOCK, File, Loss, Sound, losses, write, write_map
 from .programs import UDFBURN
+from .salvaged import judged
 
 RUNS = range(126) if os.environ.get("LARGE") else range(4)
 
@@ -124,7 +125,7 @@ class Losing(WithLosses):
         given: Given = {}
         for item in found.tree.items:
             if item.kind is not FileType.DIRECTORY:
-                outcome, data = found.judged(item)
+                outcome, data = judged(found, item)
                 if outcome.state != FILE_LOST:
                     given[item.path] = (outcome, data, target_of(item, outcome))
         return given

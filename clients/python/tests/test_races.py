@@ -16,6 +16,7 @@ from udfburn.salvage.write import InTheWay, Output
 from udfburn.trees.tree import ImportOptions, put_all
 
 from .model import Volume
+from .salvaged import put_into
 from .swaps import REAL, Swap, Turned, picture
 from .with_files import Local
 
@@ -132,7 +133,7 @@ class Races(Local):
                 try:
                     for key, (names, data) in enumerate(self.files().items()):
                         output.folder(names[:-1], Moment(0), "x")
-                        output.write(key, names, data, Moment(0), str(key))
+                        put_into(output, key, names, data, str(key))
                     output.finish()
                 finally:
                     output.close()

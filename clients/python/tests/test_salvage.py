@@ -17,6 +17,7 @@ from udfburn.salvage.salvage import FILE_DAMAGED, FILE_EARLIER, FILE_LOST, FILE_
 
 from .model import Volume as Model
 from .programs import UDFBURN
+from .salvaged import judged
 from .volumes import Writer, apply_messages, format_image
 
 BLOCK = 2048
@@ -90,7 +91,7 @@ class Damaged(unittest.TestCase):
             files = {}
             for item in found.tree.items:
                 if item.kind is not FileType.DIRECTORY:
-                    outcome, data = found.judged(item)
+                    outcome, data = judged(found, item)
                     files[item.path] = (outcome.state, data, outcome)
             return files, [str(note) for note in found.notes]
 

@@ -10,9 +10,11 @@ from typing import Any, Dict
 from unittest import mock
 
 from udfburn.protocol import Path
-from udfburn.protocol.units import Address, Moment
-from udfburn.salvage.digests import Digests, Manifest, add_manifests, folder_of, listed_lines
+from udfburn.protocol.units import Address
+from udfburn.salvage.digests import Digests, Manifest, add_manifests, folder_of, listed_lines, manifest_data
 from udfburn.salvage.write import InTheWay, Output, fitting
+
+from .salvaged import put_into
 
 
 class Writing(unittest.TestCase):
@@ -32,7 +34,7 @@ class Writing(unittest.TestCase):
         """Two paths that are written alike get names of their own."""
         output = Output(self.room)
         for key, name in enumerate(["é" * 200 + "a", "é" * 200 + "b", "é" * 200 + "c"]):
-            output.write(key, (name,), b"%d" % key, Moment(0), str(key))
+            put_into(output, key, (name,), b"%d" % key, str(key))
         done = output.finish()
         output.close()
         self.assertEqual(len(os.listdir(self.room)), 3)
@@ -44,7 +46,7 @@ class Writing(unittest.TestCase):
     def test_interrupted(self) -> None:
         """What has no name yet is gone."""
         output = Output(self.room)
-        output.write(0, ("d", "a"), b"x", Moment(0), "1")
+        put_into(output, 0, ("d", "a"), b"x", "1")
         output.close()
         self.assertEqual(os.listdir(os.path.join(self.room, "d")), [])
 
@@ -65,7 +67,7 @@ class Writing(unittest.TestCase):
         self.addCleanup(output.close)
         with mock.patch("os.mkdir", refusing(mkdir)), mock.patch("os.link", refusing(link)), mock.patch("os.open", refusing(opened)):
             self.assertRaisesRegex(InTheWay, "was not written: Invalid argument", output.folder, ("d:",), 0, "1")
-            done = [*output.write(0, ("a:",), b"x", Moment(0), "2"), *output.write(1, ("d:", "b"), b"x", Moment(0), "3"), *output.write(2, ("c",), b"x", Moment(0), "4")]
+            done = [*put_into(output, 0, ("a:",), b"x", "2"), *put_into(output, 1, ("d:", "b"), b"x", "3"), *put_into(output, 2, ("c",), b"x", "4")]
             done += output.finish()
         why = "was not written: Invalid argument"
         self.assertEqual(sorted((found.path, found.error) for found in done), [("a:", why), ("c", None), ("d:/b", why)])
@@ -75,7 +77,7 @@ class Writing(unittest.TestCase):
         output = Output(self.room)
         self.addCleanup(output.close)
         with mock.patch("udfburn.salvage.write.os.fsync", side_effect=OSError("no room")):
-            output.write(0, ("a",), b"x", Moment(0), "1")
+            put_into(output, 0, ("a",), b"x", "1")
             self.assertRaises(OSError, output.flush)
         self.assertNotIn("a", os.listdir(self.room))
 
@@ -98,6 +100,15 @@ class Manifests(unittest.TestCase):
         self.assertIsNone(folder_of(lines, {("d", "x"): None}))
         self.assertIsNone(folder_of(lines + b"something else\n", paths))
         self.assertIsNone(folder_of(b"", paths))
+
+    def test_a_file_that_is_no_manifest_is_not_kept(self) -> None:
+        """Of a file without a name it is known by its beginning. All of it is read: what is missing is noted."""
+        line = f"{'ab' * 32}  d/x\n".encode()
+        for first in (line, b"\r\n\n\\" + line, line[:30], b"\n", b""):
+            self.assertEqual(manifest_data(iter([first, b"rest"])), first + b"rest")
+        for first in (line[1:], b" " + line, line[:30] + b"\n", bytes(100)):
+            pieces = iter([first, b"rest"])
+            self.assertEqual((manifest_data(pieces), next(pieces, None)), (b"", None))
 
     def test_a_manifest_that_is_doubted(self) -> None:
         """Where a manifest is not as another has it, that a file differs from it says nothing."""

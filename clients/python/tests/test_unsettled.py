@@ -22,6 +22,7 @@ from udfburn.reader.survey import Survey
 from udfburn.salvage.salvage import FILE_UNPROVED, UNFINISHED, Salvage
 
 from .programs import UDFBURN, run_client
+from .salvaged import judged
 from .test_group import BLOCK, head
 from .test_mount import all_of, folder_at
 from .volumes import apply_messages, format_image
@@ -85,10 +86,10 @@ class Unsettled(unittest.TestCase):
         """The files that come out under their paths, the bytes of those that were not finished, and what is said to be damaged."""
         with Medium(self.image) as medium:
             found = Salvage(medium)
-            judged = [found.judged(item) for item in found.tree.items if item.kind is not FileType.DIRECTORY]
-            self.assertLessEqual({outcome.state for outcome, _ in judged}, {FILE_UNPROVED, UNFINISHED})
-            files = {outcome.path: data for outcome, data in judged if outcome.state == FILE_UNPROVED}
-            return files, sorted(data for outcome, data in judged if outcome.state == UNFINISHED), [str(note) for note in found.notes]
+            given = [judged(found, item) for item in found.tree.items if item.kind is not FileType.DIRECTORY]
+            self.assertLessEqual({outcome.state for outcome, _ in given}, {FILE_UNPROVED, UNFINISHED})
+            files = {outcome.path: data for outcome, data in given if outcome.state == FILE_UNPROVED}
+            return files, sorted(data for outcome, data in given if outcome.state == UNFINISHED), [str(note) for note in found.notes]
 
     def test_salvage(self) -> None:
         """What the group stored comes out beside, since it may have been answered before its marks were damaged."""

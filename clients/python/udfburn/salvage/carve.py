@@ -2,8 +2,7 @@
 
 from __future__ import annotations
 
-import hashlib
-from typing import Callable, Optional
+from typing import TYPE_CHECKING, Callable, Optional
 
 from ..protocol.units import Address
 from ..reader.basics import BLOCK, EXTENT_BYTES, LONGEST_FILE, blocks_of, number_of, read_tag
@@ -13,6 +12,9 @@ from ..reader.descriptors import DESCRIPTOR_BLOCK
 from ..reader.entry import descriptor_blocks
 from ..reader.mend import unlike
 from ..reader.notes import DamageCause
+
+if TYPE_CHECKING:
+    import hashlib
 
 STARTS = 20_000
 """How many beginnings of files are tried in all."""
@@ -28,14 +30,13 @@ class Carver:
         self.chain = chain
         self._left = STARTS
 
-    def find(self, address: Address, is_kept: IsKept, before: bytes = b"") -> Optional[bytes]:
-        """The bytes of the file whose entry was at an address, where some that it may have had have a digest that is kept. `before` are
-        those of its earlier extents, which were written before the descriptor blocks that are there."""
-        earlier = hashlib.sha256(before)
+    def find(self, address: Address, is_kept: IsKept, earlier: "hashlib._Hash") -> Optional[bytes]:
+        """The bytes of the last extent of the file whose entry was at an address, where some that it may have had have a digest that is kept.
+        `earlier` has taken those of its earlier extents, which were written before the descriptor blocks that are there."""
         for end in unlike((self._without_descriptors(address), address)):
             found = self._last_bytes(end, is_kept, earlier)
             if found is not None:
-                return before + found
+                return found
         return None
 
     def _without_descriptors(self, address: Address) -> Address:

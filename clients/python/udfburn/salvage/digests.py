@@ -13,6 +13,9 @@ TRIED = 1_000_000
 """How often it is asked, at most, whether a line of a manifest without a name is that of a file."""
 
 SUM_LINE = re.compile(r"(\\?)([0-9A-Fa-f]{64})[ \t]+\*?(.+)", re.DOTALL)
+FIRST_LINE = re.compile(rb"[\r\n]*(\\?[0-9A-Fa-f]{64}[ \t]|\\?[0-9A-Fa-f]{0,64}\Z)")
+"""The beginning of a manifest, or of its first extent where that ends before its first line does."""
+
 ESCAPES = {"n": "\n", "r": "\r", "\\": "\\"}
 
 
@@ -134,6 +137,16 @@ def add_manifests(digests: Digests, found: List[Manifest], bags: Set[Path]) -> D
 def is_manifest(name: str) -> bool:
     """Whether a file of this name is a manifest."""
     return name in (MANIFEST, TAG_MANIFEST)
+
+
+def manifest_data(pieces: Iterator[bytes]) -> bytes:
+    """The bytes of a file whose name is lost, where it may be a manifest. All are taken, and those of another one are not kept."""
+    first = next(pieces, b"")
+    if FIRST_LINE.match(first):
+        return first + b"".join(pieces)
+    for _ in pieces:
+        pass
+    return b""
 
 
 def folder_of(data: bytes, paths: Collection[Path]) -> Optional[Path]:

@@ -3,7 +3,8 @@
 from __future__ import annotations
 
 import hashlib
-from typing import Dict, FrozenSet, Iterator, List, NamedTuple, Optional, Set, Tuple
+from functools import partial
+from typing import Dict, FrozenSet, Iterable, Iterator, List, NamedTuple, Optional, Set, Tuple
 
 from ..base.errors import UdfburnError
 from ..base.manifest import BAG_DECLARATION, LONGEST_MANIFEST
@@ -11,17 +12,17 @@ from ..protocol import escaped
 from ..protocol.units import Address, Commit, Size
 from ..reader import FileType, Medium, Note, Volume
 from ..reader.audit import audit
-from ..reader.basics import BLOCK, EXTENT_BYTES, address_of, blocks_of, crc
+from ..reader.basics import EXTENT_BYTES, address_of, crc
 from ..reader.budget import Work
 from ..reader.chain import Chain, Link, Span
-from ..reader.entry import Entry, Extent, descriptor_blocks
-from ..reader.notes import DamageCause
+from ..reader.entry import Entry, descriptor_blocks
 from ..reader.survey import Survey
 from ..reader.volume import Path
 from .carve import Carver, IsKept
-from .digests import Digests, Manifest, add_manifests, folder_of, is_manifest
+from .digests import Digests, Manifest, add_manifests, folder_of, is_manifest, manifest_data
 from .extents import all_but_last
 from .ledger import NOTHING_KEPT, FoundFile, LedgerFile, LedgerRecords, commits_of
+from .reading import FileReading, Ranges, Take, dropped, give, is_carved
 from .tree import LOST_AND_FOUND, Item, SalvageTree
 from .write import InTheWay, Output, WrittenFile
 
@@ -55,17 +56,18 @@ class SalvageOutcome(NamedTuple):
     state: str
     size: int
     commit: Optional[Span]
-    ranges: Tuple[Tuple[int, int], ...]
+    ranges: Ranges
     why: str
     written: Optional[str]
 
 
-class RecoveredBytes(NamedTuple):
-    """The bytes of a file, with zeros where they are missing, and why they are not certain."""
+class CarvedFile(NamedTuple):
+    """A file whose newest entry is lost: the entry of its first extents, where it has several, the bytes after those, and the digest of
+    all of them, which is kept."""
 
-    data: bytes
-    ranges: Tuple[Tuple[int, int], ...]
-    why: str
+    before: Optional[Entry]
+    last: bytes
+    digest: str
 
 
 class Salvage:
@@ -139,10 +141,11 @@ class Salvage:
         for path, item in files.items():
             is_nameless = path[0] == LOST_AND_FOUND and bool(item.why)
             if (is_nameless or is_manifest(path[-1])) and item.version is not None and item.version.entry.size <= LONGEST_MANIFEST:
-                read, digest = self.bytes_of(item.version.entry), hashlib.sha256
-                folder = folder_of(read.data, files) if is_nameless else path[:-1]
+                read = FileReading(self.volume, item.version.entry)
+                data = manifest_data(read.pieces()) if is_nameless else b"".join(read.pieces())
+                folder = folder_of(data, files) if is_nameless else path[:-1]
                 if folder is not None:
-                    found.append(Manifest(path, folder, read.data, digest(read.data).hexdigest(), bool(read.why), item.version.address))
+                    found.append(Manifest(path, folder, data, hashlib.sha256(data).hexdigest(), bool(read.why), item.version.address))
         self._manifests = add_manifests(self.digests, found, bags)
 
     def _seen(self) -> Iterator[FoundFile]:
@@ -162,17 +165,21 @@ class Salvage:
 
     # ---- digests
 
-    def agrees(self, item: Item, data: bytes) -> Tuple[Optional[bool], str]:
-        """Whether bytes have the digest that is kept of a file (None where none is), and their digest, where one is asked for."""
-        if not self._stored and not len(self.digests):
-            return None, ""
-        digest = hashlib.sha256(data).hexdigest()
+    def agrees(self, item: Item, digest: str) -> Optional[bool]:
+        """Whether a digest is that which is kept of a file; None where none is."""
+        if not self._asks_digests:
+            return None
         address = item.version.address if item.version is not None else self.tree.address(item)
         seen = self._seen_as(item, address)
         agrees = self._stored.agrees(seen, item.path, digest) if seen is not None else None
-        return (agrees if agrees is not None else self.digests.agrees(item.path, digest, address or Address(0))), digest
+        return agrees if agrees is not None else self.digests.agrees(item.path, digest, address or Address(0))
 
-    def _carved(self, item: Item) -> Optional[bytes]:
+    @property
+    def _asks_digests(self) -> bool:
+        """Whether any digest is kept."""
+        return bool(self._stored) or len(self.digests) > 0
+
+    def _carved(self, item: Item) -> Optional[CarvedFile]:
         """The newest bytes of a file whose newest entry is lost, where a digest of them is kept."""
         address = self.tree.address(item)
         is_lost = item.version is None or item.version.commit is not None or is_carved(item.version.entry) or all_but_last(item.version.entry) is not None
@@ -182,102 +189,87 @@ class Salvage:
         stored = self._stored.files.get(commits.commit) if commits is not None and commits.commit is not None else None
         if stored is not None:
             kept = stored.digest
-            return self._appended(item, address, lambda digest: digest == kept) or self._carver.find(address, lambda digest: digest == kept)
+            return self._appended(item, address, lambda digest: digest == kept) or self._alone(address, lambda digest: digest == kept)
         if item.kind is None:
-            return self._carver.find(address, lambda digest: self.digests.path_of(digest) is not None)
+            return self._alone(address, lambda digest: self.digests.path_of(digest) is not None)
         if not self.digests.has(item.path):
             return None
 
         def is_known(digest: str) -> bool:
             return self.digests.is_known(item.path, digest)
 
-        return self._appended(item, address, is_known) or self._carver.find(address, is_known)
+        return self._appended(item, address, is_known) or self._alone(address, is_known)
 
-    def _appended(self, item: Item, address: Address, is_kept: IsKept) -> Optional[bytes]:
-        """The bytes of a file of which all extents but the last are known: its newest entry is lost, or the descriptor block that has the
-        last."""
+    def _alone(self, address: Address, is_kept: IsKept) -> Optional[CarvedFile]:
+        """A file of one extent, whose entry was at an address."""
+        data = self._carver.find(address, is_kept, hashlib.sha256())
+        return CarvedFile(None, data, hashlib.sha256(data).hexdigest()) if data is not None else None
+
+    def _appended(self, item: Item, address: Address, is_kept: IsKept) -> Optional[CarvedFile]:
+        """A file of which all extents but the last are known: its newest entry is lost, or the descriptor block that has the last."""
         entry = item.entry
         if entry is None or item.version is None:
             return None
         shorter = all_but_last(entry)
         if shorter is None and (item.version.commit is None or not entry.size or entry.size % EXTENT_BYTES):
             return None
-        before = self.bytes_of(shorter or entry)
+        before, digest = FileReading(self.volume, shorter or entry), hashlib.sha256()
+        give(before.pieces(), dropped, digest)
         if before.ranges:
             return None
         end = min(address, address_of(entry.descriptors)) if shorter is not None and entry.descriptors is not None else address
-        return self._carver.find(end, is_kept, before.data)
+        last = self._carver.find(end, is_kept, digest)
+        if last is None:
+            return None
+        digest.update(last)
+        return CarvedFile(shorter or entry, last, digest.hexdigest())
 
     # ---- files
 
-    def bytes_of(self, entry: Entry) -> RecoveredBytes:
-        """The bytes of a file."""
-        if entry.inside is not None:
-            return RecoveredBytes(entry.inside, (), doubt_of(entry))
-        if entry.first is None:
-            return RecoveredBytes(b"", (), doubt_of(entry))
-        ranges: List[Tuple[int, int]] = []
-        # As long as the file may be, there is one copy of it.
-        data = bytearray(entry.size) if entry.others else b""
-        for index, extent in enumerate(entry.extents):
-            begin = EXTENT_BYTES * index
-            piece, gone = self._extent(extent)
-            ranges += [(begin + start, count) for start, count in gone]
-            if isinstance(data, bytearray):
-                data[begin : begin + extent.size] = piece
-            else:
-                data = piece
-        is_known = all(extent.is_known for extent in entry.extents)
-        why = "blocks of it cannot be read" if is_known else "a descriptor block of it is damaged, and where some of its bytes are is not known"
-        return RecoveredBytes(data, joined_ranges(ranges), why if ranges else doubt_of(entry))
-
-    def _extent(self, extent: Extent) -> Tuple[bytes, List[Tuple[int, int]]]:
-        """The bytes of an extent, with zeros where they are missing, and the ranges of those."""
-        if not extent.is_known:
-            return bytes(extent.size), [(0, extent.size)]
-        start = address_of(extent.first)
-        run = self.medium.run(start, blocks_of(extent.size))
-        for at in run.missing:
-            self.volume.notes.add(at, DamageCause.MISSING, "a block of a file cannot be read")
-        if not run.missing and any(run.data[extent.size :]):
-            self.volume.notes.add(Address(address_of(extent.end) - 1), DamageCause.TAIL, "a byte after the bytes of a file is not zero")
-        begins = [(at - start) * BLOCK for at in run.missing]
-        return run.data[: extent.size], [(begin, min(BLOCK, extent.size - begin)) for begin in begins]
-
-    def judged(self, item: Item) -> Tuple[SalvageOutcome, bytes]:
-        """What was had of a file, and its bytes."""
+    def judged(self, item: Item, take: Take = dropped) -> SalvageOutcome:
+        """What was had of a file, once all its bytes were taken. Of one that is lost there are none."""
         carved = self._carved(item)
         if carved is not None:
-            return self._found(item, carved), carved
+            return self._found(item, carved, take)
         entry = item.entry
         if entry is None:
-            return SalvageOutcome(item.path, item.kind, FILE_LOST, 0, None, (), item.why, None), b""
-        read = self.bytes_of(entry)
-        data = self._mended(item, entry, read.data)
-        agrees, digest = self.agrees(item, data)
-        state, why = self._state(item, read, agrees)
+            return SalvageOutcome(item.path, item.kind, FILE_LOST, 0, None, (), item.why, None)
+        read = FileReading(self.volume, entry)
+        count, digest = self._give(read.pieces() if entry.inside is None else [self._mended(item, entry, entry.inside)], take)
+        state, why = self._state(item, read, self.agrees(item, digest))
         if state == FILE_NAMELESS:
             why += self._called(digest)
         self._digests_met.add(digest)
         ranges = read.ranges if state == FILE_DAMAGED else ()
-        return SalvageOutcome(item.path, item.kind, state, len(data), item.commit, ranges, why, None), data
+        return SalvageOutcome(item.path, item.kind, state, count, item.commit, ranges, why, None)
 
-    def _found(self, item: Item, data: bytes) -> SalvageOutcome:
+    def _give(self, pieces: Iterable[bytes], take: Take) -> Tuple[int, str]:
+        """Has the bytes of a file taken. Gives their count, and their digest where any is kept."""
+        digest = hashlib.sha256() if self._asks_digests else None
+        count = give(pieces, take, digest)
+        return count, digest.hexdigest() if digest is not None else ""
+
+    def _found(self, item: Item, carved: CarvedFile, take: Take) -> SalvageOutcome:
         """A file whose entry is lost, and whose bytes have the digest that is kept of it."""
-        digest = hashlib.sha256(data).hexdigest()
+        read = FileReading(self.volume, carved.before) if carved.before is not None else None
+        count, digest = self._give(carved_pieces(read, carved), take)
         self._digests_met.add(digest)
+        if read is not None and digest != carved.digest:
+            # The medium gave other bytes the second time.
+            why = read.why or "its bytes do not have the digest that is kept of them"
+            return SalvageOutcome(item.path, FileType.FILE, FILE_DAMAGED, count, item.commit, read.ranges, why, None)
         if item.kind is None:
-            return SalvageOutcome(item.path, FileType.FILE, FILE_NAMELESS, len(data), None, (), "no name leads to it, and its entry is lost" + self._called(digest), None)
+            return SalvageOutcome(item.path, FileType.FILE, FILE_NAMELESS, count, None, (), "no name leads to it, and its entry is lost" + self._called(digest), None)
         is_listed = item.version is not None and item.commit == item.version.commit or item.commit is None
         state = FILE_WHOLE if is_listed else FILE_EARLIER
-        return SalvageOutcome(item.path, FileType.FILE, state, len(data), item.commit if state == FILE_EARLIER else None, (), "", None)
+        return SalvageOutcome(item.path, FileType.FILE, state, count, item.commit if state == FILE_EARLIER else None, (), "", None)
 
     def _called(self, digest: str) -> str:
         """What a manifest says of the path of a file without a name."""
         known = self.digests.path_of(digest) if digest else None
         return f"; it has the digest that is kept of /{'/'.join(known)}" if known is not None else ""
 
-    def _state(self, item: Item, read: RecoveredBytes, agrees: Optional[bool]) -> Tuple[str, str]:
+    def _state(self, item: Item, read: FileReading, agrees: Optional[bool]) -> Tuple[str, str]:
         """How a file was had, and why it is not whole."""
         if read.why and not agrees:
             return FILE_DAMAGED, read.why
@@ -293,12 +285,12 @@ class Salvage:
 
     def _mended(self, item: Item, entry: Entry, data: bytes) -> bytes:
         """The bytes of a file inside an entry with a wrong byte, where one bit leads to the digest that is kept; else as read."""
-        if entry.proved or entry.inside is None or self.agrees(item, data)[0] is None:
+        if entry.proved or self.agrees(item, hashlib.sha256(data).hexdigest()) is None:
             return data
         if not self.volume.budget.take(Work.FLIPS):
             return data
         for other in flips(self.medium, item, entry):
-            if self.agrees(item, other)[0]:
+            if self.agrees(item, hashlib.sha256(other).hexdigest()):
                 return other
         return data
 
@@ -331,7 +323,10 @@ class Salvage:
 
     def _file(self, key: int, item: Item, output: Optional[Output], waiting: Dict[int, SalvageOutcome]) -> Iterator[SalvageOutcome]:
         """A file, and those that got their names meanwhile."""
-        outcome, data = self.judged(item)
+        take: Take = dropped
+        if output is not None:
+            take = partial(output.take, item.target[:-1])
+        outcome = self.judged(item, take)
         if outcome.state == FILE_WHOLE:
             self._whole.add(item.path)
         elif outcome.state == FILE_UNPROVED and self._manifests.get(item.path, frozenset([None])) <= self._whole:
@@ -342,7 +337,7 @@ class Salvage:
             return
         waiting[key] = outcome
         moment = item.entry.moment if item.entry is not None else None
-        yield from written_outcomes(waiting, output.write(key, target_of(item, outcome), data, moment, tail_of(item)))
+        yield from written_outcomes(waiting, output.name(key, target_of(item, outcome), moment, tail_of(item)))
 
     def _unmet(self) -> Iterator[SalvageOutcome]:
         """Files that a manifest has and that were not met, where nodes without a name were: it is not known which these are."""
@@ -380,18 +375,11 @@ def target_of(item: Item, outcome: SalvageOutcome) -> Path:
     return item.target
 
 
-def doubt_of(entry: Entry) -> str:
-    """Why the bytes to which an entry leads are not certain."""
-    if is_carved(entry):
-        return "its entry is lost, and how many bytes it has is not known"
-    if entry.descriptors is not None:
-        return "" if entry.proved else "its entry or a descriptor block of it has a wrong byte, so it is not certain where its bytes are"
-    return "" if entry.proved else "its entry has a wrong byte, which may be one of its own"
-
-
-def is_carved(entry: Entry) -> bool:
-    """Whether an entry is lost, and was made of the blocks before it."""
-    return not entry.proved and not entry.check
+def carved_pieces(before: Optional[FileReading], carved: CarvedFile) -> Iterator[bytes]:
+    """The bytes of a file whose entry is lost."""
+    if before is not None:
+        yield from before.pieces()
+    yield carved.last
 
 
 def flips(medium: Medium, item: Item, entry: Entry) -> Iterator[bytes]:
@@ -415,17 +403,6 @@ def written_outcomes(waiting: Dict[int, SalvageOutcome], done: List[WrittenFile]
             yield outcome._replace(written=path)
         else:
             yield outcome._replace(why=f"{outcome.why}; {escaped(path)} {error}".lstrip("; "))
-
-
-def joined_ranges(ranges: List[Tuple[int, int]]) -> Tuple[Tuple[int, int], ...]:
-    """Ranges in order, those that touch as one."""
-    found: List[Tuple[int, int]] = []
-    for begin, count in ranges:
-        if found and sum(found[-1]) == begin:
-            found[-1] = (found[-1][0], found[-1][1] + count)
-        else:
-            found.append((begin, count))
-    return tuple(found)
 
 
 __all__ = ["FILE_DAMAGED", "FILE_EARLIER", "FILE_LOST", "FILE_NAMELESS", "FILE_STATES", "FILE_UNPROVED", "FILE_WHOLE", "NothingToSalvage", "Salvage", "SalvageOutcome", "UNFINISHED"]

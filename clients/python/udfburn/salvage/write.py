@@ -7,7 +7,7 @@ from concurrent.futures import ThreadPoolExecutor
 from contextlib import suppress
 from typing import Dict, List, NamedTuple, Optional, Set
 
-from ..base.beneath import NotFollowed, RelativePath, Root, folder_mode
+from ..base.beneath import PIECE, NotFollowed, RelativePath, Root, folder_mode
 from ..base.disk import is_full
 from ..base.errors import SourceError
 from ..local.saving import write_all
@@ -21,14 +21,21 @@ DURABLE_FILES, DURABLE_BYTES = 64, 32 << 20
 """What is written before it is made durable together."""
 
 
+class NewFile(NamedTuple):
+    """A file that has not its name yet: its folder, the name that it has meanwhile, and its descriptor; or why it could not be made."""
+
+    folder: RelativePath
+    temporary: str
+    descriptor: int
+    why: Optional[str] = None
+
+
 class Waiting(NamedTuple):
     """A file that has its bytes and not yet its name."""
 
     key: int
-    folder: RelativePath
-    temporary: str
+    file: NewFile
     name: str
-    descriptor: int
 
 
 class WrittenFile(NamedTuple):
@@ -52,6 +59,8 @@ class Output:
         self._folders: Dict[RelativePath, Optional[Moment]] = {}
         self._names: Dict[Path, RelativePath] = {(): ()}
         self._taken: Set[RelativePath] = set()
+        self._new: Optional[NewFile] = None
+        """The file that takes bytes."""
         self._waiting: List[Waiting] = []
         self._bytes = self._count = 0
         self._pool = ThreadPoolExecutor(8)
@@ -93,31 +102,53 @@ class Output:
 
     # ---- files
 
-    def write(self, key: int, target: Path, data: bytes, moment: Optional[Moment], tail: str) -> List[WrittenFile]:
-        """Writes a file. It gives those that got their names meanwhile."""
-        place = self._place(target, tail)
-        self._count += 1
-        temporary = f".udfburn-salvage.{os.getpid()}.{self._count}"
+    def take(self, folder: Path, data: bytes) -> None:
+        """Writes the next bytes of the file in this folder that `name` gives its name. Where it cannot be made, they go nowhere."""
+        new = self._new_in(folder)
+        if new.why is not None:
+            return
         try:
-            self._make(place[:-1])
-            descriptor = self._root.new_file(place[:-1] + (temporary,), self._mode)
-        except (InTheWay, SourceError, OSError) as error:
-            return [WrittenFile(key, "/".join(place), why_not_written(error))]
-        waiting = Waiting(key, place[:-1], temporary, place[-1], descriptor)
-        try:
-            write_all(descriptor, data)
-            if moment is not None:
-                os.utime(descriptor, ns=(moment * 1000, moment * 1000))
+            write_all(new.descriptor, data)
         except BaseException:
-            self._drop(waiting)
+            self._drop_new()
             raise
-        self._waiting.append(waiting)
         self._bytes += len(data)
+
+    def name(self, key: int, target: Path, moment: Optional[Moment], tail: str) -> List[WrittenFile]:
+        """Has the file with the bytes that were taken get its name. It gives those that got their names meanwhile."""
+        new = self._new_in(target[:-1])
+        place = self._place(target, tail)
+        if new.why is not None:
+            self._new = None
+            return [WrittenFile(key, "/".join(place), new.why)]
+        if moment is not None:
+            os.utime(new.descriptor, ns=(moment * 1000, moment * 1000))
+        self._waiting.append(Waiting(key, new, place[-1]))
+        self._new = None
         return self.flush() if len(self._waiting) >= DURABLE_FILES or self._bytes >= DURABLE_BYTES else []
+
+    def _new_in(self, folder: Path) -> NewFile:
+        """The file that takes bytes: one is made where there is none."""
+        if self._new is None:
+            place = self._place(folder, "")
+            self._count += 1
+            temporary = f".udfburn-salvage.{os.getpid()}.{self._count}"
+            try:
+                self._make(place)
+                self._new = NewFile(place, temporary, self._root.new_file(place + (temporary,), self._mode))
+            except (InTheWay, SourceError, OSError) as error:
+                self._new = NewFile(place, temporary, -1, why_not_written(error))
+        return self._new
+
+    def _drop_new(self) -> None:
+        """Leaves nothing of the file that takes bytes."""
+        if self._new is not None and self._new.why is None:
+            self._drop(self._new)
+        self._new = None
 
     def flush(self) -> List[WrittenFile]:
         """Has the disk take all bytes, and gives the files their names."""
-        list(self._pool.map(lambda waiting: os.fsync(waiting.descriptor), self._waiting))
+        list(self._pool.map(lambda waiting: os.fsync(waiting.file.descriptor), self._waiting))
         done = []
         while self._waiting:
             waiting = self._waiting.pop()
@@ -126,7 +157,7 @@ class Output:
         return done[::-1]
 
     def _name(self, waiting: Waiting) -> WrittenFile:
-        path = "/".join(waiting.folder + (waiting.name,))
+        path = "/".join(waiting.file.folder + (waiting.name,))
         try:
             self._link(waiting)
             return WrittenFile(waiting.key, path, None)
@@ -136,29 +167,31 @@ class Output:
         except (SourceError, OSError) as error:
             return WrittenFile(waiting.key, path, why_not_written(error))
         finally:
-            self._drop(waiting)
+            self._drop(waiting.file)
 
     def _link(self, waiting: Waiting) -> None:
         """Gives a file its name; FileExistsError where something has it."""
-        temporary = waiting.folder + (waiting.temporary,)
+        folder = waiting.file.folder
+        temporary = folder + (waiting.file.temporary,)
         try:
             self._root.link(temporary, waiting.name)
         except FileExistsError:
             raise
         except OSError:
             # Some file systems have no second names: the name is taken first, so that nothing is replaced that has it by now.
-            os.close(self._root.new_file(waiting.folder + (waiting.name,), self._mode))
+            os.close(self._root.new_file(folder + (waiting.name,), self._mode))
             self._root.rename(temporary, waiting.name)
 
     def _has_same(self, waiting: Waiting) -> bool:
         """Whether the file that has the name has the bytes."""
         try:
-            descriptor = self._root.open_file(waiting.folder + (waiting.name,))
+            descriptor = self._root.open_file(waiting.file.folder + (waiting.name,))
         except OSError:
             return False
-        with open(descriptor, "rb") as file:
-            size = os.fstat(waiting.descriptor).st_size
-            return os.fstat(descriptor).st_size == size and file.read(size) == os.pread(waiting.descriptor, size, 0)
+        with open(descriptor, "rb") as there:
+            new = waiting.file.descriptor
+            size = os.fstat(new).st_size
+            return os.fstat(descriptor).st_size == size and all(there.read(PIECE) == os.pread(new, PIECE, at) for at in range(0, size, PIECE))
 
     def finish(self) -> List[WrittenFile]:
         """Names all files, and makes names and folders durable."""
@@ -171,16 +204,17 @@ class Output:
         self._root.sync(())
         return done
 
-    def _drop(self, waiting: Waiting) -> None:
+    def _drop(self, file: NewFile) -> None:
         """Closes a file, and removes the name that it had meanwhile."""
-        os.close(waiting.descriptor)
+        os.close(file.descriptor)
         with suppress(FileNotFoundError, NotFollowed, NotADirectoryError):
-            self._root.unlink(waiting.folder + (waiting.temporary,))
+            self._root.unlink(file.folder + (file.temporary,))
 
     def close(self) -> None:
         """Leaves no temporary file."""
+        self._drop_new()
         for waiting in self._waiting:
-            self._drop(waiting)
+            self._drop(waiting.file)
         self._waiting = []
         self._pool.shutdown()
         self._root.close()
