@@ -19,7 +19,7 @@ TOP = Path(__file__).resolve().parent.parent.parent
 sys.path[:0] = [str(TOP / "bench" / "apply"), str(Path(__file__).resolve().parent)]
 
 from timing import load, ratio  # noqa: E402
-from ways import ADD, LIBRARY, PIPE, SOCKET, Programs, Step, Way, bytes_of, installed_of, left_out, require_same, stores, syncs, timed, ways  # noqa: E402
+from ways import ADD, LIBRARY, IMAGE, SOCKET, Programs, Step, Way, bytes_of, installed_of, left_out, require_same, stores, syncs, timed, ways  # noqa: E402
 
 PIECE = 1 << 20
 STOPS = (signal.SIGHUP, signal.SIGINT, signal.SIGTERM)
@@ -35,8 +35,8 @@ class Tree(NamedTuple):
     aims: dict[str, float]
 
 
-TREES = (Tree("4,000 files of 4 KiB", 4000, 4096, {PIPE: 0.2, SOCKET: 0.2, LIBRARY: 0.2}),
-         Tree("60 photos of 3 MB", 60, 3_000_000, {PIPE: 3, SOCKET: 3, LIBRARY: 1, ADD: 3}),
+TREES = (Tree("4,000 files of 4 KiB", 4000, 4096, {IMAGE: 0.2, SOCKET: 0.2, LIBRARY: 0.2}),
+         Tree("60 photos of 3 MB", 60, 3_000_000, {IMAGE: 3, SOCKET: 3, LIBRARY: 1, ADD: 3}),
          Tree("a file of 700 MB", 1, 700_000_000, {}))
 
 Taken = dict[tuple[str, str], list[float]]
@@ -193,7 +193,7 @@ def stored_beside(programs: Programs, room: str, asked: argparse.Namespace) -> N
         for way in all_ways:
             own = way is all_ways[0]
             count = store_counted(way, room, source)
-            times = cell(taken[way.name], () if own else taken[PIPE]) if asked.rounds else "-"
+            times = cell(taken[way.name], () if own else taken[IMAGE]) if asked.rounds else "-"
             cells = [f"{tree.name}{', shrunk' if asked.shrink > 1 else ''}, {load()}" if own else "", way.name, times, f"{count:,}",
                      f"{count / files:.3f}", f"{tree.aims[way.name]:g}" if way.name in tree.aims else "-"]
             print(f"| {' | '.join(cells)} |", flush=True)

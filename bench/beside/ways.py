@@ -17,7 +17,7 @@ CALLS = "fsync,fdatasync,sync_file_range,syncfs,sync,msync"
 
 # Runs a command while a daemon (the first two words and the socket's path) serves it.
 SERVED = '"$1" "$2" "$3" & trap "kill $!; wait" EXIT; until [ -S "$3" ]; do kill -0 $! || exit 1; sleep 0.01; done; shift 3; "$@"'
-PIPE, SOCKET, LIBRARY, ADD = "`put -r`, a pipe", "`put -r`, a socket", "`put -r`, the library", "`add`"
+IMAGE, SOCKET, LIBRARY, ADD = "`put -r`, the image", "`put -r`, a socket", "`put -r`, the library", "`add`"
 
 Step = list[str]
 
@@ -78,7 +78,7 @@ def ways(program: str, room: str, source: str) -> list[Way]:
 
 
 def stores(programs: Programs, room: str, source: str) -> list[Way]:
-    """Programs that store a tree, `put` by a pipe first, as the others are compared with it."""
+    """Programs that store a tree, `put` on the image first, as the others are compared with it."""
     at = os.path.join(room, "kept")
     image, socket, tar = (os.path.join(at, name) for name in ("disc.img", "socket", "t.tar"))
     keys = {"PYTHONPATH": installed(room), "UDFBURN": programs.udfburn}
@@ -86,7 +86,7 @@ def stores(programs: Programs, room: str, source: str) -> list[Way]:
     put = package("udfburn", "put", "-r", "--quiet", source, "/t", "--ledger", os.path.join(at, "ledger.sqlite"))
     back = package("udfburn", "get", "-r", "--quiet", "/t", "{}/t", "--image", image)
     archive, restic, borg = ways(programs.udfburn, room, source)
-    found = [once(PIPE, sys.executable, keys, begin, [*put, "--image", image], back),
+    found = [once(IMAGE, sys.executable, keys, begin, [*put, "--image", image], back),
              once(SOCKET, programs.udfburnd, keys, begin, ["sh", "-c", SERVED, "-", programs.udfburnd, image, socket, *put, "--socket", socket], back)]
     if programs.library:
         found.append(once(LIBRARY, sys.executable, {**keys, "UDFBURN_LIBRARY": programs.library}, begin, [*put, "--library", "--image", image], back))

@@ -1,16 +1,22 @@
-"""What a daemon reads of a connection at once: the messages that are there are one group, and what came before a call that fails is
-answered."""
+"""What is read of a connection or of the standard input at once: the messages that are there are one group, and what came before a call
+that fails is answered."""
 from __future__ import annotations
 
+import os
 import signal
-from typing import Sequence
+import socket
+import subprocess
+import tempfile
+import threading
+from typing import Any, Sequence
 
 from faults.calls import Discipline
 from faults.log import read_log
-from faults.processes import stop
-from faults.running import Client, Daemon
+from faults.processes import PATIENCE, stop
+from faults.programs import built
+from faults.running import Client, Daemon, Ran, environment
 from faults.serving import Serving
-from protocol import Model, Request, encode, paths_of
+from protocol import Model, Request, answers_of, encode, paths_of
 
 STREAM = [
     Request("create", 1, 1, "/a", b"first"),
@@ -107,3 +113,73 @@ class AtOnce(Serving):
                     self.assertEqual(client.ask(encode(STREAM[2])), model.answer(STREAM[2]))
                     self.assertEqual(daemon.errors(), b"")
                 self.tree_is(model, paths_of(STREAM))
+
+
+class OfInputs(Serving):
+    """What `apply` answers together: of a file and of a socket what is there, of a pipe what comes with 64 KiB."""
+
+    REQUESTS = creates(1, 20, 7000)
+    # Of the first 64 KiB, and then of twice as much.
+    GROUPS = [9, 11]
+
+    def applied(self, given: Any, **popen: Any) -> Ran:
+        """Runs `apply` on what this descriptor has to give."""
+        done = subprocess.run([built().udfburn, "apply", "d.img"], stdin=given, stderr=subprocess.PIPE, cwd=self.folder, timeout=PATIENCE,
+                              env=environment("d.img", self.new_log()), **popen)
+        return Ran(done.returncode, done.stdout or b"", done.stderr)
+
+    def groups(self, given: Any) -> list[int]:
+        """How many commits each group has that `apply` makes of the requests, which this descriptor gives. All is as it must be."""
+        length = self.fresh(capacity=self.capacity).stat().st_size
+        model = Model()
+        ran = self.applied(given, stdout=subprocess.PIPE)
+        self.assertEqual((ran.status, ran.errors), (0, b""))
+        self.assertEqual(answers_of(ran.output), [model.answer(request) for request in self.REQUESTS])
+        followed = Discipline(length, self.folder).follow(read_log(self.log_path()))
+        self.assertEqual(followed.faults, [])
+        self.tree_is(model, paths_of(self.REQUESTS))
+        return [len(marks) for marks in followed.groups]
+
+    def in_socket(self) -> "tuple[socket.socket, socket.socket]":
+        """A socket in which the requests wait, and the one at its other end, which sends no more."""
+        ours, theirs = socket.socketpair()
+        self.addCleanup(ours.close)
+        self.addCleanup(theirs.close)
+        ours.settimeout(PATIENCE)
+        ours.sendall(b"".join(map(encode, self.REQUESTS)))
+        ours.shutdown(socket.SHUT_WR)
+        return ours, theirs
+
+    def test_a_file(self) -> None:
+        with tempfile.TemporaryFile(dir=built().room) as given:
+            given.write(b"".join(map(encode, self.REQUESTS)))
+            given.seek(0)
+            self.assertEqual(self.groups(given), self.GROUPS)
+
+    def test_a_socket(self) -> None:
+        self.assertEqual(self.groups(self.in_socket()[1]), self.GROUPS)
+
+    def test_a_pipe(self) -> None:
+        source, sink = os.pipe()
+        self.addCleanup(os.close, source)
+
+        def give() -> None:
+            with open(sink, "wb") as output:
+                output.write(b"".join(map(encode, self.REQUESTS)))
+
+        giver = threading.Thread(target=give)
+        giver.start()
+        groups = self.groups(source)
+        giver.join(PATIENCE)
+        self.assertGreater(len(groups), len(self.GROUPS))
+        self.assertEqual(sum(groups), len(self.REQUESTS))
+
+    def test_a_socket_is_never_the_output(self) -> None:
+        """A closed output stays closed: no descriptor of the socket takes its number."""
+        self.fresh(capacity=self.capacity)
+        ours, theirs = self.in_socket()
+        ran = self.applied(theirs, preexec_fn=lambda: os.close(1))
+        self.assertEqual(ran, Ran(1, b"", b"udfburn: 92 Write\n"))
+        ours.setblocking(False)
+        with self.assertRaises(BlockingIOError):
+            ours.recv(1)

@@ -31,6 +31,7 @@ use Rattle.programs.specs.declared.fault.Fault.{Fault}
 use Rattle.programs.specs.declared.fault.Fault.TheVariants.{Usage, Path, Socket, Store as Stored, Stream}
 use Rattle.programs.specs.Applied.{AppliesGroups, AppliesInGroups, AppliesStream, AppliesAll, AppliesUntil, AppliesToImage, IsRunOfNew, IsUnmade, AnswersAll, AnswersUntil, AnswersInMemory}
 use Rattle.programs.specs.Images.{Images, IsOpened, IsPutBack, IsThere}
+use Rattle.programs.specs.Inputs.{most_at_once}
 use Rattle.programs.proofs.Opening.{keeps_self, on_media}
 
 -- ---- an engine that is new begins with no store
@@ -49,9 +50,9 @@ applied_until {T} (Err f) fault store kept J failures capacity honest writes aft
 
 -- the same in groups
 pub grouped_all : (store kept : Option Store) (J : List Event) (failures capacity : ℕ) (honest : Bool) (writes : List (List (List ℕ))) (begun : Gathering) (afterwards : Situation) (ended : Gathering) (i l o w : Option (List ℕ)) → store ≡ None
-    → ServesGroups 65536 (situation store J failures capacity honest writes) begun (with_store kept afterwards) ended i l o w → AppliesGroups (situation None J failures capacity honest writes) begun afterwards i l o w
+    → ServesGroups most_at_once (situation store J failures capacity honest writes) begun (with_store kept afterwards) ended i l o w → AppliesGroups (situation None J failures capacity honest writes) begun afterwards i l o w
 grouped_all store kept J failures capacity honest writes begun afterwards ended i l o w e h =
-    (kept, ended, subst (λ (s : Option Store). ServesGroups 65536 (situation s J failures capacity honest writes) begun (with_store kept afterwards) ended i l o w) e h)
+    (kept, ended, subst (λ (s : Option Store). ServesGroups most_at_once (situation s J failures capacity honest writes) begun (with_store kept afterwards) ended i l o w) e h)
 
 pub grouped_until : {T : Type 0} (outcome : Result T Fault) (fault : ServeFault) (store kept : Option Store) (J : List Event) (failures capacity : ℕ) (honest : Bool) (writes : List (List (List ℕ))) (begun : Gathering) (afterwards : Situation) (ended : Gathering) (i l o w : Option (List ℕ)) → IsErrAnd outcome (λ f. f ≡ Stream fault) → store ≡ None
     → ServesGroupsUntil fault (situation store J failures capacity honest writes) begun (with_store kept afterwards) ended i l o w → AppliesInGroups outcome (situation None J failures capacity honest writes) begun afterwards i l o w

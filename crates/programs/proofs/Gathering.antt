@@ -23,12 +23,12 @@ use Rattle.recover.specs.declared.fault.StoreFault.{StoreFault}
 use Rattle.programs.specs.declared.fault.Fault.{Fault}
 use Rattle.programs.specs.declared.fault.Fault.TheVariants.{Usage, Path, Socket, Store, Stream}
 use Rattle.programs.specs.Applied.{AppliesInGroups, AppliesToImage, AnswersInMemory}
-use Rattle.programs.specs.Connections.{connection_bytes, ServesPrefix}
+use Rattle.programs.specs.Connections.{ServesPrefix}
 use Rattle.programs.specs.Copies.{SendsFrames, SendsSome}
 use Rattle.programs.specs.FaultLines.{Said, Reports}
 use Rattle.programs.specs.Status.{drive_failures, status_of}
 use Rattle.programs.specs.Images.{Images, IsThere, IsThereOrMade, OnMedia, Unmade, Unopened}
-use Rattle.programs.specs.Inputs.{Input}
+use Rattle.programs.specs.Inputs.{Input, most_at_once}
 use Rattle.programs.specs.NewVolumes.{MakesVolume, MakesOn, MakesOnImage}
 use Rattle.programs.specs.Lines.{formatted_text}
 use Rattle.programs.specs.Questions.{Question, PrintsAnswer, PrintsNothing, PrintsRefused, ShowsImage, ShowsPath}
@@ -367,14 +367,14 @@ module _ (before : Situation) (begun : Gathering) (afterwards : Situation) (ende
       (subst (λ (b : Option (List ℕ)). ServesGroups most before begun afterwards ended i l (append_known (contents first) waiting) b) ends_with h))
 
   -- all messages were answered, and a prefix of what waited was written
-  pub served_part : (fault : ServeFault) (now : Option (List ℕ)) → fault ≡ streams.Write → PutsPrefix (contents inner) now bytes → ServesGroups connection_bytes before begun afterwards ended i l (append_known (contents first) waiting) (append_known (contents last) waited)
+  pub served_part : (fault : ServeFault) (now : Option (List ℕ)) → fault ≡ streams.Write → PutsPrefix (contents inner) now bytes → ServesGroups most_at_once before begun afterwards ended i l (append_known (contents first) waiting) (append_known (contents last) waited)
       → ServesPrefix fault before begun afterwards ended i l (contents output) now
   served_part fault now write put h = record {
     gathered = append_known (contents inner) bytes;
     serves = inr (
       write,
-      subst (λ (a : Option (List ℕ)). ServesGroups connection_bytes before begun afterwards ended i l a (append_known (contents inner) bytes)) begins_with
-          (subst (λ (b : Option (List ℕ)). ServesGroups connection_bytes before begun afterwards ended i l (append_known (contents first) waiting) b) ends_with h),
+      subst (λ (a : Option (List ℕ)). ServesGroups most_at_once before begun afterwards ended i l a (append_known (contents inner) bytes)) begins_with
+          (subst (λ (b : Option (List ℕ)). ServesGroups most_at_once before begun afterwards ended i l (append_known (contents first) waiting) b) ends_with h),
     );
     front = written_part (contents inner) now bytes put;
   }

@@ -19,8 +19,8 @@ use Rattle.grouping.proofs.Withstanding.{groups_withstand}
 use Rattle.store.specs.declared.store.Store as stored
 use Rattle.programs.specs.declared.fault.Fault.{Fault}
 use Rattle.programs.specs.declared.fault.Fault.TheVariants.{Usage, Path, Socket, Store, Stream}
-use Rattle.programs.specs.Connections.{connection_bytes, ServesMessages, LeavesStream}
-use Rattle.programs.specs.Inputs.{CountsReads, is_read_refused}
+use Rattle.programs.specs.Connections.{ServesMessages, LeavesStream}
+use Rattle.programs.specs.Inputs.{most_at_once, CountsReads, is_read_refused}
 use Rattle.programs.specs.Listening.{AllHeard, CountsAll, EndsBy, EndsOne, Heard, IsHeard, IsOneRun, IsServed, LetsGo, ServesList}
 use Rattle.programs.specs.Outputs.{IsBlank, known}
 use Rattle.programs.specs.Tasks.{IsPrefixOf}
@@ -37,7 +37,7 @@ module _ (before : Situation) (begun : Gathering) (afterwards : Situation) (fini
   abbrev Heard_of : Type 0
   Heard_of = (groups : List Group) × AreGroups groups before begun afterwards finished × IsHeard input written groups
 
-  all_heard : (left output gathered : Option (List ℕ)) → IsBlank output → IsPrefixOf gathered written → ServesGroups connection_bytes before begun afterwards finished input left output gathered → Heard_of
+  all_heard : (left output gathered : Option (List ℕ)) → IsBlank output → IsPrefixOf gathered written → ServesGroups most_at_once before begun afterwards finished input left output gathered → Heard_of
   all_heard left output gathered blank is h = (
     h.serving.groups,
     h.serving.are,
@@ -74,7 +74,7 @@ module _ (before : Situation) (begun : Gathering) (afterwards : Situation) (fini
   )
 
   front_heard : (fault : ServeFault) (left output gathered : Option (List ℕ)) → IsBlank output → IsPrefixOf gathered written
-      → ServesGroupsUntil fault before begun afterwards finished input left output gathered ⊎ ((fault ≡ streams.Write) × ServesGroups connection_bytes before begun afterwards finished input left output gathered) → Heard_of
+      → ServesGroupsUntil fault before begun afterwards finished input left output gathered ⊎ ((fault ≡ streams.Write) × ServesGroups most_at_once before begun afterwards finished input left output gathered) → Heard_of
   front_heard fault left output gathered blank is (inl h) = some_heard fault left output gathered blank is h
   front_heard fault left output gathered blank is (inr h) = all_heard left output gathered blank is h.1
 
@@ -238,7 +238,7 @@ hearing_more outcome connections left less tries old now between next before beg
 
 -- ---- how one connection ended
 
-ends_by : {T : Type 0} (outcome : Result T Fault) (before : Situation) (begun : Gathering) (afterwards : Situation) (finished : Gathering) (input left output written : Option (List ℕ)) → OnOk outcome (ServesGroups connection_bytes before begun afterwards finished input left output written)
+ends_by : {T : Type 0} (outcome : Result T Fault) (before : Situation) (begun : Gathering) (afterwards : Situation) (finished : Gathering) (input left output written : Option (List ℕ)) → OnOk outcome (ServesGroups most_at_once before begun afterwards finished input left output written)
     → IfErr outcome (λ fault. LeavesStream fault before begun afterwards finished input left output written) → EndsBy outcome before begun afterwards finished input left output written
 ends_by (Ok x) before begun afterwards finished input left output written all front = all
 ends_by (Err Usage) before begun afterwards finished input left output written all front = front
@@ -254,7 +254,7 @@ failed_by false count old new e h = h ∙ ap (λ (n : ℕ). counted (nat_lt 0 n)
 
 -- its streams were served, and its output is there
 pub ends_some : {T O I : Type 0} (contents : O → Option (List ℕ)) (remaining : I → Option (List ℕ)) (outcome : Result T Fault) (o : Option O) (w : O) (input stream : I) (old new : Heard) (left output : Option (List ℕ)) (before : Situation) (begun : Gathering) (afterwards : Situation) (finished : Gathering) → o ≡ Some w → IsBlank output → ServesMessages before begun afterwards finished
-    → OnOk outcome (IsSomeAnd o (λ x. ServesGroups connection_bytes before begun afterwards finished (remaining stream) left output (contents x))) → IfErr outcome (λ fault. IfSome o (λ x. LeavesStream fault before begun afterwards finished (remaining stream) left output (contents x)))
+    → OnOk outcome (IsSomeAnd o (λ x. ServesGroups most_at_once before begun afterwards finished (remaining stream) left output (contents x))) → IfErr outcome (λ fault. IfSome o (λ x. LeavesStream fault before begun afterwards finished (remaining stream) left output (contents x)))
     → new.ended ≡ old.ended ++ known (contents w) → new.given ≡ old.given → new.missed ≡ old.missed
     → stream ≡ input → (first count : ℕ) → first ≡ 0 → CountsReads outcome first count → new.failed ≡ counted (nat_lt 0 count) old.failed → EndsOne outcome (remaining input) old new before begun afterwards finished
 ends_some {T = T} {O = O} {I = I} contents remaining outcome o w input stream old new left output before begun afterwards finished is blank goes all front ended given missed same first count none counts failed = record {
@@ -268,7 +268,7 @@ ends_some {T = T} {O = O} {I = I} contents remaining outcome o w input stream ol
     output = output;
     blank = blank;
     ends = inl (subst (λ (x : I). EndsBy outcome before begun afterwards finished (remaining x) left output (contents w)) same
-        (ends_by outcome before begun afterwards finished (remaining stream) left output (contents w) (subst (λ (x : Option O). OnOk outcome (IsSomeAnd x (λ y. ServesGroups connection_bytes before begun afterwards finished (remaining stream) left output (contents y)))) is all)
+        (ends_by outcome before begun afterwards finished (remaining stream) left output (contents w) (subst (λ (x : Option O). OnOk outcome (IsSomeAnd x (λ y. ServesGroups most_at_once before begun afterwards finished (remaining stream) left output (contents y)))) is all)
         (subst (λ (x : Option O). IfErr outcome (λ fault. IfSome x (λ y. LeavesStream fault before begun afterwards finished (remaining stream) left output (contents y)))) is front)));
     goes = goes;
   };

@@ -30,6 +30,7 @@ use Rattle.grouping.specs.Streams.{ServesGroups, ServesGroupsUntil}
 use Rattle.programs.specs.declared.fault.Fault.{Fault}
 use Rattle.programs.specs.declared.fault.Fault.TheVariants.{Usage, Path, Socket, Store as Stored, Stream}
 use Rattle.programs.specs.Images.{Images, IsThere, OnMedia, Unopened}
+use Rattle.programs.specs.Inputs.{most_at_once}
 
 -- All messages of the input were answered, or the first ones up to where this fault came. Which store is open after them is not reported.
 abbrev pub AppliesAll : Situation → Situation → Option (List ℕ) → Option (List ℕ) → Option (List ℕ) → Option (List ℕ) → Type 0
@@ -53,7 +54,7 @@ AppliesStream (Err (Stream fault)) before afterwards input left output written =
 -- them is reported, nor how the writes of the drive waited.
 abbrev pub AppliesGroups : Situation → Gathering → Situation → Option (List ℕ) → Option (List ℕ) → Option (List ℕ) → Option (List ℕ) → Type 0
 AppliesGroups before begun afterwards input left output written =
-    (kept : Option Store) × (ended : Gathering) × ServesGroups 65536 before begun (with_store kept afterwards) ended input left output written
+    (kept : Option Store) × (ended : Gathering) × ServesGroups most_at_once before begun (with_store kept afterwards) ended input left output written
 
 abbrev pub AppliesGroupsUntil : ServeFault → Situation → Gathering → Situation → Option (List ℕ) → Option (List ℕ) → Option (List ℕ) → Option (List ℕ) → Type 0
 AppliesGroupsUntil fault before begun afterwards input left output written =

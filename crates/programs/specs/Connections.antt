@@ -10,11 +10,8 @@ use Rattle.grouping.specs.Streams.{ServesGroups, ServesGroupsUntil}
 use Rattle.recover.specs.declared.fault.StoreFault.TheVariants as stores
 use Rattle.programs.specs.declared.fault.Fault.{Fault}
 use Rattle.programs.specs.declared.fault.Fault.TheVariants.{Usage, Path, Socket, Store as Stored, Stream}
+use Rattle.programs.specs.Inputs.{most_at_once}
 use Rattle.programs.specs.Tasks.{IsPrefixOf}
-
--- the most bytes of a connection that are read at once
-abbrev pub connection_bytes : ℕ
-connection_bytes = 4194304
 
 -- Messages were answered in groups, and nothing else was done: from where the engine and its drive were before, to where they are.
 -- On an honest drive where a state is recovered, what is recovered at each prefix of what was written is the state after the first of the requests that were committed.
@@ -36,7 +33,7 @@ IsAsBefore before begun afterwards ended = (afterwards ≡ before) × (ended ≡
 pub record ServesPrefix (fault : ServeFault) (before : Situation) (begun : Gathering) (afterwards : Situation) (ended : Gathering) (input left output written : Option (List ℕ)) : Type 0 where
   pub gathered : Option (List ℕ)
   pub serves : ServesGroupsUntil fault before begun afterwards ended input left output gathered
-      ⊎ ((fault ≡ streams.Write) × ServesGroups connection_bytes before begun afterwards ended input left output gathered)
+      ⊎ ((fault ≡ streams.Write) × ServesGroups most_at_once before begun afterwards ended input left output gathered)
   pub front : IsPrefixOf gathered written
 
 -- so it is of a connection whose output is there in the end, which is left by a stream's fault alone

@@ -7,6 +7,10 @@ use Rattle.engine.specs.declared.reading.CountedReader.{CountedReader}
 use Rattle.programs.specs.declared.fault.Fault.{Fault}
 use Rattle.programs.specs.declared.fault.Fault.TheVariants.{Usage, Path, Socket, Store, Stream}
 
+-- the most bytes of an input that are read at once
+abbrev pub most_at_once : ℕ
+most_at_once = 4194304
+
 -- What an input has left, where that is known, and how many reads of it failed.
 pub record Input : Type 0 where
   pub remaining : Option (List ℕ)

@@ -17,15 +17,15 @@ use Rattle.grouping.specs.Streams.{ServesGroups}
 use Rattle.programs.specs.declared.listening.Listener.{Ghosts}
 use Rattle.programs.specs.declared.fault.Fault.{Fault}
 use Rattle.programs.specs.declared.fault.Fault.TheVariants.{Usage, Path, Socket, Store, Stream}
-use Rattle.programs.specs.Connections.{IsAsBefore, connection_bytes, ServesMessages, ServesPrefix}
-use Rattle.programs.specs.Inputs.{is_read_refused}
+use Rattle.programs.specs.Connections.{IsAsBefore, ServesMessages, ServesPrefix}
+use Rattle.programs.specs.Inputs.{most_at_once, is_read_refused}
 use Rattle.programs.specs.Outputs.{IsBlank, known}
 use Rattle.programs.specs.Tasks.{IsPrefixOf}
 
 -- How a connection ended, by the outcome. All messages of what its client sends were answered in groups, or the first ones and a
 -- prefix of their answers was written; or nothing was done, since the connection could not be had or memory was short.
 abbrev pub EndsBy : {T : Type 0} → Result T Fault → Situation → Gathering → Situation → Gathering → Option (List ℕ) → Option (List ℕ) → Option (List ℕ) → Option (List ℕ) → Type 0
-EndsBy (Ok x) before begun afterwards ended input left output written = ServesGroups connection_bytes before begun afterwards ended input left output written
+EndsBy (Ok x) before begun afterwards ended input left output written = ServesGroups most_at_once before begun afterwards ended input left output written
 EndsBy (Err Usage) before begun afterwards ended input left output written = ⊥
 EndsBy (Err Path) before begun afterwards ended input left output written = ⊥
 EndsBy (Err Socket) before begun afterwards ended input left output written = IsAsBefore before begun afterwards ended × (written ≡ output)

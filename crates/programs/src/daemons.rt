@@ -18,6 +18,7 @@ use crate::errors::ErrorStream;
 use crate::fault::{Fault, report};
 use crate::images::{open_image, put_back};
 use crate::listening::Listener;
+use crate::requests::MOST_AT_ONCE;
 use command_line::{DaemonWords, read_daemon};
 use engine::{CountedReader, Engine, ServeFault, put_all};
 use grouping::serve_groups;
@@ -31,10 +32,6 @@ use store::StoreFault;
 
 /// The name at the beginning of the daemon's lines.
 const NAME: &str = "udfburnd";
-
-/// How many bytes of a connection are read before those messages are answered that are complete in them. A group may
-/// have as many: a photo, say, with all that is asked for it.
-const MOST_AT_ONCE: usize = 4_194_304;
 
 /// How long the daemon waits after it failed to accept a connection, in milliseconds.
 const PAUSE: u64 = 100;

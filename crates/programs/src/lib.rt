@@ -20,6 +20,7 @@ mod questions;
 mod requests;
 mod sending;
 mod sockets;
+mod standard_input;
 mod volumes;
 
 pub use commands::command_on;
@@ -32,3 +33,4 @@ pub use listening::{Listener, NoConnection};
 pub use process::{run_command, run_daemon};
 pub use sending::{copy_answers, send_frames};
 pub use sockets::{Incoming, Outgoing, Pieces, Sockets};
+pub use standard_input::StandardInput;

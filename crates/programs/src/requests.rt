@@ -11,13 +11,17 @@ ghost use Rattle.programs.specs.Status.{IsRefusal};
 use crate::fault::Fault;
 use crate::images::{open_image, put_back};
 use drive::{Drive, MemDrive};
-use engine::{CountedReader, Engine, PIECE_BYTES, serve};
+use engine::{CountedReader, Engine, serve};
 use grouping::serve_groups;
 use media::Media;
 use settling::Settles;
 use std::alloc::Global;
 use std::io::{Read, Write};
 use store::format;
+
+/// How many bytes of the input are read before those messages are answered that are complete in them. A group may have
+/// as many: a photo, say, with all that is asked for it.
+pub(crate) const MOST_AT_ONCE: usize = 4_194_304;
 
 /// The label of a volume in memory.
 const MEMORY_LABEL: &str = "MEM";
@@ -58,7 +62,7 @@ fn apply_in_groups<D: Settles, I: Read, O: Write>(
         (I.remaining input.old.stream) (I.remaining input.new.stream) (O.contents output.old) (O.contents output.new) }
 {
     let mut engine = Engine::new();
-    serve_groups(alloc, input, PIECE_BYTES, output, &mut engine, drive)?;
+    serve_groups(alloc, input, MOST_AT_ONCE, output, &mut engine, drive)?;
     Ok(())
 }
 

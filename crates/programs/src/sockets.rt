@@ -62,13 +62,7 @@ impl<'a, R: Files<File = File> + Net + Clock> Sockets<'a, R> {
             Some(stream) => stream.clone().ok(),
             None => None,
         };
-        let input = Incoming {
-            rt: self.rt,
-            stream: incoming,
-            frame: Frame::none(),
-            waited: Duration::ZERO,
-            failure: None,
-        };
+        let input = Incoming::new(self.rt, incoming, true);
         let output = Outgoing {
             rt: self.rt,
             stream: outgoing,
@@ -234,11 +228,37 @@ pub struct Incoming<'a, R: Clock> {
     frame: Frame,
     /// How long the client was waited for since the frame began.
     waited: Duration,
+    /// Whether it is waited for so long at most. The client of a daemon keeps others waiting.
+    is_limited: bool,
     /// What failed after bytes had come that were returned.
     failure: Option<io::ErrorKind>,
 }
 
 impl<'a, R: Clock> Incoming<'a, R> {
+    /// A stream at its beginning.
+    pub(crate) fn new(
+        rt: &'a R,
+        stream: Option<Rc<UnixStream>>,
+        is_limited: bool,
+    ) -> Incoming<'a, R> {
+        Incoming {
+            rt,
+            stream,
+            frame: Frame::none(),
+            waited: Duration::ZERO,
+            is_limited,
+            failure: None,
+        }
+    }
+
+    /// How long it may still be waited for. `None`: without an end.
+    fn patience(&self) -> io::Result<Option<Duration>> {
+        if !self.is_limited {
+            return Ok(None);
+        }
+        Ok(Some(time_left(self.waited, self.frame.bytes())?))
+    }
+
     /// Waits for bytes, at most for so long if a time is given.
     fn read_within(&mut self, most: Option<Duration>, bytes: &mut [u8]) -> io::Result<usize>
         ensures { ReadsAtMost result bytes.new }
@@ -247,8 +267,8 @@ impl<'a, R: Clock> Incoming<'a, R> {
             return Err(io::Error::from(io::ErrorKind::OutOfMemory));
         };
         let mut stream: &UnixStream = shared;
-        let left = time_left(self.waited, self.frame.bytes())?;
-        stream.set_read_timeout(Some(most.unwrap_or(left)))?;
+        let left = self.patience()?;
+        stream.set_read_timeout(most.or(left))?;
         let begin = Instant::now(self.rt)?;
         let read = stream.read(bytes);
         // A wait in which nothing came counts too.

@@ -3,12 +3,12 @@
 #![tactic(auto)]
 
 use media::FileMedia;
-use programs::{CountedReader, ErrorStream, run_command};
+use programs::{CountedReader, ErrorStream, StandardInput, run_command};
 use std::process::ExitCode;
 
 fn main(rt: HostRuntime) -> ExitCode {
     let mut media = FileMedia::of(&rt);
-    let mut input = CountedReader::new(rt.stdin());
+    let mut input = CountedReader::new(StandardInput::new(&rt, rt.stdin()));
     let output = rt.stdout();
     let mut errors = ErrorStream::new(rt.stderr());
     let (status, _) = run_command(&rt, &mut media, &mut input, output, &mut errors);

@@ -11,9 +11,9 @@ from ..protocol import Path, show
 UNFINISHED_PREFIX = ".udfburn-unfinished-"
 """How the name of a file in the root begins that is not whole yet."""
 
-UNDER_WAY = 10
-"""Files that are not whole at one time, at most: each is renamed once its pieces are acknowledged, and three parts of 4 MiB go out until
-then. In each of them at most three files begin, and one began before."""
+UNDER_WAY = 22
+"""Files that are not whole at one time, at most: each is renamed once its pieces are acknowledged, and three parts of 8 MiB go out until
+then. In each of them at most seven files begin, and one began before."""
 
 
 def is_unfinished(path: Path) -> bool:

@@ -14,9 +14,9 @@ from .together import disturbs, is_shown, may_follow, takes_away
 GROUPS = 2
 """Parts that are under way: while the replies to one and the next one are kept, the program works on the other."""
 
-GROUP_REQUESTS, GROUP_BYTES = 30, 4 * limits.FILE
-"""Requests that are kept and sent as one, and the bytes of their data. The program reads 64 KiB of a pipe at once, and answers these
-together: 30 files of 4 KiB with their questions fill two such pieces. 32 would begin a third, which takes two more synchronisations."""
+GROUP_REQUESTS, GROUP_BYTES = 30, 8 * limits.FILE
+"""Requests that are kept and sent as one, and the bytes of their data. The program reads up to 4 MiB at once, and answers these
+together."""
 
 FEW_REQUESTS = limits.REPLIES // GROUPS
 """Requests in a group where the tree does not show what became of each."""

@@ -207,7 +207,8 @@ def connect_socket(unix: socket.socket, path: str) -> None:
 
 
 class ImageConnection(Connection):
-    """A conversation with `udfburn apply IMAGE`, which runs as long as the conversation lasts."""
+    """A conversation with `udfburn apply IMAGE`, which runs as long as the conversation lasts. Its input is a socket, of which it
+    answers together what is there; of a pipe it cannot see that."""
 
     def __init__(self, image: str, program: str, timeout: float = 120.0):
         import subprocess
@@ -217,25 +218,30 @@ class ImageConnection(Connection):
         # An absolute path is never the name of a volume in memory.
         self.image = os.path.abspath(image)
         self.errors: IO[bytes] = tempfile.TemporaryFile()
+        self.input, theirs = socket.socketpair(socket.AF_UNIX, socket.SOCK_STREAM)
+        self.input.setsockopt(socket.SOL_SOCKET, socket.SO_SNDBUF, SEND_BUFFER)
         try:
             self.process = subprocess.Popen(
                 [program, "apply", self.image],
-                stdin=subprocess.PIPE, stdout=subprocess.PIPE, stderr=self.errors, start_new_session=True,
+                stdin=theirs.fileno(), stdout=subprocess.PIPE, stderr=self.errors, start_new_session=True,
             )
         except OSError as error:
             self.errors.close()
+            self.input.close()
             raise UsageError(f"{program}: {error.strerror or error}: name the program udfburn with --program") from error
-        if self.process.stdin is None or self.process.stdout is None:
-            raise RuntimeError("the program has no pipes")
-        self.sink, self.source = self.process.stdin.fileno(), self.process.stdout.fileno()
-        os.set_blocking(self.sink, False)
+        finally:
+            theirs.close()
+        if self.process.stdout is None:
+            raise RuntimeError("the program has no pipe")
+        self.source = self.process.stdout.fileno()
+        self.input.setblocking(False)
         os.set_blocking(self.source, False)
 
     def close(self) -> None:
         """Ends the program's input, and waits until it has gone: it may still be at a commit."""
-        for stream in (self.process.stdin, self.process.stdout):
-            if stream:
-                stream.close()
+        self.input.close()
+        if self.process.stdout:
+            self.process.stdout.close()
         self._await_end()
         self.errors.close()
 
@@ -263,7 +269,7 @@ class ImageConnection(Connection):
         return Lost(line or f"the program ended with status {self.process.returncode}")
 
     def _descriptors(self) -> "tuple[int, int]":
-        return self.source, self.sink
+        return self.source, self.input.fileno()
 
     def _read(self, most: int) -> Optional[bytes]:
         try:
@@ -273,10 +279,10 @@ class ImageConnection(Connection):
 
     def _write(self, data: memoryview) -> int:
         try:
-            return os.write(self.sink, data[:SOCKET_PIECE])
+            return self.input.send(data[:SOCKET_PIECE])
         except BlockingIOError:
             return 0
-        except BrokenPipeError as error:
+        except ConnectionError as error:
             raise self._ended() from error
 
 
