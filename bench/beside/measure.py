@@ -19,7 +19,7 @@ TOP = Path(__file__).resolve().parent.parent.parent
 sys.path[:0] = [str(TOP / "bench" / "apply"), str(Path(__file__).resolve().parent)]
 
 from timing import load, ratio  # noqa: E402
-from ways import ADD, LIBRARY, IMAGE, SOCKET, Programs, Step, Way, bytes_of, installed_of, left_out, require_same, stores, syncs, timed, ways  # noqa: E402
+from ways import ADD, IMAGE, LIBRARY, SOCKET, Programs, Step, Way, bytes_of, installed_of, left_out, require_same, stores, syncs, timed, ways  # noqa: E402
 
 PIECE = 1 << 20
 STOPS = (signal.SIGHUP, signal.SIGINT, signal.SIGTERM)
