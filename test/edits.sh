@@ -44,13 +44,14 @@ edits() {
     done
 }
 
-# contracts CRATE: a sum of what callers of a crate know: its specs, and the signatures of its functions with their clauses.
+# contracts CRATE: a sum of what callers of a crate know: its specs, and the signatures of its functions with their clauses. What
+# is imported is no part of it.
 contracts() {
     {
-        find "crates/$1/specs" -name '*.antt' 2> /dev/null | LC_ALL=C sort | xargs -r cat
+        find "crates/$1/specs" -name '*.antt' 2> /dev/null | LC_ALL=C sort | xargs -r cat | grep -v '^use '
         find "crates/$1/src" -name '*.rt' | LC_ALL=C sort | xargs awk '
             /(^| )fn [a-z_]/ && !/^ *\/\// { signature = 1 }
-            signature || /^ *ghost / { print }
+            signature || (/^ *ghost / && !/^ *ghost use /) { print }
             signature && (/[{;]$/ || /fn .*}$/) { signature = 0 }'
     } | sha256sum | cut -c 1-16
 }
