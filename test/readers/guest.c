@@ -5,8 +5,9 @@
  *   guest                  as the first process of a virtual machine: loads /modules/NN, reads /jobs, writes to /dev/vdb
  *
  * A line of JOBS is `loop FILE OFFSET BYTES OPTIONS` or `disc TARGET 0 0 OPTIONS`: a read-only loop device of sectors of
- * 2,048 bytes over these bytes of a file, or the disc in a drive; OPTIONS is `-` for none. All bytes are printed as they are:
- * what they ought to be is not known here.
+ * 2,048 bytes over these bytes of a file, or the disc in a drive; OPTIONS is `-` for none. `bag` is as `loop`, and what
+ * sha256sum says of the bag at /bag comes after the tree. All bytes are printed as they are: what they ought to be is not
+ * known here.
  */
 #define _GNU_SOURCE
 #include <dirent.h>
@@ -23,6 +24,7 @@
 #include <sys/reboot.h>
 #include <sys/stat.h>
 #include <sys/syscall.h>
+#include <sys/wait.h>
 #include <unistd.h>
 
 #ifndef LOOP_CONFIGURE
@@ -123,6 +125,29 @@ static void walk(int folder, size_t length)
 	closedir(list);
 }
 
+/* What sha256sum says of the manifests of the bag, in pieces as the bytes of a file, and then its status. */
+static void tell_sums(const char *room)
+{
+	int ends[2], status;
+	pid_t child;
+	if (fflush(out) || pipe(ends) || (child = fork()) < 0)
+		fail("fork");
+	if (!child) {
+		setenv("LC_ALL", "C", 1);
+		if (chdir(room) || chdir("bag") || dup2(ends[1], 1) < 0 || dup2(1, 2) < 0)
+			_exit(126);
+		execlp("sha256sum", "sha256sum", "-c", "manifest-sha256.txt", "tagmanifest-sha256.txt", (char *)NULL);
+		_exit(127);
+	}
+	close(ends[1]);
+	putc('S', out);
+	tell_bytes(ends[0]);
+	close(ends[0]);
+	if (waitpid(child, &status, 0) != child)
+		fail("waitpid");
+	number(WIFEXITED(status) ? (uint64_t)WEXITSTATUS(status) : 128, 4);
+}
+
 /* Makes a loop device over a part of a file, and gives its name in `name`; the descriptor keeps it. */
 static int attach(const char *file, uint64_t offset, uint64_t bytes, char *name)
 {
@@ -213,6 +238,8 @@ static void run(const char *jobs, const char *room)
 			if (root < 0)
 				fail("the root");
 			walk(root, 0);
+			if (!strcmp(kind, "bag"))
+				tell_sums(room);
 			if (umount2(room, 0))
 				fail("umount");
 		}

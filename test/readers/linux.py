@@ -2,14 +2,18 @@
 
 from __future__ import annotations
 
+import hashlib
 import os
+import shutil
 import subprocess
 from dataclasses import dataclass, field
 from pathlib import Path
-from typing import BinaryIO, Dict, List, Optional, Tuple
+from typing import BinaryIO, Dict, List, Optional, Sequence, Tuple
 
 # What the virtual machine needs of the kernel's modules, with what these need.
 MODULES = ("virtio_pci", "virtio_blk", "virtio_scsi", "sr_mod", "loop", "udf")
+# Bytes of a file of a bag that are kept: of a longer one the digest alone.
+KEPT = 1 << 20
 
 
 @dataclass
@@ -24,6 +28,8 @@ class Found:
     mode: int
     links: int
     data: bytes = b""
+    # In a bag: of all bytes that the kernel gave, in hexadecimal digits.
+    sha256: str = ""
 
 
 @dataclass
@@ -32,6 +38,9 @@ class Mount:
     # By path in bytes, with a slash before each name; in the order in which the kernel lists them.
     nodes: Dict[bytes, Found] = field(default_factory=dict)
     twice: List[bytes] = field(default_factory=list)
+    # Of a bag: what sha256sum printed and its status.
+    sums: bytes = b""
+    status: int = 0
 
 
 @dataclass
@@ -39,19 +48,36 @@ class Job:
     image: Path
     lastblock: Optional[int] = None
     disc: bool = False
+    # It has a bag at /bag, which sha256sum is to check.
+    bag: bool = False
 
     def options(self) -> str:
         return "-" if self.lastblock is None else "lastblock=%d" % self.lastblock
 
 
-def read_output(stream: BinaryIO) -> List[Mount]:
-    """The records that guest.c writes."""
+def read_output(stream: BinaryIO, jobs: Sequence[Job]) -> List[Mount]:
+    """The records that guest.c writes about jobs."""
 
     def number(size: int, signed: bool = False) -> int:
         data = stream.read(size)
         if len(data) != size:
             raise EOFError("the guest's output ends early")
         return int.from_bytes(data, "little", signed=signed)
+
+    def bytes_told(found: Found, bag: bool) -> None:
+        pieces, whole = [], hashlib.sha256()
+        while True:
+            length = number(4)
+            if length == 0:
+                break
+            piece = stream.read(length)
+            if bag:
+                whole.update(piece)
+            if not bag or found.size <= KEPT:
+                pieces.append(piece)
+        found.failure = number(4)
+        found.data = b"".join(pieces)
+        found.sha256 = whole.hexdigest() if bag else ""
 
     mounts: List[Mount] = []
     while True:
@@ -63,20 +89,18 @@ def read_output(stream: BinaryIO) -> List[Mount]:
                 raise ValueError("the guest's mounts are out of order")
             mounts.append(Mount(number(4)))
             continue
+        if kind == b"S":
+            said = Found("S", 0, 0, 0, 0, 0, 0)
+            bytes_told(said, False)
+            mounts[-1].sums, mounts[-1].status = said.data, number(4)
+            continue
         if kind not in (b"D", b"F", b"?"):
             raise ValueError("the guest's output ends at %d" % stream.tell())
         failure = number(4)
         path = stream.read(number(4))
         found = Found(kind.decode(), failure, number(8), number(8, True), number(8), number(4), number(4))
         if kind == b"F":
-            pieces = []
-            while True:
-                length = number(4)
-                if length == 0:
-                    break
-                pieces.append(stream.read(length))
-            found.failure = number(4)
-            found.data = b"".join(pieces)
+            bytes_told(found, jobs[len(mounts) - 1].bag)
         if path in mounts[-1].nodes:
             mounts[-1].twice.append(path)
         mounts[-1].nodes[path] = found
@@ -118,7 +142,7 @@ def job_lines(jobs: List[Job], where: Dict[Path, Tuple[str, int, int]], discs: L
         if job.disc:
             out += "disc %d 0 0 %s\n" % (discs.index(job.image), job.options())
         else:
-            out += "loop %s %d %d %s\n" % (where[job.image] + (job.options(),))
+            out += "%s %s %d %d %s\n" % (("bag" if job.bag else "loop",) + where[job.image] + (job.options(),))
     return out.encode()
 
 
@@ -129,12 +153,17 @@ def mount_here(guest: Path, jobs: List[Job], room: Path) -> List[Mount]:
     (room / "jobs").write_bytes(job_lines(jobs, where, []))
     subprocess.run([str(guest), str(room / "jobs"), str(room / "output")], check=True, timeout=6 * 3600)
     with open(room / "output", "rb") as stream:
-        return read_output(stream)
+        return read_output(stream, jobs)
 
 
-def mount_in_machine(guest: Path, kernel: Path, jobs: List[Job], room: Path, seconds: int = 6 * 3600) -> List[Mount]:
-    """The jobs in a virtual machine of the kernel that was unpacked into `kernel`, all of them in one start."""
+def mount_in_machine(
+    guest: Path, kernel: Path, jobs: List[Job], room: Path, seconds: int = 6 * 3600, sha256sum: Optional[Path] = None,
+) -> List[Mount]:
+    """The jobs in a virtual machine of the kernel that was unpacked into `kernel`, all of them in one start. `sha256sum` is a program
+    of that name without libraries, where a job has a bag."""
     archive = member("init", 0o100755, guest.read_bytes())
+    if sha256sum is not None:
+        archive += member("bin", 0o040755, b"") + member("bin/sha256sum", 0o100755, sha256sum.read_bytes())
     archive += member("modules", 0o040755, b"")
     for at, path in enumerate(modules(kernel / "lib/modules")):
         archive += member("modules/%02d" % at, 0o100644, path.read_bytes())
@@ -146,9 +175,9 @@ def mount_in_machine(guest: Path, kernel: Path, jobs: List[Job], room: Path, sec
                 if job.image not in discs:
                     discs.append(job.image)
             elif job.image not in where:
-                data = job.image.read_bytes()
-                where[job.image] = ("/dev/vda", disk.tell(), len(data))
-                disk.write(data)
+                where[job.image] = ("/dev/vda", disk.tell(), job.image.stat().st_size)
+                with open(job.image, "rb") as data:
+                    shutil.copyfileobj(data, disk, 1 << 20)
         # A disk has some sectors.
         disk.write(bytes(4096 - disk.tell() % 4096))
     archive += member("jobs", 0o100644, job_lines(jobs, where, discs))
@@ -173,7 +202,7 @@ def mount_in_machine(guest: Path, kernel: Path, jobs: List[Job], room: Path, sec
     with open(room / "console", "wb") as console:
         subprocess.run(words, stdin=subprocess.DEVNULL, stdout=console, stderr=console, check=True, timeout=seconds)
     with open(room / "output", "rb") as stream:
-        return read_output(stream)
+        return read_output(stream, jobs)
 
 
 def mounts_here(guest: Path, room: Path) -> bool:
