@@ -263,11 +263,11 @@ impl<'a, R: Clock> Incoming<'a, R> {
     fn read_within(&mut self, most: Option<Duration>, bytes: &mut [u8]) -> io::Result<usize>
         ensures { ReadsAtMost result bytes.new }
     {
+        let left = self.patience()?;
         let Some(shared) = &self.stream else {
             return Err(io::Error::from(io::ErrorKind::OutOfMemory));
         };
         let mut stream: &UnixStream = shared;
-        let left = self.patience()?;
         stream.set_read_timeout(most.or(left))?;
         let begin = Instant::now(self.rt)?;
         let read = stream.read(bytes);
