@@ -87,11 +87,11 @@ class Ahead(WithServer):
         self.assertEqual(self.groups(removals, 10 + 6), [30, 10, -30, -10])
 
     def test_groups_of_large_files(self) -> None:
-        """Four mebibytes of data, as four files of the greatest size are; whatever is larger than the rest of it waits."""
-        large = [Operation(p.Create, (f"g{index}",), Moment(1), bytes(p.limits.FILE)) for index in range(10)]
-        self.assertEqual(self.groups(large), [4, 4, -4, 2, -4, -2])
-        mixed = [Operation(p.Create, (f"h{index}",), Moment(1), bytes(p.limits.FILE - index % 2)) for index in range(5)] + creates(30)
-        self.assertEqual(self.groups(mixed), [4, 30, -4, 1, -30, -1])
+        """Eight mebibytes of data, as eight requests of the greatest size are; whatever is larger than the rest of it waits."""
+        large = [Operation(p.Create, (f"g{index}",), Moment(1), bytes(p.limits.FILE)) for index in range(18)]
+        self.assertEqual(self.groups(large), [8, 8, -8, 2, -8, -2])
+        mixed = [Operation(p.Create, (f"h{index}",), Moment(1), bytes(p.limits.FILE - index % 2)) for index in range(9)] + creates(30)
+        self.assertEqual(self.groups(mixed), [8, 30, -8, 1, -30, -1])
 
     def test_another_volume_between_two_turns(self) -> None:
         """Nothing is sent to it: what was acknowledged before is not there."""
