@@ -41,8 +41,8 @@ KILLS = 10
 """Those before the bag is sealed. One more comes meanwhile, and may come too late."""
 BEGUN = 262
 """Blocks of an empty volume."""
-AGAIN = 12 * PIECE
-"""Bytes that a client may have to send again after a kill, at most: what was under way, two groups of four or five mebibytes."""
+AGAIN = 20 * PIECE
+"""Bytes that a client may have to send again after a kill, at most: what was under way, two groups of eight or nine mebibytes."""
 PATIENCE = 1800.0
 """Seconds after which what did not come counts as missing."""
 
