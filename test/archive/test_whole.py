@@ -23,6 +23,7 @@ from udfburn.archive.config import read  # noqa: E402
 from udfburn.archive.tell import Tell  # noqa: E402
 from udfburn.archive.tree import PlannedTree  # noqa: E402
 from udfburn.archive.view import ArchiveFile, ArchiveView, FolderState  # noqa: E402
+from udfburn.base.unfinished import UNDER_WAY  # noqa: E402
 from udfburn.wire.operations import Operation  # noqa: E402
 from udfburn.protocol import Append, Code, Create, MakeDir, Path, Rename, limits  # noqa: E402
 from udfburn.protocol.units import Moment
@@ -159,7 +160,7 @@ class Sizes(Whole):
     def test_few_are_unfinished_at_once(self) -> None:
         """Each gets its name once its pieces are acknowledged, so the root has few names more."""
         self.init()
-        for index in range(24):
+        for index in range(2 * UNDER_WAY):
             self.write(f"f{index}", MEBIBYTE + 9, index)
         run, left, most = Client.run, [0], [0]
 
@@ -173,7 +174,7 @@ class Sizes(Whole):
         with mock.patch.object(Client, "run", counted):
             self.assertEqual(self.run_here()[0], 0)
         self.assertEqual(left[0], 0)
-        self.assertTrue(0 < most[0] <= 16, most)
+        self.assertTrue(0 < most[0] <= UNDER_WAY, most)
         self.require_all()
 
 
@@ -267,7 +268,7 @@ class Cut(Whole):
 
     def test_the_source_changes_meanwhile(self) -> None:
         """It does not get its name, no source goes, and the next run stores it as it is then."""
-        path, run = self.write("photo", 20_000_000), Client.run
+        path, run = self.write("photo", 40_000_000), Client.run
 
         def changing(client: Client, operations: Sequence[Operation]) -> object:
             for outcome in run(client, operations):

@@ -1,6 +1,7 @@
 //! The standard input of a program.
 
 use crate::sockets::Incoming;
+use engine::PIECE_BYTES;
 use std::alloc::Global;
 use std::io::{self, Read};
 use std::os::fd::AsFd;
@@ -10,7 +11,8 @@ use std::rt::Stdin;
 use std::time::Clock;
 
 /// The standard input. Of a Unix socket all bytes are read that are there, so that the messages in them are answered as a
-/// group. A pipe is read as it is: nothing says, without waiting, whether more is there.
+/// group. Anything else is read in small pieces: of a pipe nothing says, without waiting, whether more is there, and bytes
+/// of a file are answered faster while the processor has them in its cache.
 #[derive(Drop)]
 pub struct StandardInput<'a, R: Clock + AllocGlobal> {
     rt: &'a R,
@@ -48,7 +50,7 @@ impl<'a, R: Clock + AllocGlobal> Read for StandardInput<'a, R> {
         }
         match &mut self.socket {
             Some(socket) => socket.read(bytes),
-            None => self.stdin.read(bytes),
+            None => self.stdin.read(&mut bytes[..bytes.len().min(PIECE_BYTES)]),
         }
     }
 }
