@@ -50,7 +50,10 @@ impl<'a, R: Clock + AllocGlobal> Read for StandardInput<'a, R> {
         }
         match &mut self.socket {
             Some(socket) => socket.read(bytes),
-            None => self.stdin.read(&mut bytes[..bytes.len().min(PIECE_BYTES)]),
+            None => {
+                let most = bytes.len().min(PIECE_BYTES);
+                self.stdin.read(&mut bytes[..most])
+            }
         }
     }
 }
