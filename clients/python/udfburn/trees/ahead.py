@@ -1,4 +1,4 @@
-"""Files that are read ahead, with their digests computed in a thread of its own.
+"""Files that are read ahead, with their digests computed in two threads: one has each piece, the other all pieces of a file together.
 
 The SHA-256 of a mebibyte takes longer than to write it. So it is computed while the program and the disk are at work on what was sent
 before. The files are read here, in the order in which they are stored.
@@ -7,7 +7,7 @@ before. The files are read here, in the order in which they are stored.
 from __future__ import annotations
 
 from collections import deque
-from typing import TYPE_CHECKING, Callable, Deque, Iterator, List, NamedTuple, Optional
+from typing import TYPE_CHECKING, Callable, Deque, Iterator, List, NamedTuple, Optional, Tuple
 
 from ..base.errors import SourceError, TooLarge
 from ..local.sources import read_parts
@@ -18,7 +18,7 @@ if TYPE_CHECKING:
     from concurrent.futures import ThreadPoolExecutor
 
 ASIDE = 1 << 16
-"""From this many bytes on, the digests of a file are computed in the thread: they take longer than it takes the thread to wake."""
+"""From this many bytes on, the digests of a file are computed in the threads: they take longer than it takes a thread to wake."""
 
 PARTS_AHEAD = 2
 """Parts that are read ahead: while the digest of one is computed, the next one is read."""
@@ -34,16 +34,16 @@ class PartRead(NamedTuple):
 
 
 class Ahead:
-    """Reads files ahead. `close` ends the thread."""
+    """Reads files ahead. `close` ends the threads."""
 
     def __init__(self) -> None:
-        self._pool: Optional[ThreadPoolExecutor] = None
+        self._threads: Optional[Tuple[ThreadPoolExecutor, ThreadPoolExecutor]] = None
 
     def close(self) -> None:
-        """Ends the thread, once what it is at is done."""
-        if self._pool is not None:
-            self._pool.shutdown()
-            self._pool = None
+        """Ends the threads, once what they are at is done."""
+        for thread in self._threads or ():
+            thread.shutdown()
+        self._threads = None
 
     def parts(self, jobs: List[Job]) -> Iterator[PartRead]:
         """The parts of files, in order. A file that cannot be read fails."""
@@ -60,16 +60,25 @@ class Ahead:
             yield waiting.popleft()
 
     def _taken(self, job: Job, data: bytes) -> Callable[[], Optional[Whole]]:
-        """Has a part taken: in the thread where its file is large."""
+        """Has a part taken: in the threads where its file is large."""
         if job.source.identity.size < ASIDE:
             whole = job.take(data)
             return lambda: whole
-        if self._pool is None:
+        if self._threads is None:
             # Who stores small files does not load it.
             from concurrent.futures import ThreadPoolExecutor
 
-            self._pool = ThreadPoolExecutor(1)
-        return self._pool.submit(job.take, data).result
+            self._threads = ThreadPoolExecutor(1), ThreadPoolExecutor(1)
+        alone, together = self._threads
+        if job.count == 1:
+            return alone.submit(job.take, data).result
+        piece, file = alone.submit(job.take_alone, data), together.submit(job.take_with_others, data)
+
+        def taken() -> Optional[Whole]:
+            piece.result()
+            return file.result()
+
+        return taken
 
 
 __all__ = ["Ahead", "PartRead"]

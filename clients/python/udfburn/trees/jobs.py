@@ -64,18 +64,25 @@ class Job:
         self.same: Dict[int, bytes] = same or {}
         self.digests: List[bytes] = []
         self.whole = sha256()
+        self.hashed = 0
         self.done = 0
         self.moment: Optional[Moment] = None
         self.failure: Optional[str] = None
 
     def take(self, piece: bytes) -> Optional[Whole]:
         """Takes a piece that was read and is to be sent. With the last of several: the whole file."""
+        self.take_alone(piece)
+        return None if self.count == 1 else self.take_with_others(piece)
+
+    def take_alone(self, piece: bytes) -> None:
+        """Computes the SHA-256 of a piece."""
         self.digests.append(digest(piece))
-        if self.count == 1:
-            return None
+
+    def take_with_others(self, piece: bytes) -> Optional[Whole]:
+        """Goes on with the SHA-256 of the file, of which there are several pieces. With the last: the whole file."""
         self.whole.update(piece)
-        last = len(self.digests) == self.count
-        return self.of_whole() if last else None
+        self.hashed += 1
+        return self.of_whole() if self.hashed == self.count else None
 
     def fail(self, why: str) -> None:
         """Keeps the first reason why it was not stored."""
