@@ -3,8 +3,9 @@
 #
 # usage: test/unproved.sh CRATE OUT
 #        test/unproved.sh --module CRATE OUT     stops at the LLVM module, which OUT is then
-# The program that it writes to OUT shows nothing about contracts: use it for tests and timings, and never for a volume that
-# anybody needs. It takes the Rattle kit, a POSIX shell and the tools of a base system.
+# The program that it writes to OUT shows nothing about contracts: use it for tests, and never for a volume that
+# anybody needs. It takes up to four times the processor time of the proved one (`udfburn log` of 36,000 commits), so its timings say
+# nothing. The script takes the Rattle kit, a POSIX shell and the tools of a base system.
 #
 # `rt try` compiles a program without proving it, and throws the LLVM module away. So it is run from a copy of the kit in which
 # another clang comes first: that one keeps the module, and then does what it was asked to. The module is compiled with -O2 and
