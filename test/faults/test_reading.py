@@ -123,10 +123,10 @@ class OfInputs(Serving):
     IN_SOCKET = [9, 11]
     IN_FILE = [9, 9, 2]
 
-    def applied(self, given: Any, **popen: Any) -> Ran:
-        """Runs `apply` on what this descriptor has to give."""
+    def applied(self, given: Any, rules: str = "", **popen: Any) -> Ran:
+        """Runs `apply` on what this descriptor has to give, under rules by which calls fail."""
         done = subprocess.run([built().udfburn, "apply", "d.img"], stdin=given, stderr=subprocess.PIPE, cwd=self.folder, timeout=PATIENCE,
-                              env=environment("d.img", self.new_log()), **popen)
+                              env=environment("d.img", self.new_log(), rules), **popen)
         return Ran(done.returncode, done.stdout or b"", done.stderr)
 
     def groups(self, given: Any) -> list[int]:
@@ -174,6 +174,18 @@ class OfInputs(Serving):
         giver.join(PATIENCE)
         self.assertGreaterEqual(len(groups), len(self.IN_FILE))
         self.assertEqual(sum(groups), len(self.REQUESTS))
+
+    def test_calls_that_fail(self) -> None:
+        """What came before the call is answered, and the status says that a read failed. All requests came with the second read, after which
+        two calls ask for more without waiting."""
+        for rule, count in (("recv:1:E5", 0), ("recv:2:E5", 9), ("recv:3:E5", 20), ("ioctl:1:E5", 20), ("ioctl:2:E5", 20)):
+            with self.subTest(rule):
+                self.fresh(capacity=self.capacity)
+                model = Model()
+                ran = self.applied(self.in_socket()[1], rule, stdout=subprocess.PIPE)
+                self.assertEqual((ran.status, ran.errors), (1, b"udfburn: 91 Read\n"))
+                self.assertEqual(answers_of(ran.output), [model.answer(request) for request in self.REQUESTS[:count]])
+                self.tree_is(model, paths_of(self.REQUESTS))
 
     def test_a_socket_is_never_the_output(self) -> None:
         """A closed output stays closed: no descriptor of the socket takes its number."""

@@ -5,7 +5,10 @@ The blocks are those of the reader's own encoders: it shares no code with what w
 
 from __future__ import annotations
 
+import os
 import struct
+import tempfile
+import unittest
 from typing import Dict, List, Tuple
 
 from udfburn.protocol.units import BlockNumber, Commit, Moment, Size, VirtualAddress
@@ -16,10 +19,24 @@ from udfburn.reader.directory import write_identifier
 from udfburn.reader.entry import END, Entry, extent_count, extent_size, read_entry, write_entry
 from udfburn.reader.table import ClientRecord, KeptReply, write_client
 
+from .forged import Forge
+
 MOMENT = Moment(1_700_000_000_123_456)
 
 ZEROS = bytes(BLOCK)
 """A block of a hole in the image."""
+
+
+def empty_image(test: unittest.TestCase) -> str:
+    """The path of an image with an empty volume, until the test ends."""
+    room = tempfile.TemporaryDirectory()
+    test.addCleanup(room.cleanup)
+    image = os.path.join(room.name, "disc.img")
+    forge = Forge()
+    forge.begin()
+    with open(image, "wb") as file:
+        file.write(forge.image())
+    return image
 
 
 def marked(name: str, size: int, index: int) -> bytes:

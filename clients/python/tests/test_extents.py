@@ -6,7 +6,6 @@ import hashlib
 import os
 import random
 import struct
-import tempfile
 import unittest
 from typing import Dict, List, Tuple
 from unittest import mock
@@ -21,8 +20,7 @@ from udfburn.reader.entry import END, EXTENT, Entry, read_entry, write_entry
 from udfburn.reader.mend import Hint, mend_entry
 from udfburn.salvage.salvage import FILE_DAMAGED, FILE_EARLIER, FILE_UNPROVED, FILE_WHOLE, Salvage
 
-from .appended import Appender, causes_in_entry
-from .forged import Forge
+from .appended import Appender, causes_in_entry, empty_image
 from .salvaged import judged
 
 ENTRY_FILE = ENTRY_DESCRIPTORS * EXTENT_BYTES
@@ -86,13 +84,7 @@ class OnAVolume(unittest.TestCase):
     """Files that were appended."""
 
     def setUp(self) -> None:
-        room = tempfile.TemporaryDirectory()
-        self.addCleanup(room.cleanup)
-        self.image = os.path.join(room.name, "disc.img")
-        forge = Forge()
-        forge.begin()
-        with open(self.image, "wb") as file:
-            file.write(forge.image())
+        self.image = empty_image(self)
         chance = random.Random(5)
         self.data = {name: chance.randbytes(size) for name, size in SIZES.items()}
         appender = Appender(self.image)

@@ -5,7 +5,6 @@ from __future__ import annotations
 import hashlib
 import os
 import struct
-import tempfile
 import unittest
 from typing import Callable, Dict, List, NamedTuple, Optional, Tuple
 
@@ -18,8 +17,7 @@ from udfburn.reader.descriptors import write_descriptors
 from udfburn.reader.entry import Entry, extent_count, extent_size, write_entry
 from udfburn.salvage.salvage import FILE_DAMAGED, FILE_EARLIER, FILE_UNPROVED, FILE_WHOLE, Salvage, SalvageOutcome
 
-from .appended import Appender, marked
-from .forged import Forge
+from .appended import Appender, empty_image, marked
 from .salvaged import judged
 
 LAST_BYTES = 5_000
@@ -70,13 +68,7 @@ class OnImage(unittest.TestCase):
     COUNT = 118
 
     def setUp(self) -> None:
-        room = tempfile.TemporaryDirectory()
-        self.addCleanup(room.cleanup)
-        self.image = os.path.join(room.name, "disc.img")
-        forge = Forge()
-        forge.begin()
-        with open(self.image, "wb") as file:
-            file.write(forge.image())
+        self.image = empty_image(self)
         self.size = (self.COUNT - 1) * EXTENT_BYTES + LAST_BYTES
         self.appender = Appender(self.image)
         self.appender.create("other", OTHER)
