@@ -33,7 +33,6 @@ pub fn decode_descriptors<'a>(
     number: u32,
     size: u32,
 ) -> Result<&'a [u8], IcbFault>
-    requires some { 0 < size }
     requires limit { size ≤ GREATEST_FILE }
     requires number { number < PARTITION_BLOCKS }
     // What is read is what the block spells.
@@ -99,7 +98,6 @@ fn has_descriptor_tag(block: &Block, number: u32) -> bool
 /// bytes, all that do not come before. If the block has no room for all of them, it has those of one extent less than it
 /// has room for, and then one that leads to the next block number.
 pub fn write_descriptors(descriptors: &[u8], size: u32, number: u32, block: &mut Block)
-    requires some { 0 < size }
     requires limit { size ≤ GREATEST_FILE }
     requires long { length descriptors.now ≡ 16 * extent_count size }
     requires are { AreExtents 0 size descriptors.now }
