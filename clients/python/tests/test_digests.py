@@ -7,8 +7,9 @@ import io
 import json
 import os
 import random
+import sqlite3
 import unittest
-from contextlib import redirect_stdout
+from contextlib import closing, redirect_stdout
 from typing import Dict, List, Optional
 from unittest import mock
 
@@ -17,7 +18,7 @@ from udfburn.base import errors as e
 from udfburn.commands import cli
 from udfburn import protocol as p
 from udfburn.ledger.digests import Files, SentFile
-from udfburn.wire.operations import Operation, Whole
+from udfburn.wire.operations import Operation
 from udfburn.protocol.units import Commit, Moment, Size
 
 from .server import honestly, request_of
@@ -25,6 +26,7 @@ from .with_files import store_in_parts
 from .with_server import WithServer
 
 FULL = p.limits.FILE
+PIECE = bytes(range(256)) * (FULL // 256)
 
 
 def sha256(data: bytes) -> bytes:
@@ -49,18 +51,40 @@ class Digests(WithServer):
             self.assertIsNone(client.digest_of("/no"))
 
     def test_appended_to(self) -> None:
-        """The digest of such a file is that of all its bytes, and is known once the last piece is there."""
-        piece = bytes(range(256)) * (FULL // 256)
-        whole = Whole(("a",), Size(2 * FULL + 3), sha256(piece + piece + b"end"))
-        steps = (
-            (Operation(p.Create, ("a",), Moment(5), piece), sha256(piece)), (Operation(p.Append, ("a",), Moment(5), piece, offset=FULL), None),
-            (Operation(p.Append, ("a",), Moment(6), b"end", offset=2 * FULL, whole=whole), whole.sha256),
-        )
+        """The digest of such a file is that of all its bytes after each piece, and not known after one of which it was not given."""
+        first, two, three = sha256(PIECE), sha256(PIECE + PIECE), sha256(PIECE + PIECE + b"end")
         with self.client() as client:
-            for operation, digest in steps:
-                self.assertEqual([outcome.code for outcome in client.run([operation])], [p.Code.DONE])
-                self.assertEqual(client.digest_of("/a"), digest)
-            self.assertEqual(client.known_files().by_commit[Commit(3)], SentFile(("a",), whole.size, Moment(6), whole.sha256, Commit(3), 3))
+            for given in (None, two):
+                steps = (
+                    (Operation(p.Replace if given else p.Create, ("a",), Moment(5), PIECE), first),
+                    (Operation(p.Append, ("a",), Moment(5), PIECE, offset=FULL, sha256=given), given),
+                    (Operation(p.Append, ("a",), Moment(6), b"end", offset=2 * FULL, sha256=three), three),
+                )
+                for operation, digest in steps:
+                    self.assertEqual([outcome.code for outcome in client.run([operation])], [p.Code.DONE])
+                    self.assertEqual(client.digest_of("/a"), digest)
+            found = client.known_files().by_commit
+        self.assertEqual(found[Commit(6)], SentFile(("a",), Size(2 * FULL + 3), Moment(6), three, Commit(6), 6))
+        self.assertEqual({commit: known.sha256 for commit, known in found.items()}, {1: first, 3: three, 4: first, 5: two, 6: three})
+
+    def test_appended_to_by_an_earlier_version(self) -> None:
+        """The ledgers of versions 4 and 5 have the digest of each piece alone, and with the last one that of the file."""
+        whole = sha256(PIECE + PIECE + b"end")
+        for version in (4, 5):
+            with self.subTest(version=version), self.client() as client:
+                path = (f"a{version}",)
+                pieces = [Operation(p.Create, path, Moment(5), PIECE), Operation(p.Append, path, Moment(5), PIECE, offset=FULL)]
+                pieces.append(Operation(p.Append, path, Moment(6), b"end", offset=2 * FULL))
+                last = list(client.run(pieces))[-1].number
+                client.close()
+                with closing(sqlite3.connect(self.ledger)) as base, base:
+                    base.execute("UPDATE request SET sha256 = ? WHERE number = ?", (sha256(PIECE), last - 1))
+                    row = (sha256(b"end"), p.show(("its own name",)), 2 * FULL + 3, whole, last)
+                    base.execute("UPDATE request SET sha256 = ?, whole_path = ?, whole_size = ?, whole_sha256 = ? WHERE number = ?", row)
+                    base.execute("UPDATE ledger SET version = ?", (version,))
+                found = self.files()
+                self.assertEqual((found.now[path].sha256, found.wholes), (whole, {}))
+                self.assertNotIn(Commit(last - 1), found.by_commit)
 
     def test_replaced_moved_and_removed(self) -> None:
         with self.client() as client:

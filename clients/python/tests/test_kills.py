@@ -152,8 +152,8 @@ class ClientKilled(WithPrograms):
 
     def killed_by_line(self, verify: bool) -> bool:
         """The same; it kills itself between two statements."""
-        # Drawn here: what a child draws, the next one would draw again.
-        lines = self.chance.randrange(1, int(self.most_lines))
+        # Drawn here: what a child draws, the next one would draw again. More of them are late, when requests are under way.
+        lines = 1 + int(self.most_lines * self.chance.random() ** 0.5)
         child = os.fork()
         if not child:
             self.child(verify, lines)
@@ -225,7 +225,7 @@ class ClientKilled(WithPrograms):
     def test_by_line_over_the_socket(self) -> None:
         self.serve()
         self.way = f"unix:{self.path}"
-        self.assertGreater(self.kill_often(KILLS, self.killed_by_line), KILLS // 4)
+        self.assertGreater(self.kill_often(KILLS, self.killed_by_line), KILLS // 5)
 
     def test_by_time_on_an_image(self) -> None:
         """The program goes on with what it has read, while the next one waits for the image."""

@@ -82,7 +82,7 @@ class Ledgers(WithServer):
         base("names.sqlite", "CREATE TABLE ledger (what, ever)")
         base("none.sqlite", "CREATE TABLE ledger (version, client)")
         base("words.sqlite", "CREATE TABLE ledger (version, client)", "INSERT INTO ledger VALUES (1, 'me')")
-        base("newer.sqlite", "CREATE TABLE ledger (version, client)", "INSERT INTO ledger VALUES (6, '5')")
+        base("newer.sqlite", "CREATE TABLE ledger (version, client)", "INSERT INTO ledger VALUES (7, '5')")
         os.mkdir(os.path.join(room, "folder"))
         os.mkfifo(os.path.join(room, "pipe"))
 

@@ -100,7 +100,7 @@ class Migration(WithServer):
         self.assertEqual(self.asked(ROWS), rows)
         # Of four places for a volume and of 64: that of request 10 of volume 4.
         self.assertEqual(self.asked(FRAMES), [(4 * 64 + 10, frames[4 * 4 + 10 % 4])])
-        self.assertEqual(self.asked("SELECT version FROM ledger"), [(5,)])
+        self.assertEqual(self.asked("SELECT version FROM ledger"), [(6,)])
         Ledger(self.ledger).close()
         self.assertEqual(self.asked(ROWS), rows)
 
@@ -110,7 +110,7 @@ class Migration(WithServer):
         everything, frames = "SELECT * FROM request ORDER BY number", self.frames()
         rows = self.asked(everything)
         Ledger(self.ledger).close()
-        self.assertEqual(self.asked("SELECT version FROM ledger"), [(5,)])
+        self.assertEqual(self.asked("SELECT version FROM ledger"), [(6,)])
         self.assertEqual((self.asked(everything), self.asked(FRAMES)), (rows, [(64 + 7, frames[4 + 7 % 4]), (64 + 8, frames[4 + 8 % 4])]))
         self.with_six_requests()
         with self.by(self.one.path) as client:
@@ -247,7 +247,7 @@ class Migration(WithServer):
             with closing(Ledger(self.ledger)) as ledger:
                 self.assertEqual([volume.latest for volume in ledger.volumes()], [6, 1, 8, 9])
             self.assertEqual(self.asked(ROWS), rows)
-        self.assertEqual(versions, {1, 5})
+        self.assertEqual(versions, {1, 6})
         self.assertGreater(lines, 50)
 
 

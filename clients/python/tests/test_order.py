@@ -198,7 +198,7 @@ class Order(WithServer):
         """A file of the ledger's name is a whole ledger in every state."""
         for state in states:
             if os.path.join(self.room, "kept", "ledger.sqlite") in state:
-                self.assertEqual(len(self.asked(state, "SELECT client FROM ledger WHERE version = 5")), 1)
+                self.assertEqual(len(self.asked(state, "SELECT client FROM ledger WHERE version = 6")), 1)
                 self.whole += 1
 
     def follow(self, calls: List[Call]) -> "tuple[Set[int], Set[str]]":

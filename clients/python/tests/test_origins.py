@@ -6,6 +6,7 @@ another request, and the reply reports whether the volume had it before.
 
 from __future__ import annotations
 
+import hashlib
 import io
 import os
 import random
@@ -251,16 +252,57 @@ class Sources(WithSource):
         data = random.Random(9).randbytes(3 * MEBIBYTE + LARGE_DATA)
         self.write("whole", data)
         self.begin(False, "whole")
-        status = os.stat(self.path("whole"))
-        with open(self.path("whole"), "r+b") as file:
-            file.seek(MEBIBYTE + 7)
-            file.write(bytes([data[MEBIBYTE + 7] ^ 1]))
-        os.utime(self.path("whole"), ns=(status.st_atime_ns, status.st_mtime_ns))
+        self.change_byte("whole", MEBIBYTE + 7)
         done, lost = self.resumed()
         self.assertEqual([code for _, _, code, _ in done], [p.Code.DONE] + [p.Code.ROOT] * 3)
         name = unfinished_path(self.client().session().ledger.client, ("whole",))
         self.assertEqual(lost, [p.show(name)] * 3)
         self.assertEqual(self.volume.files(), {name: data[:MEBIBYTE]})
+
+    def begin_pieces(self) -> "tuple[p.Path, bytes]":
+        """A process that ends when the first piece of a file is stored. Where the pieces are, and the bytes of the file."""
+        data = random.Random(9).randbytes(2 * MEBIBYTE + LARGE_DATA)
+        self.write("whole", data)
+        self.server.before = lambda payload: refuses(payload) if self.volume.commits else None
+        with self.assertRaises(e.DriveFailed):
+            self.put("whole")
+        self.server.before = lambda payload: None
+        return unfinished_path(self.number(), ("whole",)), data
+
+    def test_another_byte_before_what_is_pending(self) -> None:
+        """What is pending is as it was, and what was stored before it is not: the file is no beginning of another one."""
+        name, data = self.begin_pieces()
+        self.change_byte("whole", 7)
+        done, lost = self.resumed()
+        self.assertEqual([code for _, _, code, _ in done][-2:], [p.Code.ROOT] * 2)
+        self.assertEqual((lost, self.volume.files()), ([p.show(name)] * 2, {name: data[:MEBIBYTE]}))
+
+    def change_byte(self, name: str, at: int) -> None:
+        """Changes a byte of a file, whose time of modification stays."""
+        status = os.stat(self.path(name))
+        with open(self.path(name), "r+b") as file:
+            file.seek(at)
+            (byte,) = file.read(1)
+            file.seek(at)
+            file.write(bytes([byte ^ 1]))
+        os.utime(self.path(name), ns=(status.st_atime_ns, status.st_mtime_ns))
+
+    def test_of_an_earlier_version(self) -> None:
+        """In version 5 a piece has its own digest, and the last one that of the file: what nothing is known of is not sent. The same command
+        stores the file."""
+        name, data = self.begin_pieces()
+        with closing(sqlite3.connect(self.ledger)) as base, base:
+            for number, begin in ((2, MEBIBYTE), (3, 2 * MEBIBYTE)):
+                piece = hashlib.sha256(data[begin : begin + MEBIBYTE]).digest()
+                base.execute("UPDATE request SET sha256 = ? WHERE number = ?", (piece, number))
+            whole = ("/whole", len(data), hashlib.sha256(data).digest())
+            base.execute("UPDATE request SET whole_path = ?, whole_size = ?, whole_sha256 = ? WHERE number = 3", whole)
+            base.execute("UPDATE ledger SET version = 5")
+        done, lost = self.resumed()
+        self.assertEqual([code for _, _, code, _ in done][-2:], [p.Code.ROOT] * 2)
+        self.assertEqual((lost, self.volume.files()), ([p.show(name)] * 2, {name: data[:MEBIBYTE]}))
+        self.put("whole")
+        self.assertEqual(self.volume.files(), {("whole",): data})
 
     def test_what_is_given_up_stays_so(self) -> None:
         """Also where the process that gave it up was killed, and the source is there again."""

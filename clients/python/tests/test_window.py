@@ -10,16 +10,17 @@ import random
 import sys
 import unittest
 from contextlib import suppress
-from typing import Any, Callable, Dict, List, Optional, Tuple
+from typing import Callable, Dict, List, Optional, Sequence, Tuple
 from unittest import mock
 
 from udfburn import Client
 from udfburn import protocol as p
 from udfburn.base import errors as e
-from udfburn.ledger.records import LARGE_DATA
+from udfburn.ledger.records import LARGE_DATA, Pending
 from udfburn.protocol.units import Commit, Moment
-from udfburn.session import shown
+from udfburn.session.shown import Shown, commits_before
 from udfburn.trees.tree import ImportOptions, put_all
+from udfburn.wire.connection import Connection
 from udfburn.wire.operations import Operation, Outcome
 
 from .model import Directory, File, Volume
@@ -140,10 +141,10 @@ class Done(WithWindow):
     def test_replies_with_commits_between(self) -> None:
         """They are not those to requests of one conversation."""
         replies = [p.Committed(p.Code.DONE, Commit(commit)) for commit in (12, 13, 14, 15)]
-        self.assertEqual(shown.commits_before(7, replies), 5)
+        self.assertEqual(commits_before(7, replies), 5)
         for wrong in range(1, 4):
             with self.assertRaises(e.ForeignReply):
-                shown.commits_before(7, [*replies[:wrong], p.Committed(p.Code.DONE, Commit(replies[wrong].commit + 1)), *replies[wrong + 1 :]])
+                commits_before(7, [*replies[:wrong], p.Committed(p.Code.DONE, Commit(replies[wrong].commit + 1)), *replies[wrong + 1 :]])
 
 
 class Refused(WithWindow):
@@ -430,14 +431,14 @@ class Killed(WithWindow):
 
     def finished(self, folder: str) -> int:
         """Finishes the import, and gives how many requests the tree was asked of."""
-        asked: List[Any] = []
-        real = shown.tree_has
+        asked: List[int] = []
+        real = Shown.tree_has
 
-        def tree_has(*words: Any) -> bool:
-            asked.append(words)
-            return real(*words)
+        def tree_has(found: Shown, connection: Connection, waiting: Pending, committed: Sequence[Pending]) -> bool:
+            asked.append(waiting.number)
+            return real(found, connection, waiting, committed)
 
-        with mock.patch.object(shown, "tree_has", tree_has), self.client() as client:
+        with mock.patch.object(Shown, "tree_has", tree_has), self.client() as client:
             put_all(client, [(folder, ("x",))], ImportOptions(recursive=True, delete_source=True))
             self.assertEqual(os.listdir(folder), [])
             self.assertEqual([code for _, code, _, sure in self.history(client) if sure], [0] * self.volume.commits)

@@ -36,6 +36,11 @@ def whole_of(path: p.Path, data: bytes) -> Whole:
     return Whole(path, Size(len(data)), sha256(data).digest())
 
 
+def appended(path: p.Path, index: int, data: bytes, before: bytes, moment: Moment) -> Operation:
+    """The request that stores a piece, of somebody who knows what is before it."""
+    return piece_request(path, index, data, moment, sha256=sha256(before + data).digest())
+
+
 GROWN = {f"u{index}": piece(index) + b"end" for index in range(4)}
 """Files that are whole under other names than their own."""
 
@@ -67,11 +72,11 @@ def operations() -> List[Operation]:
     """Requests of all kinds, all of which may be under way at once."""
     return [
         Operation(p.MakeDir, ("d",), EARLIER), *named(0, ("d", "p0")), *named(1, ("old1",), True),
-        piece_request(("v0",), 0, piece(20), EARLIER), piece_request(("v0",), 1, b"tail", LATER),
+        piece_request(("v0",), 0, piece(20), EARLIER), appended(("v0",), 1, b"tail", piece(20), LATER),
         *removals(*((f"r{index}",) for index in range(8)), ("dir", "sub", "b"), ("dir", "a"), ("dir", "sub"), ("dir",)),
         *(Operation(p.Create, (f"f{index}",), EARLIER, bytes(index)) for index in range(8)),
-        Operation(p.Create, ("v1",), EARLIER), Operation(p.Append, ("v1",), EARLIER, piece(21)), piece_request(("v1",), 1, b"end", EARLIER),
-        piece_request(("grows",), 1, b"more", EARLIER), *named(2, ("d", "p2")), *named(3, ("old3",), True),
+        Operation(p.Create, ("v1",), EARLIER), Operation(p.Append, ("v1",), EARLIER, piece(21)), appended(("v1",), 1, b"end", piece(21), EARLIER),
+        appended(("grows",), 1, b"more", piece(9), EARLIER), *named(2, ("d", "p2")), *named(3, ("old3",), True),
         Operation(p.Replace, ("f-old",), EARLIER, b"y"), *(Operation(p.Create, (f"g{index}",), EARLIER, b"z") for index in range(5)),
     ]
 
@@ -260,6 +265,8 @@ class Refused(WithChains):
     def test_nothing_refused_is_called_done(self) -> None:
         refused = {number for number, (code, _) in enumerate(self.expected, 1) if code is not p.Code.DONE}
         self.assertGreater(len(refused), 9)
+        # The piece after one that was refused: it was done, and the file has other bytes than its client meant.
+        after_refused = {number for number, operation in enumerate(self.operations, 1) if operation.path == ("v0",) and operation.offset}
         unknown = 0
         for requests in range(len(self.operations) + 1):
             told: Dict[int, Tuple[p.Code, int]] = {}
@@ -272,7 +279,7 @@ class Refused(WithChains):
                     unknown += 1
                 for number, code, commit, _ in self.history(client):
                     if code is None:
-                        self.assertIn(number, refused)
+                        self.assertIn(number, refused | after_refused)
                         self.assertNotIn(number, told)
                     elif (code, commit) != self.expected[number - 1]:
                         # The directory was there, and a file's second piece with it.
@@ -298,7 +305,7 @@ class Together(unittest.TestCase):
     def test_pairs(self) -> None:
         create, folder = Operation(p.Create, ("a", "f"), EARLIER, b"x"), Operation(p.MakeDir, ("a",), EARLIER)
         full = piece_request(("a", "f"), 0, piece(1), EARLIER)
-        second, third = (piece_request(("a", "f"), index, piece(2), EARLIER) for index in (1, 2))
+        second, third = (appended(("a", "f"), index, piece(2), piece(1) * index, EARLIER) for index in (1, 2))
         remove, above, below = removals(("a", "f"), ("a",), ("a", "f", "x"))
         moved = Operation(p.Rename, ("u",), LATER, to=("a", "f"), whole=whole_of(("a", "f"), b"x"))
         away = Operation(p.Rename, ("a", "f"), LATER, to=("b",), whole=whole_of(("b",), b"x"))
@@ -318,14 +325,15 @@ class Together(unittest.TestCase):
         for pair in apart:
             with self.subTest(pair=[operation.kind.__name__ for operation in pair]):
                 self.assertEqual(self.under_way(*pair), 1)
-        self.assertEqual(self.under_way(plain), 0)
+        for alone in (plain, second._replace(sha256=None)):
+            self.assertEqual(self.under_way(alone), 0)
 
     def test_the_ledger_has_a_place_for_each(self) -> None:
         self.assertLessEqual(GROUPS * GROUP_REQUESTS, PLACES)
 
     def test_what_has_its_reply_is_no_matter(self) -> None:
         window, group = Window(), Group()
-        wanted = [piece_request(("u",), 0, piece(1), EARLIER), piece_request(("u",), 1, b"end", EARLIER), *(Operation(p.Create, (f"f{index}",), EARLIER) for index in range(9))]
+        wanted = [piece_request(("u",), 0, piece(1), EARLIER), appended(("u",), 1, b"end", piece(1), EARLIER), *(Operation(p.Create, (f"f{index}",), EARLIER) for index in range(9))]
         for number, operation in enumerate(wanted, 1):
             self.assertTrue(window.take(group, InFlightRequest(operation, 1, number)))
         window.groups.append(group)

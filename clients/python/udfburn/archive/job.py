@@ -6,7 +6,7 @@ import os
 from contextlib import closing
 from hashlib import sha256
 from itertools import takewhile
-from typing import Any, Generator, Iterator, List, Optional, Tuple
+from typing import Generator, Iterator, List, Optional, Tuple
 
 from ..base.errors import SourceChanged, SourceError
 from ..base.manifest import PAYLOAD_FOLDER
@@ -210,11 +210,10 @@ class VolumeJob:
                 assert self.whole
                 text = description(self.source, self.digest, self.begun)
                 yield Operation(Create, self.whole + (DESCRIPTION,), self.source.moment(), text, tag=(self, None))
-            whole = sha256()
             with closing(mebibytes_from(self.source, self.first) if self.in_parts else read_parts(self.source)) as pieces:
                 for part in self.parts:
                     yield from self._folders(part.place.folders)
-                    yield from self._pieces(part, pieces, whole)
+                    yield from self._pieces(part, pieces)
         except SourceError as error:
             self.fail(str(error))
 
@@ -222,35 +221,34 @@ class VolumeJob:
         for folder in folders:
             yield Operation(MakeDir, folder, self.source.moment())
 
-    def _pieces(self, part: Part, pieces: Iterator[bytes], whole: Any) -> Iterator[Operation]:
+    def _pieces(self, part: Part, pieces: Iterator[bytes]) -> Iterator[Operation]:
         """The requests that store a part, piece by piece. Those that the volume has are read too: they must be those that it was
         seen to have."""
         if part.left.others:
             yield Operation(Remove, part.unfinished, now())
-        digest = sha256()
+        read = sha256()
         for index in range(part.count()):
             data = next(pieces)
-            whole.update(data)
-            digest.update(data)
-            last = index + 1 == part.count()
-            if last:
-                self._require_as_read(part, whole.digest())
-                part.read = Whole(part.place.path, part.size, digest.digest())
+            read.update(data)
+            digest = read.digest()
+            if index + 1 == part.count():
+                self._require_as_read(part, digest)
+                part.read = Whole(part.place.path, part.size, digest)
             if index < part.left.pieces():
-                if sha256(data).digest() != part.left.digests[index]:
+                if digest != part.left.digests[index]:
                     raise changed(self.source)
                 continue
             origin = origin_of(self.source, part.start + index * limits.FILE)
             if part.grows():
-                yield piece_request(part.unfinished, index, data, self.source.moment(), tag=(self, part), whole=part.read, origin=origin)
+                yield piece_request(part.unfinished, index, data, self.source.moment(), tag=(self, part), sha256=digest, origin=origin)
             else:
-                yield Operation(Create, part.place.path, self.source.moment(), data, tag=(self, part), origin=origin)
+                yield Operation(Create, part.place.path, self.source.moment(), data, tag=(self, part), sha256=digest, origin=origin)
 
     def _require_as_read(self, part: Part, digest: bytes) -> None:
         """Raises where what was read of all of a file is not what was read of it before, right before its last bytes are sent."""
         if not self.in_parts:
             self.digest = digest
-        elif not self.first and part.start + part.size == self.source.identity.size and digest != self.digest:
+        elif part.size == self.source.identity.size and digest != self.digest:
             raise changed(self.source)
 
     def name(self, part: Part) -> Operation:

@@ -20,8 +20,8 @@ from .contents import Contents
 
 
 class Left(NamedTuple):
-    """The SHA-256 of each piece that a volume has of an unfinished file, where they are those of its source; `others` says that it has other
-    bytes. Further the moment of the file, the commit of its last piece, and when the run began that stored that, in microseconds."""
+    """The SHA-256 of an unfinished file up to the end of each piece that a volume has of it, where they are those of its source; `others` says
+    that it has other bytes. Further the moment of the file, the commit of its last piece, and when the run began that stored that, in microseconds."""
 
     digests: Tuple[bytes, ...] = ()
     others: bool = False
@@ -76,7 +76,7 @@ class Unfinished:
         return left if left.moment == source.moment() and left.added > newest else OTHERS
 
     def _compared(self, path: Path, pieces: Generator[bytes, None, None]) -> Left:
-        digests = []
+        digests, read = [], sha256()
         with Contents(self._image) as contents:
             node = contents.nodes[path]
             try:
@@ -84,7 +84,8 @@ class Unfinished:
                     piece = next(pieces, b"")
                     if there != piece:
                         return OTHERS
-                    digests.append(sha256(piece).digest())
+                    read.update(piece)
+                    digests.append(read.digest())
             except SourceError:
                 # Whoever stores it reports that.
                 return OTHERS

@@ -1,6 +1,6 @@
 """What a ledger knows of the files that it stored: their sizes, moments, SHA-256, and the commits that wrote them.
 
-The ledger keeps the SHA-256 of the data of each request beside its number (`udfburn.ledger.records.Facts`). Here the requests of a
+The ledger keeps the SHA-256 of a file up to the end of each request's data (`udfburn.ledger.records.Facts`). Here the requests of a
 volume are gone through in order, as the volume went through them; what other clients did is not known to it.
 """
 
@@ -18,7 +18,7 @@ from .records import KnownVolume, Sent
 
 class SentFile(NamedTuple):
     """A file as this ledger sent it: its bytes, its moment in microseconds from 1970-01-01 UTC, the SHA-256 of its data, and the
-    commit and the number of the request that stored it."""
+    commit and the number of the request that stored it, or its last piece."""
 
     path: Path
     size: Size
@@ -68,30 +68,22 @@ class Files:
             self._move(deed.path, deed.to)
         elif deed.kind is Kind.REMOVE:
             self._drop(deed.path)
-        elif deed.kind in (Kind.CREATE, Kind.REPLACE):
+        elif deed.kind in (Kind.CREATE, Kind.REPLACE, Kind.APPEND):
             self._store(sent)
-        elif deed.kind is Kind.APPEND:
-            self._append(sent)
 
     def _store(self, sent: Sent) -> None:
-        if sent.facts is None or sent.facts.sha256 is None or sent.commit is None:
-            raise ValueError(f"request {sent.number} stored a file, and its digest or commit is not known")
-        deed, whole = sent.facts.deed, sent.facts.whole
-        known = SentFile(deed.path, deed.size, deed.moment, sent.facts.sha256, sent.commit, sent.number)
+        if sent.facts is None or sent.commit is None:
+            raise ValueError(f"request {sent.number} stored a file, and its commit is not known")
+        deed, sha256, whole = sent.facts.deed, sent.facts.sha256, sent.facts.whole
+        if sha256 is None:
+            # It was appended to by somebody who did not know all of it.
+            self._drop(deed.path)
+            return
+        known = SentFile(deed.path, deed.size, deed.moment, sha256, sent.commit, sent.number)
         self.now[deed.path] = self.by_commit[sent.commit] = known
         if whole is not None:
             parts = tuple(stored_paths(whole.path, whole.size))
             self._wholes[whole.path] = KnownWhole(whole.path, whole.size, whole.sha256, parts, sent.commit, sent.number)
-
-    def _append(self, sent: Sent) -> None:
-        """Of a file that is appended to, the request of the last piece has the digest of all its bytes. Until then none is known."""
-        if sent.facts is None or sent.commit is None:
-            raise ValueError(f"request {sent.number} stored a piece, and its commit is not known")
-        deed, whole = sent.facts.deed, sent.facts.whole
-        self._drop(deed.path)
-        if whole is not None and whole.size == deed.size:
-            known = SentFile(deed.path, deed.size, deed.moment, whole.sha256, sent.commit, sent.number)
-            self.now[deed.path] = self.by_commit[sent.commit] = known
 
     def _move(self, old: Path, new: Path) -> None:
         for path in known_below(self.now, old):

@@ -51,8 +51,8 @@ class KnownVolume(NamedTuple):
 
 
 class Facts(NamedTuple):
-    """What a request asks for: a deed, the SHA-256 of its data where it has some, and the whole file whose last part or piece it is, or
-    that it gives its name to."""
+    """What a request asks for: a deed, the SHA-256 of its file up to the end of its data where it has some and that is known, and the whole
+    file that it gives its name to, or whose last part it is."""
 
     deed: Deed
     sha256: Optional[bytes] = None
@@ -62,8 +62,8 @@ class Facts(NamedTuple):
 class Pending(NamedTuple):
     """A request without a reply: its number, its payload, the path it speaks of, and what it asks for.
 
-    Where there is an `origin` the payload has no data: what the origin has goes after it, if its digest is that of the facts. An origin
-    without a file (`GIVEN_UP`) says that the data is not looked for any more.
+    Where there is an `origin` the payload has no data: what the origin has goes after it, if the file has the digest of the facts up to its
+    end. An origin without a file (`GIVEN_UP`) says that the data is not looked for any more.
     """
 
     number: int
@@ -97,11 +97,12 @@ class Sent(NamedTuple):
 
 
 def facts_of(request: AnyRequest, sha256: Optional[bytes] = None, whole: Optional[Whole] = None) -> Facts:
-    """The facts of a request. The SHA-256 of its data is computed where it is not given."""
+    """The facts of a request. The SHA-256 of its file up to the end of its data is computed where it is not given, if no data is before that."""
     deed = deed_of(request)
     if not isinstance(request, (Create, Replace, Append)):
         return Facts(deed, None, whole)
-    return Facts(deed, sha256 or digest(request.data), whole)
+    is_after_other = isinstance(request, Append) and request.offset > 0
+    return Facts(deed, sha256 or (None if is_after_other else digest(request.data)), whole)
 
 
 def digest(data: bytes) -> bytes:

@@ -4,12 +4,12 @@ from __future__ import annotations
 
 import sqlite3
 
-from ..protocol import Fault, Request, decode_message, limits
+from ..protocol import Fault, Kind, Request, decode_message, limits
 from .records import FACTS, ORIGIN, PLACES, facts_of, facts_row
 
-LEDGER_VERSION = 5
-"""The version of the tables that this program makes. Those of versions 3 and 4 are the same, with places for four frames of a volume; version
-4 has an append."""
+LEDGER_VERSION = 6
+"""The version of the tables that this program makes. Those of versions 3 to 5 are the same. Versions 3 and 4 have places for four frames of a
+volume; version 4 has appends. Versions 4 and 5 have the SHA-256 of an append's data, in place of that of its file up to the end of this."""
 
 SCHEMA = """
 CREATE TABLE ledger (version INTEGER NOT NULL, client TEXT NOT NULL);
@@ -101,6 +101,12 @@ UPDATE volume SET unsettled = 1;
 """What makes version 2 of version 1. There a way was of the volume that was met on it last. Its two tables are in SCHEMA too: these are
 those of version 2, and stay as they are where a later version changes SCHEMA."""
 
+APPENDS = f"""
+UPDATE request SET sha256 = CASE WHEN whole_size = size THEN whole_sha256 END, whole_path = NULL, whole_size = NULL, whole_sha256 = NULL
+WHERE kind = {int(Kind.APPEND)}
+"""
+"""What is known of the files of appends before version 6: the request of the last piece has the SHA-256 of all of its file."""
+
 LAST_FRAMES = f"""
 FROM request JOIN frame ON frame.id = volume * {limits.REPLIES} + number % {limits.REPLIES}
 WHERE number > (SELECT max(number) FROM request AS other WHERE other.volume = request.volume) - {limits.REPLIES}
@@ -129,7 +135,9 @@ def upgrade(base: sqlite3.Connection, version: int) -> None:
             keep_facts(base)
         for statement in statements(ORIGINS) if version < 3 else []:
             base.execute(statement)
-        move_frames(base)
+        if version < 5:
+            move_frames(base)
+        base.execute(APPENDS)
         base.execute("UPDATE ledger SET version = ?", (LEDGER_VERSION,))
         base.execute("COMMIT")
     finally:

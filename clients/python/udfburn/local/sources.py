@@ -8,12 +8,12 @@ from __future__ import annotations
 import os
 import stat
 import time
+from hashlib import sha256
 from typing import Dict, Generator, Iterator, List, NamedTuple, Optional, Tuple
 
 from ..base.beneath import Place, Root, open_from_top, place_of
 from ..base.errors import SourceChanged, SourceError
 from ..base.escape import encode
-from ..ledger.records import digest
 from ..protocol import NameFault, Path, is_bytes, limits, name_fault, shown
 from ..protocol.units import Moment, Size
 from ..wire.operations import Origin, clamped
@@ -74,7 +74,7 @@ class Folder(NamedTuple):
 
 class Scan:
     """What was found: folders before what is in them, files, those that the volume has already, the pieces that it has of others, by
-    their paths and numbers, each with its SHA-256, unfinished files that go, and what cannot be stored, each with why."""
+    their paths and numbers, each with the file's SHA-256 up to its end, unfinished files that go, and what cannot be stored, each with why."""
 
     def __init__(self) -> None:
         self.folders: List[Folder] = []
@@ -246,21 +246,56 @@ def origin_of(source: Source, start: int) -> Origin:
     return Origin(os.path.join(root.real(), *names), start, source.identity.size, source.identity.modified)
 
 
-def data_again(origin: Origin, count: int, sha256: bytes) -> Optional[bytes]:
-    """So many bytes from there, where the file is as it was and they have this digest; else None."""
-    try:
-        descriptor = open_from_top(origin.local)
+class SourceAgain:
+    """A local file that is read again, from a byte on: as far as it was read, and the SHA-256 of that."""
+
+    def __init__(self, origin: Origin, before: int):
+        self.begin = origin._replace(start=origin.start - before)
+        self.descriptor = open_from_top(origin.local)
+        self.at = 0
+        self.read = sha256()
+
+    def goes_on_with(self, origin: Origin, before: int) -> bool:
+        """Whether what an origin has is read next, or later."""
+        return self.begin == origin._replace(start=origin.start - before) and self.at <= before
+
+    def next(self, count: int) -> bytes:
+        """So many bytes more; raises where the file is not as it was."""
+        status = os.fstat(self.descriptor)
+        if (status.st_size, status.st_mtime_ns) != (self.begin.size, self.begin.modified):
+            raise SourceChanged(f"{shown(self.begin.local)}: changed since it was read")
+        os.lseek(self.descriptor, self.begin.start + self.at, os.SEEK_SET)
+        data = exactly(self.descriptor, count)
+        self.read.update(data)
+        self.at += count
+        return data
+
+
+class SourcesAgain:
+    """Local files that are read again for the data of requests. Each byte is read once where the data of a file is asked for in order."""
+
+    def __init__(self) -> None:
+        self._file: Optional[SourceAgain] = None
+
+    def data(self, origin: Origin, before: int, count: int, digest: bytes) -> Optional[bytes]:
+        """So many bytes from there, where the file is as it was, and they have this SHA-256 with so many bytes before them; else None."""
         try:
-            status = os.fstat(descriptor)
-            if (status.st_size, status.st_mtime_ns) != (origin.size, origin.modified):
-                return None
-            os.lseek(descriptor, origin.start, os.SEEK_SET)
-            data = exactly(descriptor, count)
-        finally:
-            os.close(descriptor)
-    except OSError:
-        return None
-    return data if digest(data) == sha256 else None
+            if self._file is None or not self._file.goes_on_with(origin, before):
+                self.close()
+                self._file = SourceAgain(origin, before)
+            while self._file.at < before:
+                self._file.next(min(limits.FILE, before - self._file.at))
+            data = self._file.next(count)
+        except (OSError, SourceError):
+            self.close()
+            return None
+        return data if self._file.read.digest() == digest else None
+
+    def close(self) -> None:
+        """Closes what is open."""
+        if self._file is not None:
+            os.close(self._file.descriptor)
+        self._file = None
 
 
 def delete(source: Source) -> None:
@@ -271,4 +306,4 @@ def delete(source: Source) -> None:
         raise SourceError(f"{shown(source.local)}: {error.strerror}") from error
 
 
-__all__ = ["FileIdentity", "Folder", "Scan", "Source", "data_again", "delete", "origin_of", "read_parts", "scan", "shown"]
+__all__ = ["FileIdentity", "Folder", "Scan", "Source", "SourcesAgain", "delete", "origin_of", "read_parts", "scan", "shown"]

@@ -37,7 +37,7 @@ class InFlightRequest:
         if operation.origin is not None and len(operation.data) >= LARGE_DATA:
             self.pending = self.pending._replace(payload=self.payload[: -len(operation.data)], origin=operation.origin)
         self.paths = paths_of(self.request)
-        self.is_shown = is_shown(self.request, operation.whole)
+        self.is_shown = is_shown(self.request, facts)
         # In pieces, since each copy of a mebibyte takes time.
         self.frames = [prefix(self.payload), self.payload, *(frame(encode_message(Stat(path))) for path in self.paths)]
         self.sure = surely(self.request)

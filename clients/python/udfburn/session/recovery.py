@@ -7,15 +7,15 @@ from typing import Dict, Iterable, List, Optional, Set, Tuple
 
 from ..base.errors import DAMAGE, ClientsFull, Damaged, ForeignReply, Full, NotCommitted, NumberUsedElsewhere, Rejected, ReplyNotKept
 from ..ledger.ledger import Ledger
-from ..ledger.records import GIVEN_UP, NOT_KEPT, KnownVolume, Pending, Reply, digest
-from ..local.sources import data_again
+from ..ledger.records import GIVEN_UP, NOT_KEPT, Facts, KnownVolume, Pending, Reply
+from ..local.sources import SourcesAgain
 from ..protocol import (
     CLIENTS_FULL, DAMAGED, FAULT, FULL, MEMORY, Answer, BadAnswer, Code, Committed, Gap, Malformed, Path, Remove, Stale, Stat, decode_message,
     encode_message, frame, limits, printed, show,
 )
 from ..protocol.units import Moment
 from ..wire.connection import Connection, Lost
-from ..wire.operations import Deed, after_all, deed_of
+from ..wire.operations import Deed, Origin, after_all, deed_of
 from ..wire.retrying import RetryingConnection
 from .conversation import Conversation
 from .in_flight import InFlightRequest
@@ -36,11 +36,12 @@ class Recovery:
         self.line = line
         self.ledger = ledger
         self.conversation = conversation
-        self.payloads: Dict[int, bytes] = {}
-        """The payloads of requests without a reply of which the ledger has no data, by their numbers."""
+        self.data: Dict[int, Tuple[Facts, bytes]] = {}
+        """What requests without a reply asked for, of which the ledger has no data, and that data, by their numbers."""
         self.not_stored: Dict[int, str] = {}
         """The paths of requests that were not committed before their data was gone, by their numbers."""
-        self._shown = Shown()
+        self._shown = Shown(line.patience.progress)
+        self._sources = SourcesAgain()
         # The paths of which the tree has what replies say, so that a conversation that is lost meanwhile takes nothing of that away.
         self._agreed: Set[Path] = set()
 
@@ -51,7 +52,7 @@ class Recovery:
         """Drops what is pending at this endpoint, and asks again which number the volume knows; returns the dropped paths."""
         known = self.ledger.volume(self.conversation.key)
         waiting = self.ledger.pending(known) if known else []
-        self.payloads.clear()
+        self.data.clear()
         self.conversation.anew()
         # Not before, since where the volume cannot be asked nobody would learn what was dropped.
         if known and known.id != self._volume().id:
@@ -59,13 +60,16 @@ class Recovery:
         return [pending.path for pending in waiting]
 
     def sent(self, requests: Iterable[InFlightRequest]) -> None:
-        """Keeps the payloads of requests that are about to be sent, as far as the ledger has them not."""
-        self.payloads.update({request.number(): request.payload for request in requests if request.pending.origin is not None})
+        """Keeps the data of requests that are about to be sent, as far as the ledger has it not."""
+        for request in requests:
+            facts = request.pending.facts
+            if request.pending.origin is not None and facts is not None:
+                self.data[request.number()] = facts, request.operation.data
 
     def replied(self, requests: Iterable[InFlightRequest]) -> None:
-        """Drops the payloads of requests whose replies are in the ledger."""
+        """Drops the data of requests whose replies are in the ledger."""
         for request in requests:
-            self.payloads.pop(request.number(), None)
+            self.data.pop(request.number(), None)
 
     def heard(self, requests: Iterable[InFlightRequest]) -> None:
         """Keeps replies that came before a conversation was lost, and which the tree was not compared with yet."""
@@ -80,7 +84,8 @@ class Recovery:
             self.line.drop()
             raise
         finally:
-            self._shown = Shown()
+            self._shown = Shown(self.line.patience.progress)
+            self._sources.close()
             self._agreed = set()
 
     def _run(self) -> Dict[int, Committed]:
@@ -130,7 +135,7 @@ class Recovery:
         committed = [pending for pending in waiting if pending.number <= seen.latest]
         if not committed:
             return
-        found = self._shown.settled(connection, committed, seen, self.line.patience.progress)
+        found = self._shown.settled(connection, committed, seen)
         kept: List[Reply] = []
         for pending in committed:
             reply = found.replies.get(pending.number)
@@ -147,7 +152,7 @@ class Recovery:
                 gone[pending.number] = deed, show(deed.to or deed.path)
         self.ledger.record(self._volume(), kept, [])
         for pending in committed:
-            self.payloads.pop(pending.number, None)
+            self.data.pop(pending.number, None)
         self.line.patience.progress()
 
     def _repeat(self, connection: Connection, waiting: Pending, done: Done) -> None:
@@ -163,7 +168,7 @@ class Recovery:
         if isinstance(answer, Committed):
             self.conversation.check_commit(answer)
             self.ledger.record(self._volume(), [Reply(waiting.number, answer.code, answer.commit, False)], [])
-            self.payloads.pop(waiting.number, None)
+            self.data.pop(waiting.number, None)
             self.line.patience.progress()
             if payload is None and answer.code is Code.ROOT:
                 self.not_stored[waiting.number] = waiting.path
@@ -176,13 +181,19 @@ class Recovery:
         if waiting.origin is None:
             return waiting.payload
         facts = waiting.facts
-        if facts is None or facts.sha256 is None:
-            raise RuntimeError(f"the ledger has no digest of the data of request {waiting.number}")
-        sent = self.payloads.get(waiting.number, b"")
-        if sent.startswith(waiting.payload) and digest(sent[len(waiting.payload) :]) == facts.sha256:
-            return sent
-        data = data_again(waiting.origin, facts.deed.data_size(), facts.sha256) if waiting.origin != GIVEN_UP else None
+        if facts is None:
+            raise RuntimeError(f"the ledger does not know what request {waiting.number} asks for")
+        sent, data = self.data.get(waiting.number, (None, None))
+        if sent != facts:
+            data = self._data_again(waiting.origin, facts)
         return None if data is None else waiting.payload + data
+
+    def _data_again(self, origin: Origin, facts: Facts) -> Optional[bytes]:
+        """The data of a request from its local file; None where that is another file by now, or it is not known what the file was."""
+        if origin == GIVEN_UP or facts.sha256 is None:
+            return None
+        count = facts.deed.data_size()
+        return self._sources.data(origin, facts.deed.size - count, count, facts.sha256)
 
     def _give_up(self, waiting: Pending) -> None:
         """Gives up the data of a request and, since the file is not the one that was stored, of those after it from the same file: else

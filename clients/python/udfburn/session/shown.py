@@ -8,15 +8,14 @@ no proof, since an earlier file may have the same one.
 from __future__ import annotations
 
 from hashlib import sha256
-from typing import Callable, Dict, List, NamedTuple, Sequence
+from typing import Any, Callable, Dict, List, NamedTuple, Optional, Sequence, Tuple
 
 from ..base.errors import ForeignReply
-from ..ledger.records import Facts, Pending, digest
-from ..protocol import NOT_FOUND, Code, Committed, Data, Get, Kind, Node, NodeKind, Path, Query, Read, Stat
-from ..protocol.units import Commit
+from ..ledger.records import Facts, Pending
+from ..protocol import NOT_FOUND, Code, Committed, Data, Get, Kind, Node, NodeKind, Path, Query, Read, Stat, limits
+from ..protocol.units import Commit, Size
 from ..wire.connection import Connection
-from ..wire.operations import Whole
-from ..wire.pieces import queries_of
+from ..wire.operations import Deed, Whole
 from .recognition import ClientState, exchange
 
 FILE_KINDS = (Kind.CREATE, Kind.REPLACE, Kind.APPEND)
@@ -32,13 +31,16 @@ class Settled(NamedTuple):
 
 class Shown:
     """What was found out of requests. `heard` has replies that came before a conversation was lost, `there` whether the tree had what was
-    asked for: a conversation that is lost meanwhile takes nothing of that away."""
+    asked for: a conversation that is lost meanwhile takes nothing of that away. `progress` is called where something came."""
 
-    def __init__(self) -> None:
+    def __init__(self, progress: Callable[[], None]) -> None:
         self.heard: Dict[int, Committed] = {}
         self.there: Dict[int, bool] = {}
+        self._progress = progress
+        self._read: Dict[Path, Tuple[int, Any]] = {}
+        """How many bytes of a file were read, and their SHA-256 so far."""
 
-    def settled(self, connection: Connection, committed: Sequence[Pending], seen: ClientState, progress: Callable[[], None]) -> Settled:
+    def settled(self, connection: Connection, committed: Sequence[Pending], seen: ClientState) -> Settled:
         """What became of requests that a volume has, in order of their numbers."""
         known = {**self.heard, **seen.replies}
         kept = [number for number in sorted(seen.replies) if number >= committed[0].number]
@@ -51,8 +53,8 @@ class Shown:
             if number in known:
                 return known[number].code is Code.DONE
             if number not in self.there:
-                self.there[number] = tree_has(connection, waiting, committed) or any(map(is_there, removed_for(waiting, committed)))
-                progress()
+                self.there[number] = self.tree_has(connection, waiting, committed) or any(map(is_there, removed_for(waiting, committed)))
+                self._progress()
             return self.there[number]
 
         for waiting in committed:
@@ -64,6 +66,53 @@ class Shown:
             else:
                 found.gone[number] = Commit(begin + number)
         return found
+
+    def tree_has(self, connection: Connection, waiting: Pending, committed: Sequence[Pending]) -> bool:
+        """Whether the tree has all that a request asked for. `committed` are all that the volume has of those that were under way."""
+        facts = waiting.facts
+        if facts is None:
+            return False
+        deed = facts.deed
+        if deed.kind is Kind.RENAME:
+            return facts.whole is not None and self._has_name(connection, deed, facts.whole)
+        if deed.kind in FILE_KINDS:
+            later = [other.facts.deed for other in committed if other.facts is not None and other.number >= waiting.number]
+            return self._has_bytes(connection, facts, later)
+        (node,) = exchange(connection, [Stat(deed.path)])
+        if deed.kind is Kind.REMOVE:
+            return node == NOT_FOUND
+        return isinstance(node, Node) and node.kind is NodeKind.DIRECTORY
+
+    def _has_bytes(self, connection: Connection, facts: Facts, later: Sequence[Deed]) -> bool:
+        """Whether a file has all bytes up to the end of a request's data, and is as this one or a later piece of the file left it."""
+        deed = facts.deed
+        (node,) = exchange(connection, [Stat(deed.path)])
+        left = [Node(NodeKind.FILE, other.moment, other.size) for other in later if other.kind in FILE_KINDS and other.path == deed.path]
+        return node in left and isinstance(node, Node) and self._has_digest(connection, deed.path, node.size, deed.size, facts.sha256)
+
+    def _has_name(self, connection: Connection, deed: Deed, whole: Whole) -> bool:
+        """Whether a file is at its new path with all of its bytes, and nothing at its old one."""
+        old, node = exchange(connection, [Stat(deed.path), Stat(deed.to)])
+        if old != NOT_FOUND or not isinstance(node, Node) or (node.kind, node.size) != (NodeKind.FILE, whole.size):
+            return False
+        return self._has_digest(connection, deed.to, node.size, whole.size, whole.sha256)
+
+    def _has_digest(self, connection: Connection, path: Path, size: int, count: int, sha256_of: Optional[bytes]) -> bool:
+        """Whether so many first bytes of a file of this size have a SHA-256. What was read before is not read again."""
+        at, read = self._read.get(path, (0, sha256()))
+        if at > count:
+            at, read = 0, sha256()
+        while at < count:
+            piece = min(limits.FILE, count - at)
+            query: Query = Get(path) if size <= limits.FILE else Read(path, at, Size(piece))
+            (data,) = exchange(connection, [query])
+            if not isinstance(data, Data) or len(data.data) != piece:
+                return False
+            read.update(data.data)
+            at += piece
+            self._read[path] = at, read
+            self._progress()
+        return bool(read.digest() == sha256_of)
 
 
 def commits_before(first: int, replies: List[Committed]) -> int:
@@ -85,45 +134,4 @@ def removed_for(waiting: Pending, committed: Sequence[Pending]) -> List[Pending]
     return [other for other in later if other.facts and other.facts.deed.kind is Kind.RENAME and other.facts.deed.to == facts.deed.path]
 
 
-def tree_has(connection: Connection, waiting: Pending, committed: Sequence[Pending]) -> bool:
-    """Whether the tree has all that a request asked for. `committed` are all that the volume has of those that were under way."""
-    facts = waiting.facts
-    if facts is None:
-        return False
-    deed = facts.deed
-    if deed.kind is Kind.RENAME:
-        return facts.whole is not None and has_name(connection, deed.path, deed.to, facts.whole)
-    if deed.kind in FILE_KINDS:
-        return has_piece(connection, facts, [other.facts for other in committed if other.facts is not None and other.number >= waiting.number])
-    (node,) = exchange(connection, [Stat(deed.path)])
-    if deed.kind is Kind.REMOVE:
-        return node == NOT_FOUND
-    return isinstance(node, Node) and node.kind is NodeKind.DIRECTORY
-
-
-def has_piece(connection: Connection, facts: Facts, later: Sequence[Facts]) -> bool:
-    """Whether a file has the data of a request, and is as this one or a later piece of the file left it."""
-    deed = facts.deed
-    after = [other.deed for other in later if other.deed.kind in FILE_KINDS and other.deed.path == deed.path]
-    size = deed.data_size()
-    query: Query = Get(deed.path) if len(after) == 1 and deed.kind is not Kind.APPEND else Read(deed.path, deed.size - size, size)
-    node, data = exchange(connection, [Stat(deed.path), query])
-    left = [Node(NodeKind.FILE, other.moment, other.size) for other in after]
-    return node in left and isinstance(data, Data) and digest(data.data) == facts.sha256
-
-
-def has_name(connection: Connection, path: Path, to: Path, whole: Whole) -> bool:
-    """Whether a file is at its new path with all of its bytes, and nothing at its old one."""
-    old, new = exchange(connection, [Stat(path), Stat(to)])
-    if old != NOT_FOUND or not isinstance(new, Node) or (new.kind, new.size) != (NodeKind.FILE, whole.size):
-        return False
-    read = sha256()
-    for query in queries_of([to], whole.size):
-        (data,) = exchange(connection, [query])
-        if not isinstance(data, Data):
-            return False
-        read.update(data.data)
-    return read.digest() == whole.sha256
-
-
-__all__ = ["Settled", "Shown", "commits_before", "tree_has"]
+__all__ = ["Settled", "Shown", "commits_before"]

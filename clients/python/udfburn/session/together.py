@@ -6,23 +6,24 @@ the file; and a file that gets the path of one which is removed for it.
 
 A file gets its name by a rename. That is shown only where the ledger has the digest of the file: else what is at the new path may have
 been there before, and the rename was refused since there was nothing at the old one. No piece of the file is under way then, so the pieces
-are known when it is asked whether the file is at its new path.
+are known when it is asked whether the file is at its new path. A piece too is shown only where the ledger has the digest of the file up to
+its end.
 """
 
 from __future__ import annotations
 
-from typing import Optional
-
+from ..ledger.records import Facts
 from ..protocol import AnyRequest, Append, Create, MakeDir, Path, Remove, Rename, Replace
-from ..wire.operations import Whole, paths_of, size_after
+from ..wire.operations import paths_of, size_after
 
-SHOWN_BY_TREE = (Create, Replace, MakeDir, Append, Remove)
+SHOWN_BY_TREE = (Create, Replace, MakeDir, Remove)
 
 
-def is_shown(request: AnyRequest, whole: Optional[Whole]) -> bool:
-    """Whether the tree shows what became of a request, if no other one under way has to do with its paths. `whole` is the file that a
-    rename gives its name to."""
-    return isinstance(request, SHOWN_BY_TREE) or whole is not None
+def is_shown(request: AnyRequest, facts: Facts) -> bool:
+    """Whether the tree shows what became of a request, if no other one under way has to do with its paths."""
+    if isinstance(request, Append):
+        return facts.sha256 is not None
+    return isinstance(request, SHOWN_BY_TREE) or facts.whole is not None
 
 
 def takes_away(request: AnyRequest) -> bool:

@@ -1,4 +1,4 @@
-"""Files that are read ahead, with their digests computed in two threads: one has each piece, the other all pieces of a file together.
+"""Files that are read ahead, with their digests computed in a thread.
 
 The SHA-256 of a mebibyte takes longer than to write it. So it is computed while the program and the disk are at work on what was sent
 before. The files are read here, in the order in which they are stored.
@@ -7,43 +7,42 @@ before. The files are read here, in the order in which they are stored.
 from __future__ import annotations
 
 from collections import deque
-from typing import TYPE_CHECKING, Callable, Deque, Iterator, List, NamedTuple, Optional, Tuple
+from typing import TYPE_CHECKING, Callable, Deque, Iterator, List, NamedTuple, Optional
 
 from ..base.errors import SourceError, TooLarge
 from ..local.sources import read_parts
-from ..wire.operations import Whole
 from .jobs import Job
 
 if TYPE_CHECKING:
     from concurrent.futures import ThreadPoolExecutor
 
 ASIDE = 1 << 16
-"""From this many bytes on, the digests of a file are computed in the threads: they take longer than it takes a thread to wake."""
+"""From this many bytes on, the digests of a file are computed in the thread: they take longer than it takes a thread to wake."""
 
-PARTS_AHEAD = 2
-"""Parts that are read ahead: while the digest of one is computed, the next one is read."""
+PARTS_AHEAD = 8
+"""Parts that are read ahead: the digests of some are computed while others are sent."""
 
 
 class PartRead(NamedTuple):
-    """A part that was read: its file, its number there, its bytes, and what `Job.take` gives for it, once that is computed."""
+    """A part that was read: its file, its number there, its bytes, and the digest that `Job.take` gives for it, once that is computed."""
 
     job: Job
     part: int
     data: bytes
-    taken: Callable[[], Optional[Whole]]
+    taken: Callable[[], bytes]
 
 
 class Ahead:
-    """Reads files ahead. `close` ends the threads."""
+    """Reads files ahead. `close` ends the thread."""
 
     def __init__(self) -> None:
-        self._threads: Optional[Tuple[ThreadPoolExecutor, ThreadPoolExecutor]] = None
+        self._thread: Optional[ThreadPoolExecutor] = None
 
     def close(self) -> None:
-        """Ends the threads, once what they are at is done."""
-        for thread in self._threads or ():
-            thread.shutdown()
-        self._threads = None
+        """Ends the thread, once what it is at is done."""
+        if self._thread is not None:
+            self._thread.shutdown()
+        self._thread = None
 
     def parts(self, jobs: List[Job]) -> Iterator[PartRead]:
         """The parts of files, in order. A file that cannot be read fails."""
@@ -59,26 +58,17 @@ class Ahead:
         while waiting:
             yield waiting.popleft()
 
-    def _taken(self, job: Job, data: bytes) -> Callable[[], Optional[Whole]]:
-        """Has a part taken: in the threads where its file is large."""
+    def _taken(self, job: Job, data: bytes) -> Callable[[], bytes]:
+        """Has a part taken: in the thread where its file is large."""
         if job.source.identity.size < ASIDE:
-            whole = job.take(data)
-            return lambda: whole
-        if self._threads is None:
+            taken = job.take(data)
+            return lambda: taken
+        if self._thread is None:
             # Who stores small files does not load it.
             from concurrent.futures import ThreadPoolExecutor
 
-            self._threads = ThreadPoolExecutor(1), ThreadPoolExecutor(1)
-        alone, together = self._threads
-        if job.count == 1:
-            return alone.submit(job.take, data).result
-        piece, file = alone.submit(job.take_alone, data), together.submit(job.take_with_others, data)
-
-        def taken() -> Optional[Whole]:
-            piece.result()
-            return file.result()
-
-        return taken
+            self._thread = ThreadPoolExecutor(1)
+        return self._thread.submit(job.take, data).result
 
 
 __all__ = ["Ahead", "PartRead"]

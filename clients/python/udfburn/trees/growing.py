@@ -14,8 +14,8 @@ from ..base.errors import Exists, IsDirectory, NoParent, SourceError, TooDeep, T
 from ..base.unfinished import unfinished_path
 from ..local.sources import Source
 from ..protocol import Append, Code, Create, Data, Node, NodeKind, Path, Remove, Rename, Stat, limits, printed, show
-from ..protocol.units import Commit, Moment, Size
-from ..wire.operations import Operation, Whole, now
+from ..protocol.units import Commit, Moment
+from ..wire.operations import Operation, now
 from ..wire.pieces import queries_of
 from ..wire.refusals import commit_of
 from .jobs import same_pieces
@@ -25,8 +25,8 @@ if TYPE_CHECKING:
     from .client import Client
 
 class Begun(NamedTuple):
-    """What an earlier run of this client began: the pieces that are there of each file, by its path and their numbers, each with its
-    SHA-256; unfinished files that are not gone on with, and what is no file, each with why."""
+    """What an earlier run of this client began: the pieces that are there of each file, by its path and their numbers, each with the SHA-256
+    of the file up to its end; unfinished files that are not gone on with, and what is no file, each with why."""
 
     kept: Dict[Path, Dict[int, bytes]]
     others: List[Path]
@@ -75,7 +75,8 @@ def may_go_on(size: int, whole: int) -> bool:
 
 
 def pieces_there(client: Client, source: Source, path: Path, size: int) -> Optional[Dict[int, bytes]]:
-    """The SHA-256 of each piece of an unfinished file of this size, by its number; None where it is not how the source begins."""
+    """The SHA-256 of an unfinished file of this size up to the end of each piece, by its number; None where it is not how the source
+    begins."""
     if not may_go_on(size, source.identity.size):
         return None
     queries = queries_of([path], size)
@@ -106,7 +107,7 @@ def put_bytes(client: Client, path: Path, data: bytes, moment: Optional[Moment])
         if node is not None and not begin:
             remove_paths(client, [unfinished])
         # All outcomes are taken before one is judged: those after a refusal are refused too.
-        for outcome in list(client.run(operations(unfinished, path, data, moment, begin))):
+        for outcome in list(client.run(operations(unfinished, data, moment, begin))):
             commit_of(outcome)
         return give_name(client, unfinished, path, moment)
 
@@ -132,12 +133,13 @@ def pieces_equal(client: Client, unfinished: Path, size: int, data: bytes) -> in
     return len(queries) if all(same) else 0
 
 
-def operations(unfinished: Path, path: Path, data: bytes, moment: Moment, begin: int) -> Iterator[Operation]:
+def operations(unfinished: Path, data: bytes, moment: Moment, begin: int) -> Iterator[Operation]:
     """The requests of the pieces from this one on."""
-    whole = Whole(path, Size(len(data)), sha256(data).digest())
+    read = sha256(memoryview(data)[: begin * limits.FILE])
     for index in range(begin, -(-len(data) // limits.FILE)):
         piece = data[index * limits.FILE : (index + 1) * limits.FILE]
-        yield piece_request(unfinished, index, piece, moment, whole=whole if index * limits.FILE + len(piece) == len(data) else None)
+        read.update(piece)
+        yield piece_request(unfinished, index, piece, moment, sha256=read.digest())
 
 
 def give_name(client: Client, unfinished: Path, path: Path, moment: Moment) -> Commit:

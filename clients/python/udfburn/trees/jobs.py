@@ -7,7 +7,6 @@ from hashlib import sha256
 from typing import Dict, Iterator, List, Literal, NamedTuple, Optional, Sequence
 
 from ..base.errors import SourceError
-from ..ledger.records import digest
 from ..local.sources import Source, read_parts
 from ..protocol import Data, Path, Query, limits
 from ..protocol.units import Moment
@@ -51,9 +50,10 @@ class ImportSummary:
 
 
 class Job:
-    """A file on its way: the SHA-256 of those of its pieces that the volume has already, by their numbers, the SHA-256 of each that was read
-    and of all so far, what became of it, and the moment that the volume has of an earlier one. One above a mebibyte grows by appends, and
-    is `named` once it has its own path. `parts` are those that an earlier version stored, which are only compared."""
+    """A file on its way, with the SHA-256 of it up to the end of each piece: `same` has those of the pieces that the volume has already, by
+    their numbers, and `digests` those of the pieces that were read. Further what became of it, and the moment that the volume has of an
+    earlier one. One above a mebibyte grows by appends, and is `named` once it has its own path. `parts` are those that an earlier version
+    stored, which are only compared."""
 
     def __init__(self, source: Source, same: Optional[Dict[int, bytes]] = None, parts: Sequence[Path] = ()):
         self.source = source
@@ -63,26 +63,16 @@ class Job:
         self.named = not self.grows
         self.same: Dict[int, bytes] = same or {}
         self.digests: List[bytes] = []
-        self.whole = sha256()
-        self.hashed = 0
+        self.read = sha256()
         self.done = 0
         self.moment: Optional[Moment] = None
         self.failure: Optional[str] = None
 
-    def take(self, piece: bytes) -> Optional[Whole]:
-        """Takes a piece that was read and is to be sent. With the last of several: the whole file."""
-        self.take_alone(piece)
-        return None if self.count == 1 else self.take_with_others(piece)
-
-    def take_alone(self, piece: bytes) -> None:
-        """Computes the SHA-256 of a piece."""
-        self.digests.append(digest(piece))
-
-    def take_with_others(self, piece: bytes) -> Optional[Whole]:
-        """Goes on with the SHA-256 of the file, of which there are several pieces. With the last: the whole file."""
-        self.whole.update(piece)
-        self.hashed += 1
-        return self.of_whole() if self.hashed == self.count else None
+    def take(self, piece: bytes) -> bytes:
+        """Takes the next piece that was read, and gives the SHA-256 of the file up to its end."""
+        self.read.update(piece)
+        self.digests.append(self.read.digest())
+        return self.digests[-1]
 
     def fail(self, why: str) -> None:
         """Keeps the first reason why it was not stored."""
@@ -98,13 +88,14 @@ class Job:
 
     def of_whole(self) -> Whole:
         """The whole file, once all of its pieces were read."""
-        return Whole(self.source.path, self.source.identity.size, self.whole.digest())
+        return Whole(self.source.path, self.source.identity.size, self.digests[-1])
 
 
 def same_pieces(source: Source, count: int, answers: Iterator[object]) -> Dict[int, bytes]:
-    """The first pieces of a file, so many, whose bytes answers have, by their numbers, and the SHA-256 of each. There is an answer for each,
-    and all are taken. Raises where the file cannot be read, or changed meanwhile."""
+    """The first pieces of a file, so many at most, whose bytes answers have: by their numbers, with the SHA-256 of the file up to the end of
+    each. There is an answer for each, and all are taken. Raises where the file cannot be read, or changed meanwhile."""
     same: Dict[int, bytes] = {}
+    read = sha256()
     error: Optional[SourceError] = None
     with closing(read_parts(source)) as pieces:
         for index in range(count):
@@ -113,8 +104,9 @@ def same_pieces(source: Source, count: int, answers: Iterator[object]) -> Dict[i
                 piece = None if error else next(pieces, None)
             except SourceError as failed:
                 error = failed
-            if error is None and isinstance(answer, Data) and answer.data == piece:
-                same[index] = digest(answer.data)
+            if len(same) == index and error is None and isinstance(answer, Data) and answer.data == piece:
+                read.update(answer.data)
+                same[index] = read.digest()
     if error is not None:
         raise error
     return same
@@ -127,11 +119,13 @@ def same_bytes(source: Source, count: int, answers: Iterator[object]) -> bool:
 
 def reads_back(job: Job, answers: Iterator[object]) -> bool:
     """Whether answers have the bytes that were sent. As many are taken as the file has pieces."""
-    same = True
+    read, same = sha256(), True
     for wanted in job.digests:
         answer = next(answers)
-        same = same and isinstance(answer, Data) and digest(answer.data) == wanted
+        if same and isinstance(answer, Data):
+            read.update(answer.data)
+        same = same and isinstance(answer, Data) and read.digest() == wanted
     return same
 
 
-__all__ = ["ImportOptions", "ImportSummary", "Job", "digest", "reads_back", "same_bytes", "same_pieces"]
+__all__ = ["ImportOptions", "ImportSummary", "Job", "reads_back", "same_bytes", "same_pieces"]

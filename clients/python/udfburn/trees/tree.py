@@ -218,8 +218,7 @@ class Importer:
         """The requests of files, which are read as they are sent. One that cannot be read is left out. Those that rename files come
         once all pieces of these are acknowledged, with pieces of later files."""
         for job, index, data, taken in self._ahead.parts(jobs):
-            whole = taken()
-            sha256 = job.digests[index]
+            sha256 = taken()
             yield from self._renames()
             if job.same.get(index) == sha256:
                 self._count(job)
@@ -229,7 +228,7 @@ class Importer:
                 job.fail(f"{shown(job.source.local)}: changed after it was first seen: store it again")
                 continue
             yield self._request(job, index, data)._replace(
-                tag=(job, index), sha256=sha256, whole=whole, origin=origin_of(job.source, index * limits.FILE),
+                tag=(job, index), sha256=sha256, origin=origin_of(job.source, index * limits.FILE),
             )
 
     def _request(self, job: Job, index: int, data: bytes) -> Operation:

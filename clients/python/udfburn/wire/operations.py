@@ -23,7 +23,7 @@ def clamped(microseconds: int) -> Moment:
 
 
 class Whole(NamedTuple):
-    """A file that takes several requests, as the last of its data has it: its own path, its bytes, and the SHA-256 of all of them."""
+    """A file that takes several requests: its own path, its bytes, and the SHA-256 of all of them."""
 
     path: Path
     size: Size
@@ -43,9 +43,9 @@ class Origin(NamedTuple):
 class Operation(NamedTuple):
     """What a request is to do. `tag` is for whoever made it.
 
-    `sha256` is that of the data, where whoever made it has computed it already; else it is computed when the request is made. `whole`
-    is given with the last part of a file in parts, and with the last piece of one that is appended to. `origin` is given where the data
-    came from a local file: then the ledger keeps large data by its digest alone. `offset` is that of an append.
+    `sha256` is that of the file up to the end of the data. Where it is not given it is computed when the request is made, but not for an append
+    after other data. `whole` is given where the file gets its name. `origin` is given where the data came from a local file: then the ledger
+    keeps large data by that digest alone. `offset` is that of an append.
     """
 
     kind: Type[AnyRequest]
