@@ -92,7 +92,7 @@ class Ledgers(WithServer):
         before = found()
         self.assertEqual(len(before), 11)
         for name in before:
-            with self.assertRaisesRegex(e.LedgerError, "up to 5: use a newer program" if name == "newer.sqlite" else "is not a ledger .*--ledger", msg=name):
+            with self.assertRaisesRegex(e.LedgerError, "up to 6: use a newer program" if name == "newer.sqlite" else "is not a ledger .*--ledger", msg=name):
                 Ledger(os.path.join(room, name))
             self.assertEqual(found(), before, name)
         with self.assertRaises(e.LedgerError):
@@ -223,7 +223,7 @@ class Ledgers(WithServer):
             made[there] += 1
             if there:
                 base = sqlite3.connect(path)
-                self.assertEqual(base.execute("SELECT * FROM ledger").fetchall(), [(5, "5")])
+                self.assertEqual(base.execute("SELECT * FROM ledger").fetchall(), [(6, "5")])
                 base.close()
             Ledger(path, client=5 if there else 7, wait=0.0).close()
             self.assertEqual(sorted(os.listdir(room)), ["ledger.sqlite", "ledger.sqlite.lock"])
