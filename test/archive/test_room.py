@@ -3,9 +3,17 @@
 from __future__ import annotations
 
 import os
+import sys
+from contextlib import redirect_stderr, redirect_stdout
+from io import StringIO
 from typing import List
+from unittest import mock
 
-from .support import WithArchive, digests, make_tree, write
+from .support import PACKAGE, WithArchive, digests, environment, make_tree, write
+
+sys.path.insert(0, PACKAGE)
+
+from udfburn.archive.cli import main  # noqa: E402
 
 LEFT = 26
 """Nodes that are left in a volume that counts as full, at most."""
@@ -77,3 +85,18 @@ class Nodes(WithArchive):
         for value in ("99", "4097", "true", '"1000"', "1000.0"):
             write(os.path.join(self.archive, "archive.toml"), text.replace("nodes = 1000", f"nodes = {value}").encode())
             self.assertIn("nodes", self.do("add", self.source, status=1).errors)
+
+    def test_a_manifest_that_has_no_room(self) -> None:
+        """It is said how long it would be. No bag is written, and the same command closes the volume where there is room."""
+        self.init()
+        make_tree(self.source, 9, 5)
+        self.add()
+        image = os.path.join(self.archive, "open", "T-000001.img")
+        size = os.path.getsize(image)
+        with mock.patch("udfburn.archive.close.LONGEST_WRITTEN", 500), mock.patch.dict(os.environ, environment()), \
+                redirect_stdout(StringIO()), redirect_stderr(StringIO()) as errors:
+            self.assertEqual(main(["close", "--archive", self.archive]), 1)
+        self.assertRegex(errors.getvalue(), "T-000001: its manifest-sha256.txt would have [0-9]{3} bytes, and at most 500 are written: the volume was not closed")
+        self.assertEqual((os.path.getsize(image), self.get_all()), (size, digests(self.source)))
+        self.do("close")
+        self.assertEqual(self.get_all(), digests(self.source))

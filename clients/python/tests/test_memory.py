@@ -43,16 +43,10 @@ status = compared < 65 or any(len(reading.read(at, 4096)) < 4096 for at in range
 """
 
 
-class Peaks(OnImage):
-    """A file of 64 MiB and some bytes, beside a manifest that has its digest."""
+class Small(OnImage):
+    """An image with a file of 64 MiB and some bytes, and processes that hold little of it."""
 
     COUNT = 65
-
-    def finish(self) -> None:
-        whole = hashlib.sha256()
-        for index in range(self.COUNT):
-            whole.update(self.piece(index))
-        self.appender.create("manifest-sha256.txt", f"{whole.hexdigest()}  film\n".encode())
 
     @property
     def room(self) -> str:
@@ -69,7 +63,17 @@ class Peaks(OnImage):
         done = subprocess.run([sys.executable, "-c", code + END, word], env=environment, capture_output=True, text=True, check=False)
         self.assertEqual(done.returncode, status, done.stderr)
         self.assertLess(int(done.stderr.split()[-1]) << 10, MOST_MEMORY)
-        return done.stdout
+        return done.stdout + done.stderr
+
+
+class Peaks(Small):
+    """The file is beside a manifest that has its digest."""
+
+    def finish(self) -> None:
+        whole = hashlib.sha256()
+        for index in range(self.COUNT):
+            whole.update(self.piece(index))
+        self.appender.create("manifest-sha256.txt", f"{whole.hexdigest()}  film\n".encode())
 
     def require_file(self, path: str) -> None:
         """The file that was written has all bytes."""
@@ -111,6 +115,24 @@ class Peaks(OnImage):
             ["seal", "/", "--manifest-only", "--dry-run", *at],
         )
         self.require_file(local)
+
+
+class LongManifest(Small):
+    """Beside the file there is one as long, with the name of a manifest."""
+
+    def finish(self) -> None:
+        self.appender.marked("manifest-sha256.txt", self.size)
+
+    def test_salvage(self) -> None:
+        """It is given back as any other, and a word says that it compares nothing."""
+        told = self.require_small(["salvage", self.image, "--list", "--accept-unproved"])
+        why = "what it lists is not compared, since 67,108,864 of 67,108,864 bytes for manifests are left"
+        self.assertIn(f"unproved /manifest-sha256.txt ({self.size} bytes) - {why}\n", told)
+
+    @unittest.skipUnless(UDFBURN, "UDFBURN names the program")
+    def test_sealed(self) -> None:
+        told = self.require_small(["seal", "/", "--manifest-only", "--dry-run", "--image", self.image], status=1)
+        self.assertIn(f"/manifest-sha256.txt: has {self.size} bytes, and of a file with this name at most 1048576 are read", told)
 
 
 if __name__ == "__main__":

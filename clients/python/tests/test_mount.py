@@ -17,13 +17,13 @@ from udfburn.mounting.image_view import ImageView
 from udfburn.mounting.fuse import TOP_NUMBER, Numbers
 from udfburn.base.progress import Progress
 from udfburn.protocol import Create, MakeDir, Message, Replace
-from udfburn.reader import FileType, Medium, Volume
+from udfburn.reader import FileType, Medium, Run, StateNode, Volume
 from udfburn.reader.basics import BLOCK, EXTENT_BYTES
 from udfburn.reader.directory import write_identifier
 from udfburn.mounting.shown_tree import DIGEST, DIGESTS_KEPT, Memory, OpenFile, ShownFile, ShownFolder
 from udfburn.protocol.units import BlockNumber, Moment, VirtualAddress
 
-from .appended import Appender
+from .appended import Appender, empty_image
 from .forged import FORGED, Forge
 from .model import File as ModelFile
 from .volumes import Writer, apply_messages, format_image
@@ -171,6 +171,8 @@ class Trees(WithImage):
 
 
 class Damage(WithImage):
+    FILES = {name: random.Random(name).randbytes(5000) for name in ("one", "two", "three")}
+
     def sealed(self, *files: Tuple[str, bytes]) -> None:
         """A volume with a manifest after its files."""
         lines = "".join(f"{hashlib.sha256(data).hexdigest()}  {name}\n" for name, data in files)
@@ -241,6 +243,53 @@ class Damage(WithImage):
             self.change(node.address * BLOCK + place, b"\x7f")
             self.assertEqual(bytes_of(file_at(self.view(), "latest", "file 7")), b"7" * 999)
             self.assertRegex(self.told.getvalue(), f"manifest-sha256.txt {why}: what it lists is not compared")
+
+    def with_damaged(self, *manifests: Tuple[str, bytes]) -> ShownFolder:
+        """The newest tree of a bag with these manifests, in which the files `one` and `two` are damaged, and `three` is not."""
+        self.image = empty_image(self)
+        appender = Appender(self.image)
+        for name, data in (("bagit.txt", b"a bag"), *self.FILES.items()):
+            appender.create(name, data)
+        for name, data in manifests:
+            appender.file(name, data)
+        appender.write()
+        self.flip(self.FILES["one"])
+        self.flip(self.FILES["two"])
+        return folder_at(self.view(), "latest")
+
+    def line(self, name: str) -> bytes:
+        """The line that a manifest has of a file."""
+        return f"{hashlib.sha256(self.FILES[name]).hexdigest()}  {name}\n".encode()
+
+    def test_a_long_manifest(self) -> None:
+        """One of more than a mebibyte is read to its end."""
+        others = b"".join(b"%064x  data/another file %06d\n" % (index, index) for index in range(12_000))
+        lines = self.line("one") + others + self.line("two") + self.line("three")
+        self.assertGreater(len(lines), EXTENT_BYTES)
+        latest = self.with_damaged(("manifest-sha256.txt", lines))
+        for name in ("one", "two"):
+            self.require_damaged(file_at(latest, name), f"/{name}: is not as it was stored")
+        self.assertEqual(bytes_of(file_at(latest, "three")), self.FILES["three"])
+        self.assertEqual(self.told.getvalue(), "")
+
+    def test_manifests_that_are_too_long(self) -> None:
+        """One that is longer than what is left is named and never read, and leaves it to the others."""
+        whole = Volume.read
+        names = ("manifest-sha256.txt", "tagmanifest-sha256.txt")
+        cases = ((50, 70, names[0], "3,500 bytes, and 70 of 70", "two", "one"), (1, 139, names[1], "70 bytes, and 69 of 139", "one", "two"))
+        for count, most, left_out, words, compared, other in cases:
+            read: List[str] = []
+
+            def reading(volume: Volume, node: StateNode, read: List[str] = read) -> Run:
+                read.append(node.path[-1])
+                return whole(volume, node)
+
+            latest = self.with_damaged((names[0], count * self.line("one")), (names[1], self.line("two")))
+            with self.subTest(most=most), mock.patch("udfburn.mounting.image_view.MANIFEST_BYTES", most), mock.patch.object(Volume, "read", reading):
+                self.require_damaged(file_at(latest, compared), f"/{compared}: is not as it was stored")
+                self.assertEqual(len(bytes_of(file_at(latest, other))), 5000)
+                self.assertEqual(read, [name for name in names if name != left_out])
+                self.assertIn(f"/{left_out} has {words} for manifests are left: what it lists is not compared", self.told.getvalue())
 
     def test_a_damaged_directory(self) -> None:
         """The names that can be read are there, with a word that some are not; a name without an entry is there, and cannot be read."""

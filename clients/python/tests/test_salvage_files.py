@@ -3,6 +3,7 @@
 from __future__ import annotations
 
 import errno
+import hashlib
 import os
 import tempfile
 import unittest
@@ -11,10 +12,13 @@ from unittest import mock
 
 from udfburn.protocol import Path
 from udfburn.protocol.units import Address
+from udfburn.reader import FileType, Medium
 from udfburn.salvage.digests import Digests, Manifest, add_manifests, folder_of, listed_lines, manifest_data
+from udfburn.salvage.salvage import FILE_UNPROVED, FILE_WHOLE, Salvage
 from udfburn.salvage.write import InTheWay, Output, fitting
 
-from .salvaged import put_into
+from .appended import Appender, empty_image
+from .salvaged import judged, put_into
 
 
 class Writing(unittest.TestCase):
@@ -109,6 +113,26 @@ class Manifests(unittest.TestCase):
         for first in (line[1:], b" " + line, line[:30] + b"\n", bytes(100)):
             pieces = iter([first, b"rest"])
             self.assertEqual((manifest_data(pieces), next(pieces, None)), (b"", None))
+
+    def test_manifests_that_are_too_long(self) -> None:
+        """One that is longer than what is left for manifests is a file like any other, and is said to compare nothing. It takes nothing of it."""
+        files = {"one": b"first" * 500, "two": b"second" * 500}
+        first, second = (f"{hashlib.sha256(data).hexdigest()}  {name}\n".encode() for name, data in files.items())
+        names = ("manifest-sha256.txt", "tagmanifest-sha256.txt")
+        cases = ((30, 2099, 0, "2,099 of 2,099", [FILE_UNPROVED, FILE_WHOLE]), (1, 139, 1, "69 of 139", [FILE_WHOLE, FILE_UNPROVED]))
+        for count, most, which, left, wanted in cases:
+            image = empty_image(self)
+            appender = Appender(image)
+            for name, data in (*files.items(), (names[0], count * first), (names[1], second)):
+                appender.create(name, data)
+            appender.write()
+            with self.subTest(most=most), Medium(image) as medium, mock.patch("udfburn.salvage.salvage.LONGEST_MANIFEST", most):
+                found = Salvage(medium)
+                given = {item.path[-1]: judged(found, item) for item in found.tree.items if item.kind is FileType.FILE}
+                self.assertEqual([given[name][0].state for name in files], wanted)
+                self.assertEqual([name for name in given if given[name][0].why], [names[which]])
+                self.assertEqual(given[names[which]][0].why, f"what it lists is not compared, since {left} bytes for manifests are left")
+                self.assertEqual(given[names[0]][1], count * first)
 
     def test_a_manifest_that_is_doubted(self) -> None:
         """Where a manifest is not as another has it, that a file differs from it says nothing."""

@@ -15,7 +15,7 @@ from udfburn.base import errors as e
 from udfburn import protocol as p
 from udfburn.base.manifest import ManifestLine, bag_manifest, plain_manifest, read_manifest
 from udfburn.protocol.units import Moment
-from udfburn.trees.seal import seal_directory
+from udfburn.trees.seal import files_below, read_files_back, seal_directory
 
 from . import bags
 from .model import File
@@ -288,13 +288,25 @@ class Sealed(WithServer):
         self.assertEqual((sealed.files, sealed.known), (4, 2))
         self.assertIn(hashlib.sha256(b"theirs too").hexdigest() + "  data/a\n", self.files()["/bag/manifest-sha256.txt"].decode())
 
+    def require_no_room(self, words: str) -> None:
+        """Sealing the bag is refused with these words, before anything is written."""
+        commits = self.volume.commits
+        with self.assertRaisesRegex(e.TooLarge, words):
+            seal_directory(self.one, ("bag",))
+        self.assertEqual(self.volume.commits, commits)
+
     def test_a_manifest_that_has_no_room(self) -> None:
         """One in each directory, of the files in it; a bag has one alone, and is refused."""
-        with mock.patch("udfburn.protocol.limits.FILE", 300):
-            with self.assertRaisesRegex(e.TooLarge, "--manifest-only"):
-                self.one.create("/bag/data/e", b"")
-                self.one.create("/bag/data/f", b"")
-                seal_directory(self.one, ("bag",))
+        with mock.patch("udfburn.base.manifest.LONGEST_WRITTEN", 300):
+            self.one.create("/bag/notes.txt", b"")
+            self.require_no_room("^/bag/tagmanifest-sha256.txt: would have 317 bytes, and at most 300 are written: .*--manifest-only.*Nothing was written$")
+            self.one.remove("/bag/notes.txt")
+            self.one.create("/bag/bag-info.txt", b"Contact-Name: " + b"a" * 280)
+            self.require_no_room("^/bag/bag-info.txt: would have [0-9]+ bytes, and at most 300 are written: shorten it")
+            self.one.remove("/bag/bag-info.txt")
+            self.one.create("/bag/data/e", b"")
+            self.one.create("/bag/data/f", b"")
+            self.require_no_room("^/bag/manifest-sha256.txt: would have 369 bytes, and at most 300 are written: .*--manifest-only.*Nothing was written$")
             self.assertFalse([path for path in self.files() if path.endswith(".txt")])
             sealed = seal_directory(self.one, ("bag", "data"), manifest_only=True)
         self.assertEqual([p.show(path) for path in sealed.written], ["/bag/data/manifest-sha256.txt", "/bag/data/d/manifest-sha256.txt"])
@@ -302,6 +314,41 @@ class Sealed(WithServer):
         self.assertEqual(names, ["b", "c"])
         names = [line.split("  ")[1] for line in self.files()["/bag/data/manifest-sha256.txt"].decode().splitlines()]
         self.assertEqual(names, ["a", "e", "f"])
+
+    def test_a_long_file_with_the_name_of_a_manifest(self) -> None:
+        """It is named before any file is read; under another name it is sealed as other long files are."""
+        long = bytes(range(256)) * 12_288
+        self.one.put("/bag/data/d/manifest-sha256.txt", long)
+        self.one.put("/bag/data/film", long)
+        commits, asked = self.volume.commits, len(self.server.payloads)
+        words = "^/bag/data/d/manifest-sha256.txt: has 3145728 bytes, and of a file with this name at most 1048576 are read: .*Nothing was written$"
+        for path, manifest_only in ((("bag",), False), (("bag", "data"), True)):
+            with self.assertRaisesRegex(e.TooLarge, words):
+                seal_directory(self.one, path, manifest_only)
+        self.assertFalse([query for query in map(p.decode_message, self.server.payloads[asked:]) if isinstance(query, (p.Get, p.Read))])
+        self.assertEqual(self.volume.commits, commits)
+        self.one.rename("/bag/data/d/manifest-sha256.txt", "/bag/data/d/sums")
+        sealed = seal_directory(self.one, ("bag",))
+        self.assertEqual((sealed.files, sealed.bytes, sealed.known, len(sealed.written)), (5, 63 + 2 * len(long), 5, 4))
+        self.assert_sealed()
+
+    def test_long_tag_files(self) -> None:
+        """Those of the bag are named; below it, and where no bag is made, they are files like any other, and are not kept in memory."""
+        long = bytes(range(256)) * 8192
+        for name in ("bag-info.txt", "bagit.txt"):
+            self.one.put(f"/bag/data/d/{name}", long)
+        self.one.create("/bag/data/bag-info.txt", b"of the payload")
+        self.assertEqual(seal_directory(self.one, ("bag",)).files, 6)
+        self.assert_sealed()
+        paths = sorted(files_below(self.one, ("bag",)))
+        kept = [p.show(path) for path, file in read_files_back(self.one, paths, {}, ("bag",)).items() if file.data]
+        self.assertEqual(kept, [f"/bag/{name}" for name in ("bag-info.txt", "bagit.txt", "manifest-sha256.txt", "tagmanifest-sha256.txt")])
+        self.one.put("/bag/bag-info.txt", long)
+        self.one.remove("/bag/bagit.txt")
+        with self.assertRaisesRegex(e.TooLarge, "^/bag/bag-info.txt: has 2097152 bytes"):
+            seal_directory(self.one, ("bag",))
+        self.assertEqual(self.files()["/bag/bag-info.txt"], long)
+        self.assertEqual(seal_directory(self.one, ("bag",), manifest_only=True).files, 8)
 
     def test_what_is_no_bag(self) -> None:
         cases: List["tuple[str, bool, type[Exception], str]"] = [

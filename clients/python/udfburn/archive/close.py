@@ -12,7 +12,7 @@ from tempfile import TemporaryDirectory
 from typing import Dict, Iterator, List, Mapping, NamedTuple, Optional, Sequence, Tuple
 
 from ..base.beneath import is_own, open_own, place_of
-from ..base.manifest import BAG_DECLARATION, BAG_INFO, DECLARATION, MANIFEST, PAYLOAD_FOLDER, TAG_MANIFEST, ManifestLine, bag_manifest
+from ..base.manifest import BAG_DECLARATION, BAG_INFO, DECLARATION, LONGEST_WRITTEN, MANIFEST, PAYLOAD_FOLDER, TAG_FILES, TAG_MANIFEST, ManifestLine, bag_manifest
 from ..base.own_files import BytesTold, move, remove, untold
 from ..base.unfinished import is_unfinished
 from ..local.saving import write_file
@@ -188,11 +188,12 @@ class Closer:
             "Bag-Software-Agent": "udfburn-archive",
         }
         files = {BAG_DECLARATION: DECLARATION, BAG_INFO: info(fields, size, len(digests)), MANIFEST: bag_manifest(digests)}
-        if len(files[MANIFEST]) > limits.FILE:
-            raise ArchiveError(f"{volume.row.label}: its manifest would have {len(files[MANIFEST])} bytes, and a file has at most {limits.FILE}")
         tags: Dict[Path, bytes] = {(name,): data for name, data in files.items()}
         tags.update({path: contents.bytes_of(node) for path, node in contents.nodes.items() if is_tag(path, node.kind.name)})
         files[TAG_MANIFEST] = tag_manifest(tags)
+        for name, data in files.items():
+            if len(data) > LONGEST_WRITTEN:
+                raise ArchiveError(f"{volume.row.label}: its {name} would have {len(data)} bytes, and at most {LONGEST_WRITTEN} are written: the volume was not closed")
         return files
 
     def _remove_damaged(self, volume: OpenVolume) -> None:
@@ -426,4 +427,4 @@ def require_no_other(remote: Remote, row: VolumeRow, known: bool) -> None:
 
 def is_tag(path: Path, kind: str) -> bool:
     """Whether a file of the volume is a tag file beside those of a bag (RFC 8493 2.2.4)."""
-    return kind == "FILE" and path[0] != PAYLOAD_FOLDER and not is_unfinished(path) and path[0] not in (BAG_DECLARATION, BAG_INFO, MANIFEST, TAG_MANIFEST)
+    return kind == "FILE" and path[0] != PAYLOAD_FOLDER and not is_unfinished(path) and path[0] not in TAG_FILES

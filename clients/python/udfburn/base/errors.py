@@ -199,7 +199,7 @@ class SourceChanged(SourceError):
 
 
 class TooLarge(SourceError):
-    """A local file has more bytes than a file of a volume may have."""
+    """A local file has more bytes than a file of a volume may have, or a manifest more than sealing reads or writes."""
 
 
 class DoesNotFit(SourceError):

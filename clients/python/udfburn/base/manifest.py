@@ -10,15 +10,24 @@ from __future__ import annotations
 import re
 from typing import Iterable, List, NamedTuple, Tuple
 
-from ..protocol import Path, name_fault
+from ..protocol import Path, limits, name_fault
 
 MANIFEST, TAG_MANIFEST = "manifest-sha256.txt", "tagmanifest-sha256.txt"
 BAG_DECLARATION, BAG_INFO, PAYLOAD_FOLDER = "bagit.txt", "bag-info.txt", "data"
 DECLARATION = b"BagIt-Version: 1.0\nTag-File-Character-Encoding: UTF-8\n"
 """The bytes of `bagit.txt` (RFC 8493, 2.1.1)."""
 
+MANIFESTS = (MANIFEST, TAG_MANIFEST)
+"""Names of manifests: of the payload of a bag or of other files, and of the tag files of a bag."""
+
+TAG_FILES = (*MANIFESTS, BAG_INFO, BAG_DECLARATION)
+"""Names of the files that make a directory a bag."""
+
 LONGEST_MANIFEST = 1 << 26
 """Bytes of a manifest that is read, at most: the lines of all files of a volume have fewer, however long their paths are."""
+
+LONGEST_WRITTEN = limits.FILE
+"""Bytes of a tag file that is written, at most: one request brings all of it."""
 
 
 class ManifestLine(NamedTuple):
@@ -113,6 +122,6 @@ def manifest_line(digits: str, name: str) -> "ManifestLine | None":
 
 
 __all__ = [
-    "BAG_DECLARATION", "BAG_END", "BAG_INFO", "DECLARATION", "MANIFEST", "ManifestLine", "PAYLOAD_FOLDER", "TAG_MANIFEST", "bag_manifest", "plain_manifest",
-    "read_manifest",
+    "BAG_DECLARATION", "BAG_END", "BAG_INFO", "DECLARATION", "LONGEST_MANIFEST", "LONGEST_WRITTEN", "MANIFEST", "MANIFESTS", "ManifestLine",
+    "PAYLOAD_FOLDER", "TAG_FILES", "TAG_MANIFEST", "bag_manifest", "plain_manifest", "read_manifest",
 ]

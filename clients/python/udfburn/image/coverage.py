@@ -61,7 +61,7 @@ class Coverage:
         """The oldest table that the newest one leads to."""
         self._ends = [table.address for table in self._tables]
         for path in sorted(self.nodes):
-            if path and path[-1] in (m.MANIFEST, m.TAG_MANIFEST) and self.nodes[path].kind is FileType.FILE:
+            if path and path[-1] in m.MANIFESTS and self.nodes[path].kind is FileType.FILE:
                 self._take_manifest(path)
 
     def commit_of(self, node: StateNode) -> Optional[Commit]:

@@ -12,11 +12,11 @@ from typing import Callable, Dict, Hashable, Iterator, List, Optional, Set, Tupl
 
 from ..base.errors import Damaged
 from ..base.escape import decode
-from ..base.manifest import BAG_DECLARATION, MANIFEST, TAG_MANIFEST, read_manifest
+from ..base.manifest import BAG_DECLARATION, MANIFEST, MANIFESTS, read_manifest
 from ..base.progress import Progress
 from ..base.older_parts import SUFFIX, joined_folder, joined_parts
 from ..base.unfinished import is_unfinished
-from ..protocol import limits, printed, shown
+from ..protocol import printed, shown
 from ..protocol.units import Commit, Moment, Size, VirtualAddress
 from ..reader import FileType, Medium, NoVolume, State, StateNode, Volume
 from ..reader.basics import DEPTH, ENTRY_DESCRIPTORS, GREATEST_CAPACITY, NODES, address_of, blocks_of
@@ -36,7 +36,7 @@ DIRECTORY_BLOCKS = 2 * NODES
 """Blocks of the directories of a state, at most: each but the last of one has six names at least, and there are so many nodes."""
 
 MANIFEST_BYTES = 1 << 24
-"""Bytes of the manifests of a state, at most."""
+"""Bytes of the manifests that are read of a state, at most. One that is longer than what is left is not read, and takes nothing of it."""
 
 
 class StateTree:
@@ -127,13 +127,15 @@ class StateTree:
         left = MANIFEST_BYTES
         for above, names in self.below.items():
             bag = BAG_DECLARATION in names
-            for name in (MANIFEST, TAG_MANIFEST) if bag else (MANIFEST,):
+            for name in MANIFESTS if bag else (MANIFEST,):
                 node = names.get(name)
-                if node is not None and node.kind is FileType.FILE:
-                    left -= node.size
-                    why = self._take_manifest(wanted, node, bag) if node.size <= limits.FILE and left >= 0 else "is longer than a manifest may be"
-                else:
+                if node is None or node.kind is not FileType.FILE:
                     why = "cannot be read" if name in self.broken[above] else None
+                elif node.size > left:
+                    why = f"has {node.size:,} bytes, and {left:,} of {MANIFEST_BYTES:,} for manifests are left"
+                else:
+                    left -= node.size
+                    why = self._take_manifest(wanted, node, bag)
                 if why is not None:
                     self._note(f"{self.called}: {printed(above + (name,))} {why}: what it lists is not compared")
 

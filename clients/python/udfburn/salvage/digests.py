@@ -5,7 +5,7 @@ from __future__ import annotations
 import re
 from typing import Collection, Dict, FrozenSet, Iterator, List, NamedTuple, Optional, Set
 
-from ..base.manifest import MANIFEST, TAG_MANIFEST
+from ..base.manifest import MANIFESTS
 from ..protocol.units import Address
 from ..reader.volume import Path
 
@@ -136,7 +136,7 @@ def add_manifests(digests: Digests, found: List[Manifest], bags: Set[Path]) -> D
 
 def is_manifest(name: str) -> bool:
     """Whether a file of this name is a manifest."""
-    return name in (MANIFEST, TAG_MANIFEST)
+    return name in MANIFESTS
 
 
 def manifest_data(pieces: Iterator[bytes]) -> bytes:

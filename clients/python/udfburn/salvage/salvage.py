@@ -85,6 +85,8 @@ class Salvage:
         self._carver = Carver(self.chain)
         self._digests_met: Set[str] = set()
         self._manifests: Dict[Path, FrozenSet[Optional[Path]]] = {}
+        self._unread: Dict[Path, str] = {}
+        """Why files with the name of a manifest are not read as one, by their paths."""
         self._whole: Set[Optional[Path]] = set()
         self._is_hurt = False
         if ledger is not None:
@@ -135,17 +137,26 @@ class Salvage:
         return index
 
     def _add_manifests(self) -> None:
+        """Reads the manifests. All of them are in memory at once, so they have `LONGEST_MANIFEST` bytes together, at most: one that is longer
+        than what is left takes nothing of it, and is a file like any other."""
         found: List[Manifest] = []
+        left = LONGEST_MANIFEST
         files = {item.path: item for item in self.tree.items if item.kind is FileType.FILE and item.version is not None}
         bags = {path[:-1] for path in files if path[-1] == BAG_DECLARATION}
         for path, item in files.items():
             is_nameless = path[0] == LOST_AND_FOUND and bool(item.why)
-            if (is_nameless or is_manifest(path[-1])) and item.version is not None and item.version.entry.size <= LONGEST_MANIFEST:
-                read = FileReading(self.volume, item.version.entry)
-                data = manifest_data(read.pieces()) if is_nameless else b"".join(read.pieces())
-                folder = folder_of(data, files) if is_nameless else path[:-1]
-                if folder is not None:
-                    found.append(Manifest(path, folder, data, hashlib.sha256(data).hexdigest(), bool(read.why), item.version.address))
+            if item.version is None or not (is_nameless or is_manifest(path[-1])):
+                continue
+            if item.version.entry.size > left:
+                if not is_nameless:
+                    self._unread[path] = f"what it lists is not compared, since {left:,} of {LONGEST_MANIFEST:,} bytes for manifests are left"
+                continue
+            read = FileReading(self.volume, item.version.entry)
+            data = manifest_data(read.pieces()) if is_nameless else b"".join(read.pieces())
+            folder = folder_of(data, files) if is_nameless else path[:-1]
+            if folder is not None:
+                left -= len(data)
+                found.append(Manifest(path, folder, data, hashlib.sha256(data).hexdigest(), bool(read.why), item.version.address))
         self._manifests = add_manifests(self.digests, found, bags)
 
     def _seen(self) -> Iterator[FoundFile]:
@@ -239,6 +250,7 @@ class Salvage:
         state, why = self._state(item, read, self.agrees(item, digest))
         if state == FILE_NAMELESS:
             why += self._called(digest)
+        why = "; ".join(filter(None, (why, self._unread.get(item.path))))
         self._digests_met.add(digest)
         ranges = read.ranges if state == FILE_DAMAGED else ()
         return SalvageOutcome(item.path, item.kind, state, count, item.commit, ranges, why, None)

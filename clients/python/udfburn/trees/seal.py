@@ -15,7 +15,7 @@ from ..base import manifest as m
 from ..base.errors import Differs, NotDirectory, TooLarge, UsageError
 from ..base.unfinished import is_unfinished
 from ..ledger.digests import SentFile
-from ..protocol import AnyRequest, Code, Create, Node, NodeKind, Path, Replace, Stat, limits, printed, show
+from ..protocol import AnyRequest, Code, Create, Node, NodeKind, Path, Replace, Stat, printed, show
 from ..wire.operations import Operation, now
 from ..wire.pieces import data_of, queries_of
 from ..wire.refusals import expected, refusal
@@ -35,8 +35,8 @@ class Sealed(NamedTuple):
 
 
 class FileRead(NamedTuple):
-    """A file that was read back: its path, its bytes, their SHA-256, whether the ledger sent just these, and the data of a file that
-    sealing may write."""
+    """A file that was read back: its path, the count of its bytes, their SHA-256, whether the ledger sent just these, and the bytes
+    themselves of a file that is looked at, else none."""
 
     path: Path
     size: int
@@ -47,15 +47,12 @@ class FileRead(NamedTuple):
 
 FilesRead = Dict[Path, FileRead]
 
-TAG_FILES = (m.MANIFEST, m.TAG_MANIFEST, m.BAG_INFO, m.BAG_DECLARATION)
-"""Names of files whose data is looked at."""
-
 
 def seal_directory(client: Client, path: Path, manifest_only: bool = False, dry_run: bool = False, told: StepTold = quiet) -> Sealed:
     """Seals the directory at a path. The same call again finishes what was interrupted, and writes nothing where all is there.
 
     Raises `Differs` where the volume has other bytes than the ledger sent, or than a manifest says that is there already, and
-    `TooLarge` where the manifest of a bag has no room in a file.
+    `TooLarge` where a manifest that is there, or one that is to be written, has more than a mebibyte. Nothing is written then.
     """
     with client.held():
         sent: Dict[Path, SentFile] = {}
@@ -64,7 +61,7 @@ def seal_directory(client: Client, path: Path, manifest_only: bool = False, dry_
             sent = client.known_files().now
         top = path if manifest_only else path + (m.PAYLOAD_FOLDER,)
         require_directory(client, path, top)
-        found = read_files_back(client, sorted(files_below(client, path)), sent)
+        found = read_files_back(client, sorted(files_below(client, path)), sent, None if manifest_only else path)
         if not dry_run:
             require_agreement(found)
         payload = [found[file] for file in found if file[: len(top)] == top and file != path + (m.MANIFEST,)]
@@ -95,15 +92,18 @@ def files_below(client: Client, top: Path) -> List[Path]:
 
 # ---- read back
 
-def read_files_back(client: Client, paths: List[Path], sent: Dict[Path, SentFile]) -> FilesRead:
-    """The files as the volume has them; `Differs` where the ledger sent other bytes."""
+def read_files_back(client: Client, paths: List[Path], sent: Dict[Path, SentFile], bag: Optional[Path]) -> FilesRead:
+    """The files as the volume has them, where the directory at `bag`, if any, becomes one. Raises `TooLarge` before it reads any of them,
+    where one that is looked at is too long, and `Differs` where the ledger sent other bytes."""
+    nodes = nodes_of(client, paths)
+    require_readable(nodes, bag)
     found: FilesRead = {}
     faults: List[str] = []
-    for path, node, pieces in with_pieces(client, paths):
+    for path, node, pieces in with_pieces(client, nodes):
         expected = sent.get(path)
         # A file of another size or moment is not the one that the ledger sent: another client replaced it.
         known = expected is not None and (expected.size, expected.moment) == (node.size, node.moment)
-        found[path] = file_read(path, pieces, known)
+        found[path] = file_read(path, pieces, known, is_looked_at(path, bag))
         if expected is not None and known and expected.sha256 != found[path].sha256:
             faults.append(
                 f"{printed(path)}: has other bytes than were sent (commit {expected.commit}): SHA-256 {expected.sha256.hex()} was sent,"
@@ -114,24 +114,43 @@ def read_files_back(client: Client, paths: List[Path], sent: Dict[Path, SentFile
     return found
 
 
-def file_read(path: Path, pieces: Iterable[bytes], known: bool) -> FileRead:
-    """A file whose bytes come piece by piece. Of these none is kept but those of a file that sealing may write."""
+def is_looked_at(file: Path, bag: Optional[Path]) -> bool:
+    """Whether the bytes of a file are looked at: of each manifest, and of the tag files of the directory that becomes a bag."""
+    return file[-1] in m.MANIFESTS or file[:-1] == bag and file[-1] in m.TAG_FILES
+
+
+def require_readable(nodes: Dict[Path, Node], bag: Optional[Path]) -> None:
+    """Raises where a file that is looked at is longer than any that is written: its bytes would all be in memory at once."""
+    long = {path: node.size for path, node in nodes.items() if node.size > m.LONGEST_WRITTEN and is_looked_at(path, bag)}
+    if long:
+        raise TooLarge("\n".join(
+            f"{printed(path)}: has {size} bytes, and of a file with this name at most {m.LONGEST_WRITTEN} are read: give it another name, and seal"
+            " again. Nothing was written" for path, size in long.items()
+        ))
+
+
+def file_read(path: Path, pieces: Iterable[bytes], known: bool, is_kept: bool) -> FileRead:
+    """A file whose bytes come piece by piece, and whether they are kept."""
     size, digest, kept = 0, sha256(), []
     for data in pieces:
         size += len(data)
         digest.update(data)
-        if path[-1] in TAG_FILES:
+        if is_kept:
             kept.append(data)
     return FileRead(path, size, digest.digest(), known, b"".join(kept))
 
 
-def with_pieces(client: Client, paths: List[Path]) -> Iterator[Tuple[Path, Node, Iterator[bytes]]]:
-    """Files with their nodes and their bytes, in pieces. Those of one are to be taken before the next."""
+def nodes_of(client: Client, paths: List[Path]) -> Dict[Path, Node]:
+    """The nodes of files, in the order of their paths."""
     with closing(client.ask_all(map(Stat, paths))) as answers:
-        nodes = [expected(Node, Stat(path), answer) for path, answer in zip(paths, answers)]
-    asked = [queries_of([path], node.size) for path, node in zip(paths, nodes)]
+        return {path: expected(Node, Stat(path), answer) for path, answer in zip(paths, answers)}
+
+
+def with_pieces(client: Client, nodes: Dict[Path, Node]) -> Iterator[Tuple[Path, Node, Iterator[bytes]]]:
+    """Files with their nodes and their bytes, in pieces. Those of one are to be taken before the next."""
+    asked = [queries_of([path], node.size) for path, node in nodes.items()]
     with closing(client.ask_all(query for queries in asked for query in queries)) as answers:
-        for path, node, queries in zip(paths, nodes, asked):
+        for (path, node), queries in zip(nodes.items(), asked):
             yield path, node, (data_of(query, next(answers)) for query in queries)
 
 
@@ -141,7 +160,7 @@ def require_agreement(found: FilesRead) -> None:
     faults: List[str] = []
     for manifest in found.values():
         above = manifest.path[:-1]
-        if manifest.path[-1] not in (m.MANIFEST, m.TAG_MANIFEST):
+        if manifest.path[-1] not in m.MANIFESTS:
             continue
         for line in m.read_manifest(manifest.data, above + (m.BAG_DECLARATION,) in found)[0]:
             file = found.get(above + line.path)
@@ -159,7 +178,7 @@ def require_agreement(found: FilesRead) -> None:
 def plain_files(path: Path, payload: List[FileRead]) -> Dict[Path, bytes]:
     """One manifest beside the files; where it would pass a mebibyte, one in each directory, of the files in it."""
     whole = m.plain_manifest(manifest_lines(path, payload))
-    if len(whole) <= limits.FILE:
+    if len(whole) <= m.LONGEST_WRITTEN:
         return {path + (m.MANIFEST,): whole}
     folders: Dict[Path, List[FileRead]] = {}
     for file in payload:
@@ -174,13 +193,8 @@ def manifest_lines(path: Path, files: Iterable[FileRead]) -> List[m.ManifestLine
 
 
 def bag_files(path: Path, found: FilesRead, payload: List[FileRead]) -> Dict[Path, bytes]:
-    """The tag files of a bag, the manifest of these last."""
+    """The tag files of a bag, the manifest of these last. Raises `TooLarge` where one would have more than a mebibyte."""
     manifest = m.bag_manifest(manifest_lines(path, payload))
-    if len(manifest) > limits.FILE:
-        raise TooLarge(
-            f"{printed(path + (m.MANIFEST,))}: would have {len(manifest)} bytes, and a file has at most {limits.FILE}: seal the directories below"
-            " by themselves, or use --manifest-only, which then writes one in each directory"
-        )
     info, old = path + (m.BAG_INFO,), path + (m.MANIFEST,)
     same = old in found and found[old].data == manifest
     metadata = bag_info(found[info].data if info in found else b"", payload, same)
@@ -189,7 +203,19 @@ def bag_files(path: Path, found: FilesRead, payload: List[FileRead]) -> Dict[Pat
     tags = {file: found[file].sha256 for file in outside if not is_tag_manifest(file[len(path) :])}
     tags.update({file: sha256(data).digest() for file, data in wanted.items()})
     wanted[path + (m.TAG_MANIFEST,)] = m.bag_manifest(m.ManifestLine(tags[tag], tag[len(path) :]) for tag in sorted(tags))
+    require_writable(wanted)
     return wanted
+
+
+def require_writable(wanted: Dict[Path, bytes]) -> None:
+    """Raises where a tag file has more bytes than one request brings. It comes before the first is written."""
+    for path, data in wanted.items():
+        if len(data) > m.LONGEST_WRITTEN:
+            where = " seal the directories below by themselves, or use --manifest-only, which then writes one in each directory"
+            raise TooLarge(
+                f"{printed(path)}: would have {len(data)} bytes, and at most {m.LONGEST_WRITTEN} are written:"
+                f"{where if path[-1] in m.MANIFESTS else ' shorten it, and seal again'}. Nothing was written"
+            )
 
 
 def is_tag_manifest(path: Path) -> bool:
