@@ -8,7 +8,7 @@ import socket
 import threading
 from typing import Callable, List, Optional, Tuple
 
-from udfburn.wire.connection import SOCKET_PIECE, Connection
+from udfburn.wire.connection import SOCKET_PIECE, Connection, Outgoing
 from udfburn.protocol import Answer, Frames, Request, decode_message, encode_answer, frame
 
 from .model import Volume
@@ -130,13 +130,13 @@ class Direct(Connection):
         del self.coming[: len(piece)]
         return piece
 
-    def _write(self, data: memoryview) -> int:
-        self.asked.feed(bytes(data))
+    def _write(self, pieces: List[Outgoing]) -> int:
+        self.asked.feed(b"".join(pieces))
         payload = self.asked.take()
         while payload is not None:
             self.coming += honestly(payload, self.volume.answer_payload(payload))
             payload = self.asked.take()
-        return len(data)
+        return sum(map(len, pieces))
 
 
 def is_probe(payload: bytes) -> bool:

@@ -104,11 +104,11 @@ class AnySize(WithPrograms):
         """Stores a file, and kills this process before it has sent so many bytes."""
         left, send = [stop], Connection.send
 
-        def sent(connection: Connection, data: bytes) -> None:
-            left[0] -= len(data)
+        def sent(connection: Connection, *pieces: bytes) -> None:
+            left[0] -= sum(map(len, pieces))
             if left[0] <= 0:
                 os.kill(os.getpid(), signal.SIGKILL)
-            send(connection, data)
+            send(connection, *pieces)
 
         setattr(Connection, "send", sent)
         with Client(f"image:{self.image}", ledger=self.ledger, program=UDFBURN, patience=PATIENCE) as client:

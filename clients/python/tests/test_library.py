@@ -18,6 +18,7 @@ from unittest import mock
 from udfburn import Client
 from udfburn.base import errors as e
 from udfburn.wire import library
+from udfburn.wire.connection import PIECES_AT_ONCE, Lost
 from udfburn.commands.cli import main
 from udfburn.wire.endpoint import Endpoint
 from udfburn.wire.retrying import TURN, RetryingConnection
@@ -189,6 +190,20 @@ class Statuses(WithStub):
     def test_no_answer(self) -> None:
         """If no answer comes, none is waited for."""
         self.fails(e.ConnectionFailed, "the conversation was ended")
+
+    def test_what_is_sent(self) -> None:
+        """All pieces come to the library as one, in order, when an answer is asked for, and once."""
+        connection = library.LibraryConnection(self.image, library.find_library())
+        self.addCleanup(connection.close)
+        counted = [b"%d " % index for index in range(2 * PIECES_AT_ONCE + 1)]
+        with mock.patch.object(connection.volume, "answer") as answer:
+            connection.send(b"first ", b"", *counted)
+            connection.send(b"last")
+            answer.assert_not_called()
+            for _ in range(2):
+                with self.assertRaisesRegex(Lost, "was ended"):
+                    connection.payload()
+        answer.assert_called_once_with(b"first " + b"".join(counted) + b"last")
 
     def test_an_image_that_is_not_there(self) -> None:
         os.unlink(self.image)

@@ -59,6 +59,7 @@ class Document(unittest.TestCase):
         written = b"".join(unhex("".join(re.findall(r"`([^`]*)`", row[0]))) for row in cells(text)[1:])
         create = p.Create(7, 1, Moment(0), ("a",), b"hello")
         self.assertEqual(p.frame(p.encode_message(create)), written)
+        self.assertEqual(p.prefix(len(written) - 4) + p.encode_head(create) + b"hello", written)
         self.assertEqual(p.decode_message(written[4:]), create)
         quoted = [unhex(code) for code in re.findall(r"`((?:[0-9A-F]{2} ?)+)`", text.split("On a new volume", 1)[1])]
         reply = p.frame(p.encode_answer(p.Committed(p.Code.DONE, Commit(1))))
@@ -79,6 +80,8 @@ class Document(unittest.TestCase):
         for (name, sent, got), message in zip(rows, MESSAGES):
             self.assertEqual(p.frame(p.encode_message(message)), sent, name)
             self.assertEqual(p.decode_message(sent[4:]), message, name)
+            if isinstance(message, p.Request):
+                self.assertEqual(p.encode_head(message) + data_in(message), sent[4:], name)
         for (name, sent, got), answer in zip(rows, ANSWERS):
             self.assertEqual(p.frame(p.encode_answer(answer)), got, name)
             self.assertEqual(p.decode_answer(got[4:]), answer, name)
@@ -145,8 +148,12 @@ class Faults(unittest.TestCase):
                         p.Append(1, 1, Moment(0), ("a",), 0, b""), p.Append(1, 1, Moment(0), ("a",), -1, b"x"), p.Append(1, 1, Moment(0), ("a",), 1 << 64, b"x"),
                         p.Append(1, 1, Moment(0), ("a",), 0, bytes(p.limits.FILE + 1))]
         for message in messages:
-            with self.assertRaises(p.Fault):
+            with self.assertRaises(p.Fault) as whole:
                 p.encode_message(message)
+            assert isinstance(message, p.Request)
+            with self.assertRaises(p.Fault) as head:
+                p.encode_head(message)
+            self.assertEqual(head.exception.cause, whole.exception.cause)
 
     def test_paths(self) -> None:
         self.assertEqual(p.path_of("/"), ())
@@ -198,7 +205,9 @@ class Answers(unittest.TestCase):
         frames = p.Frames()
         frames.feed(p.frame(payload))
         self.assertEqual((frames.take(), frames.rest()), (payload, 0))
-        self.assertRaisesRegex(ValueError, "above the limit", p.prefix, payload + b"\0")
+        self.assertEqual(p.prefix(len(payload)), unhex("00 00 11 00"))
+        self.assertRaisesRegex(ValueError, "above the limit", p.prefix, len(payload) + 1)
+        self.assertRaisesRegex(ValueError, "above the limit", p.frame, payload + b"\0")
         with self.assertRaises(p.Fault) as long:
             p.decode_message(b"\x10" + payload[1:])
         self.assertNotEqual(long.exception.cause, p.Cause.TOO_LONG)
@@ -208,6 +217,8 @@ class Answers(unittest.TestCase):
         for _ in range(500):
             message = random_message(chance)
             self.assertEqual(p.decode_message(p.encode_message(message)), message)
+            if isinstance(message, p.Request):
+                self.assertEqual(p.encode_head(message) + data_in(message), p.encode_message(message))
             answer = random_answer(chance)
             self.assertEqual(p.decode_answer(p.encode_answer(answer)), answer)
 
@@ -235,6 +246,10 @@ class Values(unittest.TestCase):
         for value in (p.Create(1, 2, Moment(3), (), b""), p.MakeDir(1, 2, Moment(3), ()), p.Stat(()), p.FULL, p.Node(p.NodeKind.FILE, Moment(0), 0)):
             with self.assertRaises(AttributeError):
                 setattr(value, "another", 1)
+
+
+def data_in(message: p.Message) -> bytes:
+    return message.data if isinstance(message, (p.Create, p.Replace, p.Append)) else b""
 
 
 def random_path(chance: random.Random) -> p.Path:

@@ -14,16 +14,16 @@ LENGTH = 4
 LENGTH_PREFIX = struct.Struct("<I")
 
 
-def prefix(payload: bytes) -> bytes:
-    """What goes before a payload in its frame."""
-    if len(payload) > limits.PAYLOAD:
+def prefix(length: int) -> bytes:
+    """What goes before a payload of so many bytes in its frame. Raises `ValueError` where these are too many."""
+    if length > limits.PAYLOAD:
         raise ValueError("a payload is above the limit")
-    return LENGTH_PREFIX.pack(len(payload))
+    return LENGTH_PREFIX.pack(length)
 
 
 def frame(payload: bytes) -> bytes:
     """A payload in its frame."""
-    return prefix(payload) + payload
+    return prefix(len(payload)) + payload
 
 
 class Frames:

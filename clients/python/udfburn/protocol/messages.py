@@ -211,16 +211,21 @@ def encode_message(message: Message) -> bytes:
         return bytes((message.kind,)) + encode_path(message.path) + OFFSET_AND_COUNT.pack(message.offset, message.count)
     if not isinstance(message, Request):
         return bytes((message.kind,)) + encode_path(message.path)
-    check_request(message)
-    head = REQUEST_HEAD.pack(message.kind, message.client, message.number, message.moment)
-    path = encode_path(message.path)
-    if isinstance(message, (Create, Replace)):
-        return b"".join((head, path, SIZE_FIELD.pack(len(message.data)), message.data))
-    if isinstance(message, Append):
-        return b"".join((head, path, OFFSET_AND_COUNT.pack(message.offset, len(message.data)), message.data))
-    if isinstance(message, Rename):
-        return head + path + encode_path(message.to)
-    return head + path
+    head = encode_head(message)
+    return head + message.data if isinstance(message, Writing) else head
+
+
+def encode_head(request: Request) -> bytes:
+    """The payload of a request without its data, which comes last; raises `Fault` where the request cannot be said."""
+    check_request(request)
+    head = REQUEST_HEAD.pack(request.kind, request.client, request.number, request.moment) + encode_path(request.path)
+    if isinstance(request, (Create, Replace)):
+        return head + SIZE_FIELD.pack(len(request.data))
+    if isinstance(request, Append):
+        return head + OFFSET_AND_COUNT.pack(request.offset, len(request.data))
+    if isinstance(request, Rename):
+        return head + encode_path(request.to)
+    return head
 
 
 def check_request(message: Request) -> None:

@@ -6,7 +6,10 @@ from collections import deque
 from typing import Deque, Dict, Iterable, Iterator, List, Optional, Sequence
 
 from ..ledger.records import LARGE_DATA, Pending, Reply, facts_of
-from ..protocol import DAMAGED, FAULT, MEMORY, Code, Committed, Path, Stat, decode_answer, encode_message, frame, limits, prefix, show
+from ..protocol import (
+    DAMAGED, FAULT, MEMORY, Append, Code, Committed, Create, Path, Replace, Stat, decode_answer, encode_head, encode_message, frame, limits,
+    prefix, show,
+)
 from ..wire.connection import Lost
 from ..wire.operations import Operation, Outcome, confirmed, paths_of, surely
 from .together import disturbs, is_shown, may_follow, takes_away
@@ -32,20 +35,25 @@ class InFlightRequest:
         self.operation = operation
         self.request = operation.request(client, number)
         facts = facts_of(self.request, operation.sha256, operation.whole)
-        self.payload = encode_message(self.request)
-        self.pending = Pending(number, self.payload, show(self.request.path), facts)
-        if operation.origin is not None and len(operation.data) >= LARGE_DATA:
-            self.pending = self.pending._replace(payload=self.payload[: -len(operation.data)], origin=operation.origin)
+        self.head = encode_head(self.request)
+        self.data = self.request.data if isinstance(self.request, (Create, Replace, Append)) else b""
+        origin = operation.origin if len(self.data) >= LARGE_DATA else None
+        self.pending = Pending(number, self.payload() if origin is None else self.head, show(self.request.path), facts, origin)
         self.paths = paths_of(self.request)
         self.is_shown = is_shown(self.request, facts)
         # In pieces, since each copy of a mebibyte takes time.
-        self.frames = [prefix(self.payload), self.payload, *(frame(encode_message(Stat(path))) for path in self.paths)]
+        length = prefix(len(self.head) + len(self.data))
+        self.frames = [length, self.head, self.data, *(frame(encode_message(Stat(path))) for path in self.paths)]
         self.sure = surely(self.request)
         self.reply: Optional[Committed] = None
         self.said: List[bytes] = []
 
     def number(self) -> int:
         return self.pending.number
+
+    def payload(self) -> bytes:
+        """The payload of the request, with its data: a copy of both."""
+        return self.head + self.data
 
     def size(self) -> int:
         """The bytes that go out."""

@@ -39,7 +39,7 @@ class ClientState(NamedTuple):
 
 def exchange(connection: Connection, messages: Sequence[Message]) -> List[Answer]:
     """The answers to messages, or `Lost` where the program is troubled."""
-    connection.send(b"".join([frame(encode_message(message)) for message in messages]))
+    connection.send(*[frame(encode_message(message)) for message in messages])
     answers = [connection.answer() for _ in messages]
     for answer in answers:
         if answer in (FAULT, MEMORY):

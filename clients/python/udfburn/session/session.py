@@ -99,7 +99,7 @@ class Session:
     def _sent(self, connection: Connection, fresh: Group) -> bool:
         """Sends requests with their questions. Whether the conversation lasted."""
         try:
-            connection.send(b"".join([piece for request in fresh.requests for piece in request.frames]))
+            connection.send(*[piece for request in fresh.requests for piece in request.frames])
             return True
         except Lost:
             connection.rest()

@@ -7,14 +7,22 @@ import select
 import socket
 import struct
 import time
+from collections import deque
 from contextlib import suppress
-from typing import IO, List, Optional
+from itertools import islice
+from typing import IO, Deque, List, Optional, Union
 
 from ..base.errors import ProgramFailed, UsageError
 from ..protocol import Answer, Frames, decode_answer, is_bytes, shown
 
 SOCKET_PIECE = 1 << 18
-"""Bytes that are read or written at once."""
+"""Bytes that are read at once."""
+
+PIECES_AT_ONCE = 512
+"""Pieces that are sent at once: the system takes up to 1,024 (IOV_MAX)."""
+
+Outgoing = Union[bytes, memoryview]
+"""What is sent as it is, without a copy."""
 
 LONGEST_WAIT = 1e6
 """The longest wait for an answer, in seconds: the system counts them in milliseconds of 32 bits."""
@@ -39,17 +47,18 @@ class Connection:
         self.timeout = timeout
         self.since: Optional[float] = None
 
-    def send(self, data: bytes) -> None:
-        """Sends frames, and takes what comes in meanwhile."""
-        view = memoryview(data)
+    def send(self, *pieces: bytes) -> None:
+        """Sends pieces of frames, in order, and takes what comes in meanwhile."""
+        # Of empty pieces alone nothing would go, as where there is no room.
+        waiting: Deque[Outgoing] = deque([piece for piece in pieces if piece])
         limit = time.monotonic() + self.timeout
-        while view:
-            gone = self._write(view)
-            view = view[gone:]
+        while waiting:
+            gone = self._write(list(islice(waiting, PIECES_AT_ONCE)))
+            take_out(waiting, gone)
             if gone:
                 self.since = None
                 limit = time.monotonic() + self.timeout
-            if view:
+            if waiting:
                 readable, writable = self._wait(limit, writing=True)
                 if readable:
                     self._feed()
@@ -132,8 +141,19 @@ class Connection:
     def _read(self, most: int) -> Optional[bytes]:
         raise NotImplementedError
 
-    def _write(self, data: memoryview) -> int:
+    def _write(self, pieces: List[Outgoing]) -> int:
+        """Sends as much of pieces as there is room for, and gives how many bytes went."""
         raise NotImplementedError
+
+
+def take_out(pieces: Deque[Outgoing], gone: int) -> None:
+    """Takes so many bytes from the beginning of pieces. Of a piece that went in part a view of its rest stays."""
+    while gone:
+        piece = pieces.popleft()
+        if gone < len(piece):
+            pieces.appendleft(memoryview(piece)[gone:])
+            return
+        gone -= len(piece)
 
 
 class UnixConnection(Connection):
@@ -183,9 +203,9 @@ class UnixConnection(Connection):
         except OSError as error:
             raise Lost(str(error)) from error
 
-    def _write(self, data: memoryview) -> int:
+    def _write(self, pieces: List[Outgoing]) -> int:
         try:
-            return self.socket.send(data)
+            return self.socket.sendmsg(pieces)
         except BlockingIOError:
             return 0
         except OSError as error:
@@ -277,9 +297,9 @@ class ImageConnection(Connection):
         except BlockingIOError:
             return None
 
-    def _write(self, data: memoryview) -> int:
+    def _write(self, pieces: List[Outgoing]) -> int:
         try:
-            return self.input.send(data[:SOCKET_PIECE])
+            return self.input.sendmsg(pieces)
         except BlockingIOError:
             return 0
         except ConnectionError as error:
@@ -320,4 +340,4 @@ def run_program(program: str, words: List[str]) -> bytes:
     return done.stdout
 
 
-__all__ = ["Connection", "ImageConnection", "Lost", "UnixConnection", "check_word", "find_program", "run_program"]
+__all__ = ["Connection", "ImageConnection", "Lost", "Outgoing", "UnixConnection", "check_word", "find_program", "run_program", "take_out"]

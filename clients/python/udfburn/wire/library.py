@@ -12,7 +12,7 @@ from typing import Dict, List, NamedTuple, Optional, Tuple
 from ..base.errors import DAMAGE, Damaged, DiskFull, UsageError
 from ..protocol import shown
 from ..protocol.units import Moment
-from .connection import Connection, Lost
+from .connection import Connection, Lost, Outgoing
 
 LIBRARY_FILE = "libudfburn.so.0"
 
@@ -133,7 +133,7 @@ class LibraryConnection(Connection):
 
     def __init__(self, image: str, library: Library, timeout: float = 120.0):
         super().__init__(timeout)
-        self._sent = bytearray()
+        self._sent: List[Outgoing] = []
         # The library opens no symbolic link.
         self.image = os.path.realpath(image)
         try:
@@ -151,7 +151,7 @@ class LibraryConnection(Connection):
         return not writing, writing
 
     def _read(self, most: int) -> Optional[bytes]:
-        frames, self._sent = bytes(self._sent), bytearray()
+        frames, self._sent = b"".join(self._sent), []
         if frames:
             try:
                 self.volume.answer(frames)
@@ -159,9 +159,9 @@ class LibraryConnection(Connection):
                 raise self._told(refused) from refused
         return self.volume.take(most)
 
-    def _write(self, data: memoryview) -> int:
-        self._sent += data
-        return len(data)
+    def _write(self, pieces: List[Outgoing]) -> int:
+        self._sent += pieces
+        return sum(map(len, pieces))
 
     def _told(self, refused: CallRefused) -> Exception:
         return refusal_of(refused)

@@ -90,7 +90,7 @@ class DiscConnection(LibraryConnection):
 
     def __init__(self, device: str, library: Library, timeout: float = 120.0):
         Connection.__init__(self, timeout)
-        self._sent = bytearray()
+        self._sent = []
         declare(library.name, library.calls, RECORDER_CALLS)
         self.image = device
         try:

@@ -221,9 +221,9 @@ class RetryingConnection:
             connection = self.get()
             if unsent:
                 asked.extend(unsent)
-                payloads = [frame(encode_message(query)) for query in unsent]
+                frames = [frame(encode_message(query)) for query in unsent]
                 unsent.clear()
-                connection.send(b"".join(payloads))
+                connection.send(*frames)
             answer = connection.answer()
         except Lost as lost:
             unsent[:0] = asked
