@@ -30,6 +30,7 @@ from udfburn.session.in_flight import Group
 from udfburn.session.session import Session
 from udfburn.trees.tree import ImportOptions, put_all
 
+from .model import File
 from .programs import PATIENCE, UDFBURN, WithPrograms
 from .server import honestly, is_probe, request_of
 from .test_kills import KILLS, killer
@@ -286,6 +287,42 @@ class Sources(WithSource):
             file.seek(at)
             file.write(bytes([byte ^ 1]))
         os.utime(self.path(name), ns=(status.st_atime_ns, status.st_mtime_ns))
+
+    def test_pieces_that_were_done(self) -> None:
+        """The replies to the first of them are not kept any more. The process that asks has none of their bytes: by a digest it knows the file."""
+        data = random.Random(10).randbytes(7 * MEBIBYTE + LARGE_DATA)
+        for told, change in (("as it was", b""), ("changed", b"!")):
+            with self.subTest(told):
+                self.write(told, data)
+                self.silent_from_now_on()
+                with self.assertRaises(e.ConnectionFailed), self.client(patience=0.1) as client:
+                    client.line.timeout = 0.5
+                    put_all(client, [(self.path(told), (told,))], ImportOptions())
+                self.server.say = honestly
+                name, before = unfinished_path(self.number(), (told,)), self.volume.commits
+                self.assertEqual(self.volume.files()[name], data)
+                node = self.volume.nodes[name]
+                assert isinstance(node, File)
+                self.volume.nodes[name] = File(change + data[len(change) :], node.moment)
+                self.server.payloads.clear()
+                with self.client() as client:
+                    if change:
+                        self.assertRaisesRegex(e.ReplyNotKept, "not known to be done", client.resume)
+                    else:
+                        self.assertEqual([code for _, _, code, _ in client.resume()], [p.Code.DONE] * 8)
+                self.assertEqual((self.sent(), self.volume.commits), ([], before))
+                reads = [payload for payload in self.server.payloads if isinstance(p.decode_message(payload), p.Read)]
+                self.assertEqual(len(reads), 4, "each byte once")
+
+    def silent_from_now_on(self) -> None:
+        """From the next request on all is done that comes, and no answer goes out but those to probes."""
+        begun: List[bytes] = []
+
+        def say(payload: bytes, answer: p.Answer) -> Optional[bytes]:
+            begun.extend([payload] if request_of(payload) else [])
+            return b"" if begun and not is_probe(payload) else honestly(payload, answer)
+
+        self.server.say = say
 
     def test_of_an_earlier_version(self) -> None:
         """In version 5 a piece has its own digest, and the last one that of the file: what nothing is known of is not sent. The same command

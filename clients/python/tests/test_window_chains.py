@@ -265,8 +265,6 @@ class Refused(WithChains):
     def test_nothing_refused_is_called_done(self) -> None:
         refused = {number for number, (code, _) in enumerate(self.expected, 1) if code is not p.Code.DONE}
         self.assertGreater(len(refused), 9)
-        # The piece after one that was refused: it was done, and the file has other bytes than its client meant.
-        after_refused = {number for number, operation in enumerate(self.operations, 1) if operation.path == ("v0",) and operation.offset}
         unknown = 0
         for requests in range(len(self.operations) + 1):
             told: Dict[int, Tuple[p.Code, int]] = {}
@@ -279,7 +277,7 @@ class Refused(WithChains):
                     unknown += 1
                 for number, code, commit, _ in self.history(client):
                     if code is None:
-                        self.assertIn(number, refused | after_refused)
+                        self.assertIn(number, refused)
                         self.assertNotIn(number, told)
                     elif (code, commit) != self.expected[number - 1]:
                         # The directory was there, and a file's second piece with it.

@@ -40,7 +40,7 @@ class Recovery:
         """What requests without a reply asked for, of which the ledger has no data, and that data, by their numbers."""
         self.not_stored: Dict[int, str] = {}
         """The paths of requests that were not committed before their data was gone, by their numbers."""
-        self._shown = Shown(line.patience.progress)
+        self._shown = Shown(self.data, line.patience.progress)
         self._sources = SourcesAgain()
         # The paths of which the tree has what replies say, so that a conversation that is lost meanwhile takes nothing of that away.
         self._agreed: Set[Path] = set()
@@ -84,7 +84,7 @@ class Recovery:
             self.line.drop()
             raise
         finally:
-            self._shown = Shown(self.line.patience.progress)
+            self._shown = Shown(self.data, self.line.patience.progress)
             self._sources.close()
             self._agreed = set()
 

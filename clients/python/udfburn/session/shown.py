@@ -8,7 +8,7 @@ no proof, since an earlier file may have the same one.
 from __future__ import annotations
 
 from hashlib import sha256
-from typing import Any, Callable, Dict, List, NamedTuple, Optional, Sequence, Tuple
+from typing import Any, Callable, Dict, List, Mapping, NamedTuple, Optional, Sequence, Tuple
 
 from ..base.errors import ForeignReply
 from ..ledger.records import Facts, Pending
@@ -31,11 +31,13 @@ class Settled(NamedTuple):
 
 class Shown:
     """What was found out of requests. `heard` has replies that came before a conversation was lost, `there` whether the tree had what was
-    asked for: a conversation that is lost meanwhile takes nothing of that away. `progress` is called where something came."""
+    asked for: a conversation that is lost meanwhile takes nothing of that away. `sent` is what this process has of requests of which the
+    ledger has no data: what they asked for, and their data. `progress` is called where something came."""
 
-    def __init__(self, progress: Callable[[], None]) -> None:
+    def __init__(self, sent: Mapping[int, Tuple[Facts, bytes]], progress: Callable[[], None]) -> None:
         self.heard: Dict[int, Committed] = {}
         self.there: Dict[int, bool] = {}
+        self._sent = sent
         self._progress = progress
         self._read: Dict[Path, Tuple[int, Any]] = {}
         """How many bytes of a file were read, and their SHA-256 so far."""
@@ -77,18 +79,30 @@ class Shown:
             return facts.whole is not None and self._has_name(connection, deed, facts.whole)
         if deed.kind in FILE_KINDS:
             later = [other.facts.deed for other in committed if other.facts is not None and other.number >= waiting.number]
-            return self._has_bytes(connection, facts, later)
+            return self._has_bytes(connection, waiting, facts, later)
         (node,) = exchange(connection, [Stat(deed.path)])
         if deed.kind is Kind.REMOVE:
             return node == NOT_FOUND
         return isinstance(node, Node) and node.kind is NodeKind.DIRECTORY
 
-    def _has_bytes(self, connection: Connection, facts: Facts, later: Sequence[Deed]) -> bool:
-        """Whether a file has all bytes up to the end of a request's data, and is as this one or a later piece of the file left it."""
-        deed = facts.deed
+    def _has_bytes(self, connection: Connection, waiting: Pending, facts: Facts, later: Sequence[Deed]) -> bool:
+        """Whether a file has the bytes of a request, and is as this one or a later piece of the file left it. Where the data is not at hand all
+        bytes up to its end are compared by their digest."""
+        deed, data = facts.deed, self._data(waiting, facts)
         (node,) = exchange(connection, [Stat(deed.path)])
         left = [Node(NodeKind.FILE, other.moment, other.size) for other in later if other.kind in FILE_KINDS and other.path == deed.path]
-        return node in left and isinstance(node, Node) and self._has_digest(connection, deed.path, node.size, deed.size, facts.sha256)
+        if not isinstance(node, Node) or node not in left:
+            return False
+        if data is None:
+            return self._has_digest(connection, deed.path, node.size, deed.size, facts.sha256)
+        return not data or piece_of(connection, deed.path, node.size, deed.size - len(data), len(data)) == data
+
+    def _data(self, waiting: Pending, facts: Facts) -> Optional[bytes]:
+        """The data of a request, where it is at hand."""
+        if waiting.origin is None:
+            return waiting.payload[len(waiting.payload) - facts.deed.data_size() :]
+        sent, data = self._sent.get(waiting.number, (None, None))
+        return data if sent == facts else None
 
     def _has_name(self, connection: Connection, deed: Deed, whole: Whole) -> bool:
         """Whether a file is at its new path with all of its bytes, and nothing at its old one."""
@@ -103,16 +117,21 @@ class Shown:
         if at > count:
             at, read = 0, sha256()
         while at < count:
-            piece = min(limits.FILE, count - at)
-            query: Query = Get(path) if size <= limits.FILE else Read(path, at, Size(piece))
-            (data,) = exchange(connection, [query])
-            if not isinstance(data, Data) or len(data.data) != piece:
+            piece = piece_of(connection, path, size, at, min(limits.FILE, count - at))
+            if not piece:
                 return False
-            read.update(data.data)
-            at += piece
+            read.update(piece)
+            at += len(piece)
             self._read[path] = at, read
             self._progress()
         return bool(read.digest() == sha256_of)
+
+
+def piece_of(connection: Connection, path: Path, size: int, at: int, count: int) -> Optional[bytes]:
+    """So many bytes of a file of this size from one on; None where it does not have them."""
+    query: Query = Get(path) if size <= limits.FILE else Read(path, at, Size(count))
+    (answer,) = exchange(connection, [query])
+    return answer.data if isinstance(answer, Data) and len(answer.data) == count else None
 
 
 def commits_before(first: int, replies: List[Committed]) -> int:
