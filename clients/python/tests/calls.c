@@ -115,3 +115,15 @@ ssize_t send(int descriptor, const void *data, size_t length, int flags) {
     if (done > 0) note(SENT, "", 0, data, (size_t)done);
     return done;
 }
+
+ssize_t sendmsg(int descriptor, const struct msghdr *message, int flags) {
+    REAL(ssize_t, sendmsg, int, const struct msghdr *, int);
+    ssize_t done = real(descriptor, message, flags);
+    size_t left = done > 0 ? (size_t)done : 0;
+    for (const struct iovec *part = message->msg_iov; left; part++) {
+        size_t length = part->iov_len < left ? part->iov_len : left;
+        note(SENT, "", 0, part->iov_base, length);
+        left -= length;
+    }
+    return done;
+}
