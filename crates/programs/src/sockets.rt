@@ -191,12 +191,8 @@ impl Frame {
         }
     }
 
-    /// Takes a byte of the stream. Returns whether a frame ends with it.
-    fn take(&mut self, byte: u8) -> bool {
-        if self.missing > 0 {
-            self.missing -= 1;
-            return self.missing == 0;
-        }
+    /// Takes a byte of a length. Returns whether a frame ends with it.
+    fn take_of_length(&mut self, byte: u8) -> bool {
         self.length = (self.length >> 8) | (u32::from(byte) << 24);
         if self.length_bytes < 3 {
             self.length_bytes += 1;
@@ -210,9 +206,16 @@ impl Frame {
     /// Takes these bytes. Returns whether a frame ends among them.
     fn take_all(&mut self, bytes: &[u8]) -> bool {
         let mut is_ended = false;
-        for byte in bytes {
-            if self.take(*byte) {
-                is_ended = true;
+        let mut rest = bytes;
+        while !rest.is_empty() {
+            if self.missing == 0 {
+                is_ended |= self.take_of_length(rest[0]);
+                rest = &rest[1..];
+            } else {
+                let count = (self.missing as usize).min(rest.len());
+                self.missing -= count as u32;
+                is_ended |= self.missing == 0;
+                rest = &rest[count..];
             }
         }
         is_ended
