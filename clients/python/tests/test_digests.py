@@ -67,6 +67,14 @@ class Digests(WithServer):
         self.assertEqual(found[Commit(6)], SentFile(("a",), Size(2 * FULL + 3), Moment(6), three, Commit(6), 6))
         self.assertEqual({commit: known.sha256 for commit, known in found.items()}, {1: first, 3: three, 4: first, 5: two, 6: three})
 
+    def test_a_ledger_without_the_digest_of_a_file(self) -> None:
+        with self.client() as client:
+            client.create("/a", b"x")
+        with closing(sqlite3.connect(self.ledger)) as base, base:
+            base.execute("UPDATE request SET sha256 = NULL")
+        with self.assertRaisesRegex(ValueError, "^request 1 stored a file, and its digest is not known$"):
+            self.files()
+
     def test_appended_to_by_an_earlier_version(self) -> None:
         """The ledgers of versions 4 and 5 have the digest of each piece alone, and with the last one that of the file."""
         whole = sha256(PIECE + PIECE + b"end")

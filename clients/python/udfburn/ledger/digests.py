@@ -75,6 +75,8 @@ class Files:
         if sent.facts is None or sent.commit is None:
             raise ValueError(f"request {sent.number} stored a file, and its commit is not known")
         deed, sha256, whole = sent.facts.deed, sent.facts.sha256, sent.facts.whole
+        if sha256 is None and deed.kind is not Kind.APPEND:
+            raise ValueError(f"request {sent.number} stored a file, and its digest is not known")
         if sha256 is None:
             # It was appended to by somebody who did not know all of it.
             self._drop(deed.path)
