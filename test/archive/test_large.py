@@ -4,12 +4,13 @@ from __future__ import annotations
 
 import os
 import random
+import subprocess
 import sys
 import time
 import unittest
 from typing import Dict, Set
 
-from .support import LARGE, PACKAGE, WithArchive, digests, kill, make_tree, start, wait_until
+from .support import LARGE, PACKAGE, WithArchive, digests, environment, kill, make_tree, start, wait_until
 from .test_report import fill_catalogue, made_name
 
 sys.path.insert(0, PACKAGE)
@@ -37,6 +38,31 @@ class Many(WithArchive):
             if "noted" not in row["places"][0]:
                 homes.setdefault(os.path.dirname(row["path"]), set()).add(row["places"][0]["volume"])
         self.assertEqual({len(volumes) for volumes in homes.values()}, {1})
+
+
+MEASURED = """
+import sys
+from udfburn.archive.cli import main
+status = main(sys.argv[1:])
+with open("/proc/self/status", encoding="ascii", errors="replace") as file:
+    print(next(line.split()[1] for line in file if line.startswith("VmHWM:")))
+sys.exit(status)
+"""
+"""Runs the command, and prints how many kibibytes of memory it had at most."""
+
+
+class InPieces(WithArchive):
+    def memory(self, *words: str) -> int:
+        command = [sys.executable, "-c", MEASURED, *words, "--archive", self.archive, "--quiet"]
+        done = subprocess.run(command, env=environment(), check=True, capture_output=True, text=True)
+        return int(done.stdout.split()[-1]) * 1024
+
+    def test_a_large_file_is_never_in_memory(self) -> None:
+        self.init()
+        with open(os.path.join(self.source, "large"), "wb") as file:
+            file.truncate(80_000_000)
+        for words in (["add", self.source, "--at", "/s"], ["check", "--data", "T-000001"], ["close"], ["check", "--data"], ["get", "/s", self.path("back")]):
+            self.assertLess(self.memory(*words), 80_000_000, words)
 
 
 @unittest.skipUnless(LARGE, "--large has it")

@@ -196,13 +196,14 @@ def row_of(volume: int, file: File, member: Member, added: Moment) -> Held:
 
 
 def damaged_in(contents: Contents, file: File, rows: Iterable[Held]) -> List[Held]:
-    """Those of the members of a bundle that are not as they were stored."""
+    """Those of the members of a bundle that are not as they were stored. Of a file that has none, which may be a large one, nothing is read."""
+    members = list(rows)
     try:
-        data = contents.span(file, 0, file.size)
+        data = contents.span(file, 0, file.size) if members else b""
     except VolumeDiffers:
         # Files in the blocks that can be read are as good.
-        return [row for row in rows if not is_as_stored(contents, file, row)]
-    return [row for row in rows if sha256(data[row.start or 0 : (row.start or 0) + row.size]).digest() != row.sha256]
+        return [row for row in members if not is_as_stored(contents, file, row)]
+    return [row for row in members if sha256(data[row.start or 0 : (row.start or 0) + row.size]).digest() != row.sha256]
 
 
 def members_by_bundle(rows: Iterable[Held]) -> Dict[Commit, List[Held]]:
