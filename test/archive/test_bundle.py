@@ -457,7 +457,8 @@ class Lists(unittest.TestCase):
         data, (one, two) = bundled(self.FILES)
         bad = {
             "beyond": [one._replace(start=len(data))], "twice": [one, one], "above": [one._replace(name="..")], "a path": [one._replace(name="x/y")],
-            "large": [one._replace(size=Size(1 << 62))], "late": [one._replace(moment=Moment(1 << 62))], "nothing": [one._replace(name="")],
+            "large": [one._replace(size=Size(1 << 62))], "in common": [each._replace(start=0, size=Size(len(data))) for each in (one, two)],
+            "late": [one._replace(moment=Moment(1 << 62))], "nothing": [one._replace(name="")],
         }
         for why, members in bad.items():
             with self.subTest(why=why), self.assertRaisesRegex(VolumeDiffers, "/s/=b1.tar: the list of its files is damaged"):

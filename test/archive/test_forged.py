@@ -11,6 +11,7 @@ from .support import PACKAGE, UDFBURN, WithArchive, digests, make_tree, write
 
 sys.path.insert(0, PACKAGE)
 
+from udfburn.archive.bundle import bundled  # noqa: E402
 from udfburn.trees.client import Client  # noqa: E402
 from udfburn.wire.operations import Operation  # noqa: E402
 from udfburn.protocol import Create, MakeDir  # noqa: E402
@@ -103,6 +104,16 @@ class Forged(WithArchive):
         images = [self.forge("x0.img", "T-000002", self.about(), {f"data/{escaped}": b"1"})]
         images.append(self.forge("x1.img", "T-000002", self.about(), {f"data/s/{escaped}/f": b"1"}))
         self.require_left_out(images)
+
+    def test_a_bundle_of_any_size(self) -> None:
+        """It would be in memory as a whole."""
+        image = self.forge("T-000002.img", "T-000002", self.about(), {"data/f": b"1"})
+        data, _ = bundled([("member", Moment(1), bytes(2_000_000))])
+        with Client(f"image:{image}", ledger=self.path("T-000002.img.ledger"), program=UDFBURN) as client:
+            client.put("/data/=b1.tar", data, Moment(1))
+        done = self.do("rebuild", status=1)
+        self.assertIn(f"/=b1.tar has {len(data)} bytes, and a bundle has at most 1048576", done.errors)
+        self.assertEqual([row["path"] for row in self.rows()], sorted(["/f", *(row["path"] for row in self.before)]))
 
     def test_labels(self) -> None:
         images = [self.forge(f"x{index}.img", label, self.about(), {"data/f": b"1"}) for index, label in enumerate(("T-000003", "../../x", "T-2", "T-000002 "))]

@@ -122,6 +122,8 @@ def read_list(contents: Contents, file: File) -> BundleList:
         members = [member_of(line, file.size) for line in entries]
         if len({member.name for member in members}) != len(members):
             raise ValueError("it names a file twice")
+        if sum(member.size for member in members) > file.size:
+            raise ValueError("its files have more bytes than it")
     except (ValueError, CannotStore) as error:
         raise VolumeDiffers(f"{where}: the list of its files is damaged ({error}), which 'tar' still reads") from error
     return BundleList(members, added)

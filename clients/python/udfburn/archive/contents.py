@@ -302,7 +302,9 @@ class Contents:
             yield self.span(file, row.start, row.size)
 
     def span(self, file: File, start: int, size: Size) -> bytes:
-        """So many bytes of a file from one on, or `VolumeDiffers` where they cannot be read. No other block is."""
+        """So many bytes of a bundle from one on, or `VolumeDiffers` where they cannot be read. No other block is."""
+        if file.size > limits.FILE:
+            raise VolumeDiffers(f"{self.image}: {text_of(file.path)} has {file.size} bytes, and a bundle has at most {limits.FILE}")
         found, at, end = bytearray(), 0, start + size
         for node in file.nodes:
             whole = [(at, self.bytes_of(node))] if node.data is None else []
