@@ -9,7 +9,7 @@ from typing import Dict, Iterator, NamedTuple, Optional
 from ..base.disk import left_if_short
 from ..base.errors import Damaged, DiskFull, NumberUsedElsewhere, ProgramFailed, UsageError, WrongVolume
 from ..base.manifest import PAYLOAD_FOLDER
-from ..base.own_files import move, new as new_file, remove
+from ..base.own_files import move, new as new_file, remove, set_mode
 from ..base.unfinished import is_unfinished
 from ..image.blocks import Space
 from ..ledger.digests import Files
@@ -144,6 +144,7 @@ class OpenVolume:
     def take_up(self) -> None:
         """Finishes what an earlier process began, and has the catalogue agree with the volume. Nobody else has the image until `close`."""
         self.make()
+        self._allow_to_write()
         self._cut()
         self._held.enter_context(self.client.held())
         try:
@@ -165,6 +166,14 @@ class OpenVolume:
                 return
         self.begin()
         self.load()
+
+    def _allow_to_write(self) -> None:
+        """Has an image be no read-only file, as a `close` leaves it that was cut short, or an adoption from a medium that is read-only."""
+        try:
+            if not os.access(self.image, os.W_OK):
+                set_mode(self.image, self.config.mode)
+        except OSError as error:
+            raise VolumeDiffers(f"{self.image}: cannot be written: {error.strerror}") from error
 
     def _cut(self) -> None:
         """Takes off what an earlier version appended and was cut short."""
