@@ -239,6 +239,21 @@ class Cut(Whole):
         self.add()
         self.require_all()
 
+    def test_a_deletion_came_between(self) -> None:
+        """What is whole but for its name would count as gone."""
+        path, away = os.path.join(self.source, "photo"), self.path("away")
+        os.rename(path, away)
+        write(path, b"old")
+        self.write("small", 10)
+        self.add()
+        os.rename(away, path)
+        self.cut(2)
+        os.rename(path, away)
+        self.assertEqual(self.add("--deletions").last()["gone"], 1)
+        os.rename(away, path)
+        self.add()
+        self.require_all()
+
     def test_close_takes_it_off(self) -> None:
         """No bag has it."""
         self.cut(1)

@@ -17,6 +17,7 @@ from ..protocol.units import Commit, Moment
 from ..trees.growing import may_go_on
 from .catalogue import Catalogue, mebibytes_of
 from .contents import Contents
+from .deletions import events_of_path
 
 
 class Left(NamedTuple):
@@ -68,11 +69,12 @@ class Unfinished:
 
     def of_file(self, source: Source, path: Path, pieces: Generator[bytes, None, None]) -> Left:
         """What there is of a whole file. With its last piece it has its moment, and the time at which it counts as added: where another
-        version was added since, it would be taken for an older one, and is stored again."""
+        version was added since, it would be taken for an older one, and is stored again; so where its path was found gone since."""
         left = self.of_part(path, pieces, source.identity.size)
         if not left.is_whole(source.identity.size):
             return left
-        newest = max((row.added for row in self._catalogue.of_path(source.path)), default=-1)
+        added = [row.added for row in self._catalogue.of_path(source.path)]
+        newest = max([*added, *(event.since for event in events_of_path(self._catalogue, source.path))], default=-1)
         return left if left.moment == source.moment() and left.added > newest else OTHERS
 
     def _compared(self, path: Path, pieces: Generator[bytes, None, None]) -> Left:
