@@ -10,7 +10,7 @@ import shutil
 import sys
 from contextlib import closing, redirect_stderr, redirect_stdout
 from io import StringIO
-from typing import Dict, List, Sequence, Tuple
+from typing import Dict, List, Optional, Sequence, Tuple
 from unittest import mock
 
 from .support import PACKAGE, UDFBURN, WithArchive, digests, write
@@ -26,7 +26,7 @@ from udfburn.archive.view import ArchiveFile, ArchiveView, FolderState  # noqa: 
 from udfburn.base.unfinished import UNDER_WAY  # noqa: E402
 from udfburn.wire.operations import Operation  # noqa: E402
 from udfburn.protocol import Append, Code, Create, MakeDir, Path, Rename, limits  # noqa: E402
-from udfburn.protocol.units import Moment
+from udfburn.protocol.units import Address, Moment
 from udfburn.reader import FileType, Medium, Volume  # noqa: E402
 
 MEBIBYTE = 1 << 20
@@ -252,6 +252,22 @@ class Cut(Whole):
         self.assertEqual(self.add("--deletions").last()["gone"], 1)
         os.rename(away, path)
         self.add()
+        self.require_all()
+
+    def test_it_cannot_be_read(self) -> None:
+        """A block of it is lost: it goes, and all is stored."""
+        self.cut(1)
+        self.write("small", 10)
+        with open(self.image(), "rb") as file:
+            lost, whole = file.read().index(content(3_500_000)[:40]) // limits.BLOCK, Medium._read
+
+        def read_but(medium: Medium, address: Address, count: int) -> Optional[bytes]:
+            return None if address <= lost < address + count else whole(medium, address, count)
+
+        with mock.patch.object(Medium, "_read", read_but):
+            status, output = self.run_here()
+        self.assertEqual(status, 0, output)
+        self.assertEqual(self.unfinished(), [])
         self.require_all()
 
     def test_close_takes_it_off(self) -> None:

@@ -18,6 +18,7 @@ from ..trees.growing import may_go_on
 from .catalogue import Catalogue, mebibytes_of
 from .contents import Contents
 from .deletions import events_of_path
+from .errors import VolumeDiffers
 
 
 class Left(NamedTuple):
@@ -88,8 +89,8 @@ class Unfinished:
                         return OTHERS
                     read.update(piece)
                     digests.append(read.digest())
-            except SourceError:
-                # Whoever stores it reports that.
+            except (SourceError, VolumeDiffers):
+                # Whoever stores it reports that. What is there and cannot be read goes.
                 return OTHERS
             commit = contents.commit_of(node)
             return Left(tuple(digests), False, node.moment or Moment(0), commit, contents.added(commit))
