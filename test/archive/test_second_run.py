@@ -3,8 +3,10 @@
 from __future__ import annotations
 
 import os
+import shutil
 import subprocess
 import sys
+import time
 from typing import Dict, List, Set
 from unittest import mock
 
@@ -237,3 +239,39 @@ class Previews(WithArchive):
         write(os.path.join(self.source, "one"), b"1")
         self.add("--dry-run", "--delete-source", status=2)
         self.assertTrue(os.path.exists(os.path.join(self.source, "one")))
+
+
+class ThereAgain(WithArchive):
+    """A file that was changed, and is again as it was before, with the time that it had."""
+
+    NAMES = ("small", "large", "empty", *(f"bundled/{index}" for index in range(20)))
+
+    def make(self, words: bytes) -> None:
+        for name in self.NAMES:
+            data = (words + name.encode()) * (1 + 200_000 * (name == "large"))
+            write(os.path.join(self.source, name), b"" if (name, words) == ("empty", b"first") else data)
+
+    def test_it_is_the_newest(self) -> None:
+        self.init("--delete", "acknowledged")
+        kept = [self.path(name) for name in ("first", "second")]
+        found = []
+        for folder in kept:
+            self.make(os.path.basename(folder).encode())
+            subprocess.run(["cp", "-a", self.source, folder], check=True)
+        for turn in range(4):
+            shutil.rmtree(self.source)
+            subprocess.run(["cp", "-a", kept[turn % 2], self.source], check=True)
+            last = self.add("--bundle").last()
+            self.assertEqual((last["files"], last["same_as"]), (len(self.NAMES), 0) if turn < 2 else (turn == 2, len(self.NAMES) - (turn == 2)))
+            self.assertEqual(self.get_all(), digests(self.source))
+            self.assertEqual(self.do("diff", self.source, "--at", "/s").last()["same"], len(self.NAMES))
+            self.assertEqual(self.add("--bundle").last()["same"], len(self.NAMES))
+            found.append((time.time(), digests(self.source)))
+        os.unlink(os.path.join(self.archive, "catalogue.sqlite"))
+        self.do("rebuild")
+        for moment, before in found:
+            folder = self.path(f"back-{moment}")
+            self.do("get", "--as-of", time.strftime("%Y-%m-%dT%H:%M:%S", time.gmtime(moment)) + f".{int(moment % 1 * 1e6):06}Z", "/s", folder)
+            self.assertEqual(digests(os.path.join(folder, "s")), before)
+        self.assertEqual(self.add("--delete-source").last()["deleted"], len(self.NAMES))
+        self.require_agreed()

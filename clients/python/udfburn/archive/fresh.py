@@ -5,7 +5,7 @@ from __future__ import annotations
 from typing import Dict, List, Optional, Tuple
 
 from ..local.sources import Source
-from .catalogue import STATE_CLOSED, STATE_RETIRED, Catalogue, Held, VolumeRow
+from .catalogue import STATE_CLOSED, STATE_RETIRED, Catalogue, Held, VolumeRow, is_whole, versions
 from .job import VolumeJob, digest_of
 from .places import Places
 from .seen import Seen
@@ -24,12 +24,15 @@ class Fresh:
             self.seen.close()
 
     def compared(self, source: Source, rows: List[Held]) -> Tuple[VolumeJob, List[Held]]:
-        """A file as it would be stored, and the rows, of those that its path has, which have its size, its moment and its bytes."""
+        """A file as it would be stored, and the rows, of those that its path has, which have its size, its moment and its bytes. A version that
+        is there again after another one has none: it is added anew, by a line where the archive has its bytes."""
         job = VolumeJob(source)
         alike = [row for row in rows if (row.size, row.moment) == (source.identity.size, source.moment())]
         if alike or job.in_parts:
             job.digest = self._digest(source)
-        return job, [row for row in alike if row.sha256 == job.digest and self._counts(source, row)]
+        same = [row for row in alike if row.sha256 == job.digest and self._counts(source, row)]
+        is_older = bool(same) and is_whole(same) and versions(rows)[0][0].version() != same[0].version()
+        return job, [] if is_older else same
 
     def _digest(self, source: Source) -> bytes:
         found = self.seen.digest(source) if self.seen is not None else None
