@@ -330,3 +330,19 @@ class OnSeveral(WithArchive):
         self.assertEqual([line["path"] for line in done.objects() if line["did"] == "stored"], ["/s/big"])
         self.assertEqual((done.last()["files"], done.last()["bytes"]), (1, 9_000_000))
         self.assertGreater(len(self.volumes()), 1)
+
+
+class InTheSource(WithCopies):
+    def test_copies_are_no_source(self) -> None:
+        """The folders for copies are below what is added: what is the archive's there is not stored, and never goes."""
+        write(os.path.join(self.copies[1], "other"), b"other")
+        os.symlink(self.copies[0], self.path("link"))
+        before = {copy: set(digests(copy)) for copy in self.copies}
+        done = self.do("add", self.room, "--at", "/room", "--delete-source", "--skip-odd")
+        self.assertEqual((digests(self.source), done.last()["deleted"], done.last()["same_as"]), ({}, 15, 14))
+        self.assertEqual(self.do("diff", self.room, "--at", "/room", status=1).last()["new"], 0)
+        for copy in self.copies:
+            self.assertLessEqual(before[copy] - {b"other"}, set(digests(copy)))
+        self.assertEqual({row["path"] for row in self.rows() if row["path"].startswith(("/room/one", "/room/two"))}, {"/room/two/other"})
+        self.assertEqual(self.get_all(), self.before)
+        self.do("check", "--data", "--remotes")

@@ -119,7 +119,7 @@ class Adder:
         return latest
 
     def _below(self, local: str, path: Path, filler: Filler) -> None:
-        walk = Walk(self.config.folder, self.options.rules)
+        walk = Walk(self.config.folder, self.options.rules, self.config.copies, self.config.label)
         self.departed.begin()
         for found in walk.below(local, path):
             self.departed.found(found)

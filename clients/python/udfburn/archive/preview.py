@@ -48,7 +48,8 @@ class Preview:
     def changes(self, wanted: Sequence[Tuple[str, Path]], gone: bool) -> Iterator[Change]:
         """The files that differ, and those that are gone if they are asked for. Where something cannot be read nothing counts as gone."""
         for local, path in wanted:
-            walk = Walk(self.catalogue.config.folder, self.rules)
+            config = self.catalogue.config
+            walk = Walk(config.folder, self.rules, config.copies, config.label)
             for found in walk.below(local, path):
                 yield from self._folder(found)
             self.failures += walk.faults

@@ -3,7 +3,9 @@
 from __future__ import annotations
 
 import os
+import re
 import stat
+from contextlib import suppress
 from typing import Iterator, List, NamedTuple, Sequence, Set, Tuple
 
 from ..base.beneath import Place, place_of
@@ -24,11 +26,18 @@ class ScannedFolder(NamedTuple):
 class Walk:
     """Folders as they are found. `odd` has what is neither file nor folder, `faults` what cannot be read, `empty` counts folders
     with nothing in them, which the archive does not keep, `excluded` what the rules leave out, and `left_out` has the paths of all that is
-    there and not walked."""
+    there and not walked. So are the archive's own folder, and its files in folders for copies: they are no source of it."""
 
-    def __init__(self, own: str, rules: Rules = Rules()):
+    def __init__(self, own: str, rules: Rules = Rules(), copies: Sequence[str] = (), label: str = ""):
         status = os.stat(own)
         self._own = (status.st_dev, status.st_ino)
+        self._copies: Set[Tuple[int, int]] = set()
+        for folder in filter(os.path.isabs, copies):
+            # One whose disk is not mounted has no copies.
+            with suppress(OSError):
+                status = os.stat(folder)
+                self._copies.add((status.st_dev, status.st_ino))
+        self._copy = re.compile(rf"{re.escape(label)}-[0-9]{{6,9}}\..*|udfburn-archive-.*\.txt(\.new)?", re.DOTALL)
         self._rules = rules
         self._top, self._device = 0, 0
         self.excluded = 0
@@ -70,6 +79,7 @@ class Walk:
         try:
             status = root.status(folder)
             is_own, is_cache = (status.st_dev, status.st_ino) == self._own, self._rules.is_cache(place)
+            has_copies = (status.st_dev, status.st_ino) in self._copies
             names = [] if is_own or is_cache else root.names_in(folder)
         except OSError as error:
             self.faults.append(f"{shown(place.local())}: {error.strerror}")
@@ -79,6 +89,9 @@ class Walk:
         self.empty += not (names or is_own or is_cache)
         for name in names:
             below = Place(root, folder + (name,))
+            if has_copies and self._copy.fullmatch(name):
+                self.left_out.append(at + (name,))
+                continue
             try:
                 found = root.status(below.names)
             except OSError as error:
