@@ -13,7 +13,7 @@ import time
 from typing import ContextManager, List
 
 from .support import (
-    LARGE, PATIENCE, WithArchive, await_programs, digests, environment, kill, make_tree, standing_still, start, wait_until, words_of, write,
+    LARGE, PATIENCE, WithArchive, await_programs, change_in, digests, environment, kill, make_tree, standing_still, start, wait_until, words_of, write,
 )
 
 KILLS = 100 if LARGE else 14
@@ -365,6 +365,43 @@ class Catalogues(WithArchive):
         self.do("rebuild")
         self.assertEqual(len({row["path"] for row in self.rows()}), 3)
         self.require_agreed()
+
+    def test_an_older_catalogue_takes_nothing_off(self) -> None:
+        """It names a volume for a file that is damaged, lost or retired by now. What another volume got since is all that there is."""
+        path, data = os.path.join(self.source, "f"), b"the only one"
+        image, catalogue, kept = self.path("archive", "closed", "T-000001.img"), self.path("archive", "catalogue.sqlite"), self.path("kept")
+
+        def source() -> None:
+            os.utime(write(path, data), (1_700_000_000, 1_700_000_000))
+
+        for why in ("damaged", "lost", "retired"):
+            with self.subTest(why=why):
+                shutil.rmtree(self.archive, ignore_errors=True)
+                self.init("--delete", "acknowledged")
+                source()
+                self.add()
+                self.do("close")
+                os.rename(path, self.path("away"))
+                write(os.path.join(self.source, "g"), b"another")
+                self.add()
+                if why == "damaged":
+                    change_in(image, data)
+                else:
+                    os.unlink(image)
+                if why == "retired":
+                    self.do("retire", "T-000001")
+                shutil.copy(catalogue, kept)
+                self.do("check", status=None)
+                if why != "retired":
+                    self.do("retire", "T-000001")
+                source()
+                self.assertEqual(self.add("--delete-source").last()["deleted"], 2)
+                shutil.copy(kept, catalogue)
+                self.add(status=None)
+                self.assertEqual(self.do("where", "/s/f").objects()[0]["volume"], "T-000002")
+                self.do("get", "/s/f", self.path(why))
+                with open(self.path(why, "f"), "rb") as file:
+                    self.assertEqual(file.read(), data)
 
     def test_wrong_names_in_the_catalogue(self) -> None:
         import sqlite3

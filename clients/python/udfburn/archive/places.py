@@ -6,6 +6,8 @@ The catalogue says where to look. What it says of bytes counts for nothing here.
 from __future__ import annotations
 
 import os
+from contextlib import suppress
+from hashlib import sha256
 from itertools import zip_longest
 from typing import Callable, Dict, Iterator, List, Optional, Sequence, Set
 
@@ -46,6 +48,15 @@ class Reading:
         if self._lines is None:
             self._lines = set(rows_on(self.contents, self.contents.about().number))
         return held._replace(there=True) in self._lines
+
+    def holds(self, held: Held) -> bool:
+        """Whether all bytes of a row, which has the file as a whole, have its SHA-256, read now."""
+        file, whole = self.files.get(held.commit), sha256()
+        if file is None or held.parts is not None or file.path != held.stored_as():
+            return False
+        for piece in self.contents.pieces_of_row(file, held):
+            whole.update(piece)
+        return whole.digest() == held.sha256
 
     def is_there(self) -> bool:
         """Whether the image still has its name: one that is gone can be read as long as it is open."""
@@ -153,6 +164,14 @@ class Places:
         if any(self.says_on(path, held) for path in readable(self.config, self.catalogue, volume)):
             return True
         return self._why_not_remote(held._replace(parts=None), volume, self._others(volume)) is None
+
+    def holds(self, held: Held, volume: VolumeRow) -> bool:
+        """Whether an image or a copy in a folder shows now that a volume has all bytes of a row."""
+        for path in readable(self.config, self.catalogue, volume):
+            with suppress(VolumeDiffers):
+                if self._reading(path).holds(held):
+                    return True
+        return False
 
     def _others(self, volume: VolumeRow) -> List[str]:
         """The remotes with copies of a volume that are no folders."""

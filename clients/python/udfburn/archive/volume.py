@@ -22,12 +22,13 @@ from ..wire.operations import Operation, now
 from . import same_rows
 from .bag import manifest_size
 from .bundle import lists_on
-from .catalogue import STATE_NEW, STATE_OPEN, Catalogue, VolumeRow, image_of, is_whole
+from .catalogue import STATE_NEW, STATE_OPEN, STATE_RETIRED, Catalogue, Held, VolumeRow, image_of, is_whole
 from .claims import Claims
 from .config import Config, traces, volume_label
 from .contents import ABOUT, GONE, RUNS, SAME, TITLE, Contents, File
 from .deletions import events_on, replace_events
 from .errors import LOST, CatalogueError, VolumeDiffers
+from .places import Places
 from .same import count_of, rows_on
 from .schema import NUMBERS
 from .tail import cut_tail, sound_length
@@ -222,7 +223,8 @@ class OpenVolume:
         if contents.last_commit == self.row.last_commit:
             return False
         known = {held.commit for held in self.catalogue.of_volume(self.row.number)}
-        doubles = [file for file in contents.files() if file.commit not in known and self._is_elsewhere(contents, file)]
+        with closing(Places(self.config, self.catalogue)) as places:
+            doubles = [file for file in contents.files() if file.commit not in known and self._is_elsewhere(contents, file, places)]
         paths = [path for file in doubles for path in contents.stored_paths(file)]
         # Each takes a commit. Where the volume is that full they stay, and nothing is lost.
         if not paths or self.row.capacity - contents.medium.blocks < 64 * len(paths) + 2000:
@@ -243,12 +245,20 @@ class OpenVolume:
                 raise VolumeDiffers(f"{self.row.label}: {outcome.operation.path}: {outcome.code.name}: run the command again")
         self.load()
 
-    def _is_elsewhere(self, contents: Contents, file: File) -> bool:
-        """Whether the catalogue has all of a file's version on other volumes."""
+    def _is_elsewhere(self, contents: Contents, file: File, places: Places) -> bool:
+        """Whether other volumes have all of a file's version: those of this folder as this run sees, and others by the catalogue. An older
+        one may name a volume that was lost since, and the file here is all that there is."""
         rows = [row for row in self.catalogue.of_path(file.path) if row.volume != self.row.number and row.there]
         alike = [row for row in rows if (row.size, row.moment) == (file.size, file.moment)]
-        same = [row for row in alike if row.sha256 == contents.digest(file)] if alike else []
+        same = [row for row in alike if row.sha256 == contents.digest(file) and self._counts(row, places)] if alike else []
         return bool(same) and is_whole(same)
+
+    def _counts(self, row: Held, places: Places) -> bool:
+        """Whether another volume has the bytes of a row."""
+        volume = self.catalogue.volume(row.volume)
+        if volume is None or volume.state == STATE_RETIRED:
+            return False
+        return places.holds(row, volume) if volume.holder == self.config.id else volume.trouble is None
 
     def _agree(self, contents: Contents) -> None:
         known = self.catalogue.of_volume(self.row.number)
