@@ -2,7 +2,9 @@
 
 from __future__ import annotations
 
+import hashlib
 import os
+import shutil
 import subprocess
 import sys
 from typing import Dict, List, Set, Tuple
@@ -114,6 +116,31 @@ class Forged(WithArchive):
         done = self.do("rebuild", status=1)
         self.assertIn(f"/=b1.tar has {len(data)} bytes, and a bundle has at most 1048576", done.errors)
         self.assertEqual([row["path"] for row in self.rows()], sorted(["/f", *(row["path"] for row in self.before)]))
+
+    def test_parts_that_do_not_end_with_their_file(self) -> None:
+        """They count for nothing: no source goes for what `get` would not give back."""
+        path, data, kept = os.path.join(self.source, "x"), os.urandom(2 << 20), self.path("kept")
+        shutil.copytree(self.archive, kept)
+        text = self.described(len(data), 0, hashlib.sha256(data).hexdigest(), "first byte")
+        for index, part in enumerate((data + bytes(1 << 20), data + b"1", data[:-1], data[: (1 << 20) + 1])):
+            with self.subTest(size=len(part)):
+                shutil.rmtree(self.archive)
+                shutil.copytree(kept, self.archive)
+                image = self.forge("T-000002.img", "T-000002", self.about(), {}, "open")
+                with Client(f"image:{image}", ledger=self.path(f"{index}.ledger"), program=UDFBURN) as client:
+                    client.makedirs("/data/s/x")
+                    client.create("/data/s/x/=file.txt", text, Moment(1_700_000_000_000_000))
+                    client.put("/data/s/x/=000000000000000", part, Moment(1))
+                self.do("rebuild")
+                self.assertEqual(self.rows(), self.before)
+                os.utime(write(path, data), (1_700_000_000, 1_700_000_000))
+                self.assertEqual(self.do("add", path, "--at", "/s/x", "--delete-source").last()["deleted"], 1)
+                self.do("get", "/s/x", self.path("back", str(index)))
+                with open(self.path("back", str(index), "x"), "rb") as file:
+                    self.assertEqual(file.read(), data)
+                for name in os.listdir(self.room):
+                    if name.startswith("T-000002.img.ledger"):
+                        os.unlink(self.path(name))
 
     def test_labels(self) -> None:
         images = [self.forge(f"x{index}.img", label, self.about(), {"data/f": b"1"}) for index, label in enumerate(("T-000003", "../../x", "T-2", "T-000002 "))]

@@ -9,7 +9,7 @@ from typing import Iterable, List, NamedTuple, Optional, Sequence, Tuple
 
 from ..base.errors import SourceError
 from ..local.sources import Source, shown
-from ..protocol import Path
+from ..protocol import Path, limits
 from ..protocol.units import Commit, Moment
 from ..wire.operations import now
 from .bundling import in_bundles
@@ -25,7 +25,7 @@ from .exclude import Rules
 from .fill import Filler
 from .fresh import Fresh
 from .job import VolumeJob, file_of_row, has_same_parts
-from .names import kept_name, stored_folder
+from .names import kept_name, stored_folder, stored_part_name
 from .open_copies import OpenCopies
 from .repeats import LineToWrite, Repeats
 from .scan import ScannedFolder, Walk
@@ -233,8 +233,12 @@ class Adder:
                 file = file_of_row(contents, row)
                 if file is None or file.parts != row.parts or not has_same_parts(job.source, contents, file):
                     return False
+                first = (row.first or 0) + (row.parts or 0)
+                if file.whole + (stored_part_name(first * limits.FILE),) in contents.nodes:
+                    # What has the name of the next part is none of this file.
+                    return False
         except VolumeDiffers:
             return False
         job.whole, job.commit, job.volume, job.added, job.in_parts = file.whole, row.commit, row.volume, row.added, True
-        job.begun, job.first = row.first or 0, (row.first or 0) + (row.parts or 0)
+        job.begun, job.first = row.first or 0, first
         return True

@@ -262,11 +262,11 @@ class Contents:
             raise VolumeDiffers(f"{self.image}: {text_of(node.path)} does not describe a file in parts") from error
         nodes: List[StateNode] = []
         at = first * limits.FILE
-        # A part of which only the end of the file may follow ends the row.
-        while at < size and not at % limits.FILE and at in parts and parts[at].size:
+        # Each part ends with a mebibyte, or with the file.
+        while at in parts and parts[at].size and (at + parts[at].size == size or at + parts[at].size < size and not parts[at].size % limits.FILE):
             nodes.append(parts[at])
             at += parts[at].size
-        commit, count = self.commit_of(node), -(-min(at, size) // limits.FILE) - first
+        commit, count = self.commit_of(node), -(-at // limits.FILE) - first
         return File(path, version, node.path[:-1], tuple(nodes), size, node.moment or Moment(0), commit, self.added(commit), digest, first, count)
 
     def stored_paths(self, file: File) -> List[Path]:
