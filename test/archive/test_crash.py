@@ -366,6 +366,19 @@ class Catalogues(WithArchive):
         self.assertEqual(len({row["path"] for row in self.rows()}), 3)
         self.require_agreed()
 
+    def test_an_open_image_among_the_closed_ones(self) -> None:
+        """Where a user put it. `rebuild` would change nothing of that, so it is not asked for."""
+        self.init()
+        write(os.path.join(self.source, "f"), b"1")
+        self.add()
+        image, other = self.path("archive", "open", "T-000001.img"), self.path("archive", "closed", "T-000001.img")
+        os.rename(image, other)
+        write(os.path.join(self.source, "g"), b"2")
+        self.assertIn(f"{other}: holds no volume that was closed: move it into the folder 'open'", self.add(status=1).errors)
+        os.rename(other, image)
+        self.assertEqual(self.add().last()["files"], 1)
+        self.assertEqual(self.get_all(), digests(self.source))
+
     def test_an_older_catalogue_takes_nothing_off(self) -> None:
         """It names a volume for a file that is damaged, lost or retired by now. What another volume got since is all that there is."""
         path, data = os.path.join(self.source, "f"), b"the only one"

@@ -398,7 +398,10 @@ def own_volumes(config: Config, catalogue: Catalogue, claims: Claims, refused: D
         if row.holder == config.id and row.state in (STATE_NEW, STATE_OPEN) and claims.try_volume(row.number):
             # What another process did until it let go. A volume that was moved away is not written.
             fresh = catalogue.volume(row.number)
-            if fresh is not None and fresh.state in (STATE_NEW, STATE_OPEN) and is_closed(config, fresh):
+            image = config.path("closed", row.label + ".img")
+            if fresh is not None and fresh.state in (STATE_NEW, STATE_OPEN) and os.path.lexists(image):
+                if not was_closed(image):
+                    raise CatalogueError(f"{image}: holds no volume that was closed: move it into the folder 'open', or away if it is not meant")
                 raise CatalogueError(f"{fresh.label} is closed, which the catalogue does not know: it is older than the volumes: {REBUILD}")
             if fresh is not None and (fresh.state == STATE_NEW or fresh.state == STATE_OPEN and image_of(config, fresh)):
                 try:
@@ -409,9 +412,13 @@ def own_volumes(config: Config, catalogue: Catalogue, claims: Claims, refused: D
                     yield volume
 
 
-def is_closed(config: Config, row: VolumeRow) -> bool:
-    """Whether there is a closed image of a volume."""
-    return os.path.lexists(config.path("closed", row.label + ".img"))
+def was_closed(image: str) -> bool:
+    """Whether an image has a bag that was finished, or cannot be read."""
+    try:
+        with Contents(image) as contents:
+            return contents.is_bag()
+    except VolumeDiffers:
+        return True
 
 
 def open_new(config: Config, catalogue: Catalogue, claims: Claims, library: bool = False) -> OpenVolume:
