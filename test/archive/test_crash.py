@@ -7,9 +7,11 @@ import hashlib
 import os
 import random
 import shutil
+import sqlite3
 import subprocess
 import sys
 import time
+from contextlib import closing
 from typing import ContextManager, List
 
 from .support import (
@@ -320,8 +322,6 @@ class Catalogues(WithArchive):
         self.assertTrue([name for name in os.listdir(self.archive) if ".damaged-" in name])
 
     def test_a_wrong_catalogue(self) -> None:
-        import sqlite3
-
         self.init()
         make_tree(self.source, 40, 33)
         self.add()
@@ -365,6 +365,27 @@ class Catalogues(WithArchive):
         self.do("rebuild")
         self.assertEqual(len({row["path"] for row in self.rows()}), 3)
         self.require_agreed()
+
+    def test_rows_of_other_types(self) -> None:
+        """SQLite keeps any value in any column. Each command says what to do."""
+        self.init()
+        write(os.path.join(self.source, "f"), b"1" * 100)
+        write(os.path.join(self.source, "g"), b"1" * 100)
+        self.add()
+        before, base, kept = digests(self.source), self.path("archive", "catalogue.sqlite"), self.path("kept")
+        shutil.copy(base, kept)
+        for table, column in (("file", "sha256"), ("same", "target_path"), ("volume", "last_commit")):
+            with self.subTest(table=table, column=column):
+                shutil.copy(kept, base)
+                with closing(sqlite3.connect(base)) as connection, connection:
+                    connection.execute(f"UPDATE {table} SET {column} = ?", (b"abc" if column == "target_path" else "abc",))
+                for words in (["status"] if table == "volume" else ["ls", "-R", "/"], ["add", self.source, "--at", "/s"]):
+                    self.assertIn("'udfburn-archive rebuild' makes it again", self.do(*words, status=1).errors)
+                self.do("rebuild")
+                self.assertEqual(self.get_all(), before)
+                for name in os.listdir(self.archive):
+                    if name.startswith("catalogue"):
+                        os.unlink(os.path.join(self.archive, name))
 
     def test_an_open_image_among_the_closed_ones(self) -> None:
         """Where a user put it. `rebuild` would change nothing of that, so it is not asked for."""

@@ -17,7 +17,9 @@ from . import same_rows
 from .base import Base, Row, open_base
 from .config import Config
 from .errors import CatalogueError
-from .held import Held, as_of, below, folder_back, folder_text, held_row, is_whole, mebibytes_of, order, versions, volume_and_commit
+from .held import (
+    BYTES, COUNT, Held, as_of, below, folder_back, folder_text, held_row, is_whole, mebibytes_of, order, require_types, versions, volume_and_commit,
+)
 from .names import is_bundle, kept_name, name_back
 from .schema import CATALOGUE_VERSION, COMMITS, LISTED, upgrade_statements
 
@@ -79,6 +81,11 @@ class Copy(NamedTuple):
 
 
 VOLUME = ", ".join(VolumeRow._fields)
+VOLUME_TYPES = (
+    int, str, str, str, int, int, COUNT, int, int, int, int, int, int, int, COUNT, (*BYTES, type(None)), COUNT, COUNT, (str, type(None)),
+)
+"""The types of the values of a row of volumes."""
+
 KEPT_VOLUME = f"""
 INSERT INTO volume ({VOLUME}) VALUES ({", ".join("?" * len(VolumeRow._fields))}) ON CONFLICT (number) DO UPDATE SET
 {", ".join(f"{name} = excluded.{name}" for name in VolumeRow._fields[1:])}
@@ -393,6 +400,7 @@ def parts_of_name(row: Held) -> Optional[int]:
 
 def volume_row(row: Row) -> VolumeRow:
     """A row of volumes."""
+    require_types(row, VOLUME_TYPES)
     found = VolumeRow(*row)
     return found._replace(sha256=None if found.sha256 is None else bytes(found.sha256))
 

@@ -8,8 +8,18 @@ from ..base.manifest import PERCENT
 from ..protocol import Path, limits
 from ..protocol.units import Commit, Moment, Size
 from .base import Row
+from .errors import CatalogueError
 from .names import kept_name, name_back
 from .schema import COMMITS
+
+
+COUNT = (int, type(None))
+"""The types of a number that may be missing."""
+
+BYTES = (bytes, memoryview)
+
+FILE_TYPES = (int, str, int, int, BYTES, int, COUNT, COUNT)
+"""The types of the values of a row of files."""
 
 
 class Held(NamedTuple):
@@ -79,6 +89,7 @@ def folder_text(path: Path) -> str:
 
 def folder_back(text: str) -> Path:
     """The folder that the catalogue has, or the path that has the bytes of a line, which may be a bundle's: that has a slash in its name."""
+    require_types((text,), (str,))
     above, slashes, bundle = text.partition("//")
     return tuple(name_back(name) for name in above.split("/")[1:]) + (("/" + bundle,) if slashes else ())
 
@@ -102,8 +113,15 @@ def volume_and_commit(id: int) -> Tuple[int, Commit]:
     return volume, Commit(commit)
 
 
+def require_types(row: Row, types: Sequence[object]) -> None:
+    """Raises where a row has values of other types: SQLite keeps any, whoever wrote them."""
+    if not all(map(isinstance, row, types)):  # type: ignore[arg-type]
+        raise CatalogueError(f"the catalogue has a row that is none of an archive, {str(tuple(row))[:80]}: 'udfburn-archive rebuild' makes it again from the volumes")
+
+
 def held_row(folder: Path, row: Row) -> Held:
     """A row of files."""
+    require_types(row, FILE_TYPES)
     id, name, size, moment, sha256, added, first, count = row
     path = folder + (name_back(name),)
     return Held(*volume_and_commit(int(id)), path, Size(int(size)), Moment(int(moment)), bytes(sha256), Moment(int(added)), first, count)
@@ -149,4 +167,4 @@ def is_whole(group: Sequence[Held]) -> bool:
     return have >= mebibytes_of(group[0].size)
 
 
-__all__ = ["Held", "as_of", "below", "folder_back", "folder_text", "held_row", "is_whole", "line_path", "mebibytes_of", "order", "path_line", "versions", "volume_and_commit"]
+__all__ = ["Held", "as_of", "below", "folder_back", "folder_text", "held_row", "is_whole", "line_path", "mebibytes_of", "order", "path_line", "require_types", "versions", "volume_and_commit"]

@@ -7,7 +7,7 @@ from typing import TYPE_CHECKING, Dict, Iterable, Iterator, List, NamedTuple, Se
 from ..protocol import Path
 from ..protocol.units import Commit, Moment, Size
 from .base import Base, Row
-from .held import Held, below, folder_back, folder_text, is_whole, volume_and_commit
+from .held import BYTES, COUNT, Held, below, folder_back, folder_text, is_whole, require_types, volume_and_commit
 from .names import kept_name, name_back
 from .schema import COMMITS
 
@@ -26,6 +26,9 @@ ELSE there.size >= same.first_byte + same.size END"""
 MEMBER = f"same.first_byte IS NOT NULL AND same.target = same.volume * {COMMITS} + same.commit_number"
 """What the row of a member of a bundle is, beside those of lines that name bytes in bundles."""
 
+LINE_TYPES = (str, int, int, int, int, BYTES, int, int, str, COUNT, COUNT, COUNT, COUNT)
+"""The types of the values of a row of lines."""
+
 INSERT_LINE = """
 INSERT INTO same (folder, name, volume, commit_number, size, moment, sha256, added, target, target_path, first_part, part_count, first_byte)
 VALUES (?, ?, ?, ?, ?, ?, ?, ?, ?, ?, ?, ?, ?) ON CONFLICT (folder, name, volume, commit_number, target) DO UPDATE SET size = excluded.size,
@@ -36,6 +39,7 @@ first_part = excluded.first_part, part_count = excluded.part_count, first_byte =
 
 def line_row(folder: Path, row: Row) -> Held:
     """A row of lines."""
+    require_types(row, LINE_TYPES)
     name, number, commit, size, moment, sha256, added, target, at, first, count, start, there = row
     path, place = (*folder, name_back(name)), volume_and_commit(int(target))
     held = Held(*place, path, Size(int(size)), Moment(int(moment)), bytes(sha256), Moment(int(added)), first, count)
