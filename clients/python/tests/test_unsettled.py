@@ -21,7 +21,7 @@ from udfburn.reader.chain import Chain
 from udfburn.reader.survey import Survey
 from udfburn.salvage.salvage import FILE_UNPROVED, UNFINISHED, Salvage
 
-from .programs import UDFBURN, run_client
+from .programs import PACKAGE, UDFBURN, run_client
 from .salvaged import judged
 from .test_group import BLOCK, head
 from .test_mount import all_of, folder_at
@@ -80,7 +80,7 @@ class Unsettled(unittest.TestCase):
             yield
 
     def command(self, *words: str) -> "subprocess.CompletedProcess[str]":
-        return run_client([*words], {**os.environ, "UDFBURN_LEDGER": os.path.join(self.room, "none")})
+        return run_client([*words], {**os.environ, "PYTHONPATH": PACKAGE, "UDFBURN_LEDGER": os.path.join(self.room, "none")})
 
     def salvaged(self) -> Tuple[Dict[Path, bytes], List[bytes], List[str]]:
         """The files that come out under their paths, the bytes of those that were not finished, and what is said to be damaged."""
