@@ -18,7 +18,7 @@ from .base import Base, Row, open_base
 from .config import Config
 from .errors import CatalogueError
 from .held import (
-    BYTES, COUNT, Held, as_of, below, folder_back, folder_text, held_row, is_whole, mebibytes_of, order, require_types, versions, volume_and_commit,
+    BYTES, COUNT, ColumnTypes, Held, as_of, below, folder_back, folder_text, held_row, is_whole, mebibytes_of, order, require_types, versions, volume_and_commit,
 )
 from .names import is_bundle, kept_name, name_back
 from .schema import CATALOGUE_VERSION, COMMITS, LISTED, upgrade_statements
@@ -81,7 +81,7 @@ class Copy(NamedTuple):
 
 
 VOLUME = ", ".join(VolumeRow._fields)
-VOLUME_TYPES = (
+VOLUME_TYPES: ColumnTypes = (
     int, str, str, str, int, int, COUNT, int, int, int, int, int, int, int, COUNT, (*BYTES, type(None)), COUNT, COUNT, (str, type(None)),
 )
 """The types of the values of a row of volumes."""

@@ -2,7 +2,7 @@
 
 from __future__ import annotations
 
-from typing import Dict, Iterable, List, NamedTuple, Optional, Sequence, Tuple
+from typing import Dict, Iterable, List, NamedTuple, Optional, Sequence, Tuple, Union
 
 from ..base.manifest import PERCENT
 from ..protocol import Path, limits
@@ -12,13 +12,15 @@ from .errors import CatalogueError
 from .names import kept_name, name_back
 from .schema import COMMITS
 
+ColumnTypes = Sequence[Union[type, Tuple[type, ...]]]
+"""The types that the values of a row may have, column by column."""
 
 COUNT = (int, type(None))
 """The types of a number that may be missing."""
 
 BYTES = (bytes, memoryview)
 
-FILE_TYPES = (int, str, int, int, BYTES, int, COUNT, COUNT)
+FILE_TYPES: ColumnTypes = (int, str, int, int, BYTES, int, COUNT, COUNT)
 """The types of the values of a row of files."""
 
 
@@ -113,10 +115,12 @@ def volume_and_commit(id: int) -> Tuple[int, Commit]:
     return volume, Commit(commit)
 
 
-def require_types(row: Row, types: Sequence[object]) -> None:
+def require_types(row: Row, types: ColumnTypes) -> None:
     """Raises where a row has values of other types: SQLite keeps any, whoever wrote them."""
-    if not all(map(isinstance, row, types)):  # type: ignore[arg-type]
-        raise CatalogueError(f"the catalogue has a row that is none of an archive, {str(tuple(row))[:80]}: 'udfburn-archive rebuild' makes it again from the volumes")
+    if not all(isinstance(value, wanted) for value, wanted in zip(row, types)):
+        raise CatalogueError(
+            f"the catalogue has a row that is none of an archive, {str(tuple(row))[:80]}: 'udfburn-archive rebuild' makes it again from the volumes"
+        )
 
 
 def held_row(folder: Path, row: Row) -> Held:
@@ -167,4 +171,7 @@ def is_whole(group: Sequence[Held]) -> bool:
     return have >= mebibytes_of(group[0].size)
 
 
-__all__ = ["Held", "as_of", "below", "folder_back", "folder_text", "held_row", "is_whole", "line_path", "mebibytes_of", "order", "path_line", "require_types", "versions", "volume_and_commit"]
+__all__ = [
+    "BYTES", "COUNT", "ColumnTypes", "Held", "as_of", "below", "folder_back", "folder_text", "held_row", "is_whole", "line_path", "mebibytes_of", "order", "path_line",
+    "require_types", "versions", "volume_and_commit",
+]

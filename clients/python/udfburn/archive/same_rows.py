@@ -7,7 +7,7 @@ from typing import TYPE_CHECKING, Dict, Iterable, Iterator, List, NamedTuple, Se
 from ..protocol import Path
 from ..protocol.units import Commit, Moment, Size
 from .base import Base, Row
-from .held import BYTES, COUNT, Held, below, folder_back, folder_text, is_whole, require_types, volume_and_commit
+from .held import BYTES, COUNT, ColumnTypes, Held, below, folder_back, folder_text, is_whole, require_types, volume_and_commit
 from .names import kept_name, name_back
 from .schema import COMMITS
 
@@ -26,7 +26,7 @@ ELSE there.size >= same.first_byte + same.size END"""
 MEMBER = f"same.first_byte IS NOT NULL AND same.target = same.volume * {COMMITS} + same.commit_number"
 """What the row of a member of a bundle is, beside those of lines that name bytes in bundles."""
 
-LINE_TYPES = (str, int, int, int, int, BYTES, int, int, str, COUNT, COUNT, COUNT, COUNT)
+LINE_TYPES: ColumnTypes = (str, int, int, int, int, BYTES, int, int, str, COUNT, COUNT, COUNT, COUNT)
 """The types of the values of a row of lines."""
 
 INSERT_LINE = """
