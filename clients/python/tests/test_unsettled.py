@@ -14,9 +14,10 @@ from typing import Dict, Iterator, List, Sequence, Tuple
 
 from udfburn.base.progress import Progress
 from udfburn.mounting.image_view import ImageView
-from udfburn.protocol import Create, MakeDir, Message, Path, Remove, Replace
+from udfburn.protocol import Append, Create, MakeDir, Message, Path, Remove, Replace
 from udfburn.protocol.units import Moment
 from udfburn.reader import FileType, Medium, Volume
+from udfburn.reader.basics import EXTENT_BYTES
 from udfburn.reader.chain import Chain
 from udfburn.reader.survey import Survey
 from udfburn.salvage.salvage import FILE_UNPROVED, UNFINISHED, Salvage
@@ -47,20 +48,23 @@ LOST: List[Sequence[int]] = [(0,), (2,), (4,), (1, 3), (3, 4), (0, 1, 2, 3, 4)]
 """Which marks are zeros."""
 
 
-@unittest.skipUnless(UDFBURN, "UDFBURN names the program")
-class Unsettled(unittest.TestCase):
+class WithGroup(unittest.TestCase):
+    """An image that ends with a group."""
+
+    first, group, capacity = FIRST, GROUP, 3000
+
     def setUp(self) -> None:
         room = tempfile.TemporaryDirectory()
         self.addCleanup(room.cleanup)
         self.room, self.image = room.name, os.path.join(room.name, "disc.img")
-        format_image(self.image, capacity=3000)
-        apply_messages(self.image, FIRST)
+        format_image(self.image, capacity=self.capacity)
+        apply_messages(self.image, self.first)
         self.begin = os.path.getsize(self.image) // BLOCK
-        apply_messages(self.image, GROUP)
+        apply_messages(self.image, self.group)
         with Medium(self.image) as medium:
             self.blocks = medium.blocks
             self.marks = sorted(table.address for table in Volume(medium).chain() if table.address >= self.begin)
-        self.assertEqual((len(self.marks), self.marks[-1]), (len(GROUP), self.blocks - 1))
+        self.assertEqual((len(self.marks), self.marks[-1]), (len(self.group), self.blocks - 1))
         with open(self.image, "rb") as file:
             self.whole = file.read()
 
@@ -82,6 +86,9 @@ class Unsettled(unittest.TestCase):
     def command(self, *words: str) -> "subprocess.CompletedProcess[str]":
         return run_client([*words], {**os.environ, "PYTHONPATH": PACKAGE, "UDFBURN_LEDGER": os.path.join(self.room, "none")})
 
+
+@unittest.skipUnless(UDFBURN, "UDFBURN names the program")
+class Unsettled(WithGroup):
     def salvaged(self) -> Tuple[Dict[Path, bytes], List[bytes], List[str]]:
         """The files that come out under their paths, the bytes of those that were not finished, and what is said to be damaged."""
         with Medium(self.image) as medium:
@@ -183,6 +190,33 @@ class Unsettled(unittest.TestCase):
                 self.assertEqual([link.commit for link in links], list(range(8, -1, -1)))
                 self.assertEqual([link.broken for link in links], [()] * 9)
             self.assertEqual(volume.notes.all(), [])
+
+
+@unittest.skipUnless(UDFBURN, "UDFBURN names the program")
+class Versions(WithGroup):
+    """A group with several entries of a file: one that was appended to, and one whose bytes were replaced twice."""
+
+    FILM, capacity = bytes(range(256)) * (EXTENT_BYTES // 256) * 2 + b"the end", 5000
+    group = [
+        Create(7, 4, Moment(4), ("film",), FILM[:EXTENT_BYTES]),
+        Replace(7, 5, Moment(5), ("small",), b"first" * 1000),
+        Append(7, 6, Moment(6), ("film",), EXTENT_BYTES, FILM[EXTENT_BYTES : 2 * EXTENT_BYTES]),
+        Append(7, 7, Moment(7), ("film",), 2 * EXTENT_BYTES, FILM[2 * EXTENT_BYTES :]),
+        Replace(7, 8, Moment(8), ("small",), b"second" * 1000),
+    ]
+
+    def test_each_is_written(self) -> None:
+        """None is in the way of another, and what an append continued is written once."""
+        self.lose((4,))
+        into = os.path.join(self.room, "out")
+        done = self.command("salvage", self.image, into, "--accept-unproved")
+        self.assertEqual((done.returncode, done.stderr), (0, ""), done.stdout)
+        found = {}
+        for name in os.listdir(os.path.join(into, "lost+found")):
+            with open(os.path.join(into, "lost+found", name), "rb") as file:
+                found[name] = file.read()
+        self.assertEqual(sorted(found.values()), sorted([b"first" * 1000, b"second" * 1000, self.FILM]))
+        self.assertEqual(found["18.unfinished"], b"second" * 1000)
 
 
 if __name__ == "__main__":

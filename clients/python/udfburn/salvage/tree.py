@@ -387,17 +387,24 @@ class SalvageTree:
 
 
     def _add_unfinished(self) -> None:
-        """Takes the nodes of a commit that has no VAT ICB, as it was cut, or its last block is lost; and those of an unfinished group."""
-        names = {name.virtual: name for at in self.survey.nodes_after(self.link.address) for name in self._names_at(at)}
-        for at in self.survey.nodes_after(self.link.address):
+        """Takes the nodes of a commit that has no VAT ICB, as it was cut, or its last block is lost; and those of an unfinished group, which may
+        have several entries of a file: one that was appended to later is the beginning of that file."""
+        nodes = self.survey.nodes_after(self.link.address)
+        names = {name.virtual: name for at in nodes for name in self._names_at(at)}
+        met: Dict[int, List[Entry]] = {}
+        for at in reversed(nodes):
             block = self.medium.block(at)
             entry = mend_entry(block, Hint(number_of(at)), self.volume.budget) if block is not None else None
             if entry is None or entry.kind is not FileType.FILE:
                 continue
+            newer = met.setdefault(entry.unique, [])
+            if any(entry.first is not None and entry.first == other.first and entry.size <= other.size for other in newer):
+                continue
+            newer.append(entry)
             virtual = VirtualAddress(entry.location)
             name = names.get(virtual)
             called = f", and its name is {name.name}" if name is not None and name.unique == entry.unique else ""
-            path = (LOST_AND_FOUND, f"{entry.unique}.unfinished")
+            path = (LOST_AND_FOUND, f"{entry.unique}.unfinished" + (f"-{len(newer)}" if len(newer) > 1 else ""))
             cut = "the commit that wrote it has no VAT ICB: it was interrupted, or its last block is lost"
             why = (cut if at < self.volume.end else "it is of a group of commits that was not finished") + called
             self._put(Item(path, path, FileType.FILE, virtual, Version(entry, at, None), None, why, True))
