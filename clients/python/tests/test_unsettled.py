@@ -3,6 +3,7 @@ settled state, and no hole."""
 
 from __future__ import annotations
 
+import hashlib
 import io
 import json
 import os
@@ -20,7 +21,7 @@ from udfburn.reader import FileType, Medium, Volume
 from udfburn.reader.basics import EXTENT_BYTES
 from udfburn.reader.chain import Chain
 from udfburn.reader.survey import Survey
-from udfburn.salvage.salvage import FILE_UNPROVED, UNFINISHED, Salvage
+from udfburn.salvage.salvage import FILE_UNPROVED, FILE_WHOLE, UNFINISHED, Salvage
 
 from .programs import PACKAGE, UDFBURN, run_client
 from .salvaged import judged
@@ -217,6 +218,23 @@ class Versions(WithGroup):
                 found[name] = file.read()
         self.assertEqual(sorted(found.values()), sorted([b"first" * 1000, b"second" * 1000, self.FILM]))
         self.assertEqual(found["18.unfinished"], b"second" * 1000)
+
+
+@unittest.skipUnless(UDFBURN, "UDFBURN names the program")
+class Sealed(WithGroup):
+    """A group that replaces a file and writes the only manifest."""
+
+    MANIFEST = f"{hashlib.sha256(b'other' * 1500).hexdigest()}  d/kept\n{hashlib.sha256(b'small').hexdigest()}  small\n".encode()
+    group = [Replace(7, 4, Moment(4), ("d", "kept"), b"other" * 1500), Create(7, 5, Moment(5), ("manifest-sha256.txt",), MANIFEST)]
+
+    def test_its_manifest_damages_nothing(self) -> None:
+        """It lists the bytes after the group: a file that has those before is as it was stored, and one that agrees is whole."""
+        self.lose((1,))
+        with Medium(self.image) as medium:
+            found = Salvage(medium)
+            given = {outcome.path: (outcome.state, data) for outcome, data in (judged(found, item) for item in found.tree.items if item.kind is FileType.FILE)}
+        self.assertEqual(given[("d", "kept")], (FILE_UNPROVED, SETTLED["d", "kept"]))
+        self.assertEqual(given[("small",)], (FILE_WHOLE, b"small"))
 
 
 if __name__ == "__main__":

@@ -102,7 +102,7 @@ class Digests:
 
 class Manifest(NamedTuple):
     """A manifest that is on the volume: where it is had, the folder that it is of, its bytes, its own digest, whether some of its bytes
-    are missing, and the address of its entry."""
+    are missing or it is of no state, and the address of its entry."""
 
     path: Path
     folder: Path

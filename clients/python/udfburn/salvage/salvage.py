@@ -156,7 +156,9 @@ class Salvage:
             folder = folder_of(data, files) if is_nameless else path[:-1]
             if folder is not None:
                 left -= len(data)
-                found.append(Manifest(path, folder, data, hashlib.sha256(data).hexdigest(), bool(read.why), item.version.address))
+                # What a commit says that is not finished is of files that may be others in this state.
+                is_doubted = bool(read.why) or item.is_unfinished
+                found.append(Manifest(path, folder, data, hashlib.sha256(data).hexdigest(), is_doubted, item.version.address))
         self._manifests = add_manifests(self.digests, found, bags)
 
     def _seen(self) -> Iterator[FoundFile]:
