@@ -293,10 +293,26 @@ def long_lists() -> bytes:
     return forge.image()
 
 
+def junk_lines() -> bytes:
+    """A manifest of seven mebibytes, which are all one, and millions of lines that are none."""
+    forge = Forge()
+    forge.begin()
+    data = BlockNumber(forge.put(b"a\n" * (MEBIBYTE // 2)))
+    entry = Entry(FileType.FILE, MOMENT, 1, 16, Size(7 * MEBIBYTE), data, None, 2, 0, True, (data,) * 6)
+    forge.words.append(forge.put(write_entry(entry)))
+    parent, name = Name("", 1, 10), Name("manifest-sha256.txt", 2, 0)
+    listing = parent.spelled(forge.number) + name.spelled(forge.number)
+    forge.words[1] = forge.node(FileType.DIRECTORY, 0, len(listing), forge.put(listing), 1)
+    # What is larger may have more.
+    forge.put(bytes(BLOCK * (forge.left - 20)))
+    forge.table(1, 1, 1)
+    return forge.image()
+
+
 FORGED: Dict[str, Callable[[], bytes]] = {
     make.__name__: make for make in (
         one_data, own_entries, long_paths, one_file, one_table, many_tables, great_commits, wrong_entries, wrong_names, manifests, lost_files,
-        wrong_insides, long_lists,
+        wrong_insides, long_lists, junk_lines,
     )
 }
 

@@ -19,7 +19,10 @@ from unittest import mock
 
 from udfburn import Client
 from udfburn.base import errors as e
+from udfburn.base.manifest import MANIFESTS
+from udfburn.image.coverage import Coverage
 from udfburn.ledger.reading import ledger_to_read
+from udfburn.reader import Medium, Volume
 
 from .programs import UDFBURN, WithPrograms, run_client
 
@@ -265,6 +268,18 @@ class Checked(WithPrograms):
             told = self.run_command("check", "--data", self.image, where=[])
         self.assertIn("another process has this ledger, so only the manifests", told)
         self.assertIn("0 by the ledger, 27 by manifests", told)
+
+    def test_manifests_that_are_too_long(self) -> None:
+        """All that are read have a limit together. One that is left out is named, and its files are compared with nothing."""
+        with Medium(self.image) as medium:
+            volume = Volume(medium)
+            sizes = [node.size for node in volume.state().walk() if node.path[:1] == ("bag",) and node.path[-1] in MANIFESTS]
+            self.assertEqual(len(sizes), 2)
+            with mock.patch("udfburn.base.manifest.LONGEST_MANIFEST", sum(sizes) + 5):
+                coverage = Coverage(volume, volume.state())
+        why = f"what it lists is not compared, since 5 of {sum(sizes) + 5:,} bytes for manifests are left"
+        self.assertEqual(coverage.faults, [(("plain", MANIFESTS[0]), why)])
+        self.assertEqual({path[0] for path, node in coverage.nodes.items() if coverage.of(node)}, {"bag"})
 
 
 if __name__ == "__main__":

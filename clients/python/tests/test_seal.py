@@ -65,6 +65,10 @@ class Lines(unittest.TestCase):
             lines, faults = read_manifest(f"{bad}\n{digits}  good\n".encode(), False)
             self.assertEqual(([line.path for line in lines], len(faults)), ([("good",)], 1), bad)
         self.assertEqual(read_manifest(b"\xff", False), ([], ["it is not UTF-8"]))
+        # The first ones are named, and the others counted.
+        lines, faults = read_manifest(b"text\n" * 1300 + f"{digits}  good\n".encode(), True)
+        self.assertEqual(([line.path for line in lines], len(faults)), ([("good",)], 101))
+        self.assertEqual(faults[-2:], ["line 100 is none of a manifest", "after these, 1,200 more of its lines are none"])
 
 
 class Bags(WithPrograms):

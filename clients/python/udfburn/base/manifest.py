@@ -8,7 +8,7 @@ and no other character so. `sha256sum` puts a backslash before such a line, and 
 from __future__ import annotations
 
 import re
-from typing import Iterable, List, NamedTuple, Tuple
+from typing import Iterable, Iterator, List, NamedTuple, Tuple
 
 from ..protocol import Path, limits, name_fault
 
@@ -25,6 +25,9 @@ TAG_FILES = (*MANIFESTS, BAG_INFO, BAG_DECLARATION)
 
 LONGEST_MANIFEST = 1 << 26
 """Bytes of a manifest that is read, at most: the lines of all files of a volume have fewer, however long their paths are."""
+
+FAULTS_NAMED = 100
+"""The lines of a manifest that are none of which each is named, at most."""
 
 LONGEST_WRITTEN = limits.FILE
 """Bytes of a tag file that is written, at most: one request brings all of it."""
@@ -74,22 +77,34 @@ UNESCAPED = {"\\": "\\", "n": "\n", "r": "\r"}
 
 
 def read_manifest(data: bytes, bag: bool) -> Tuple[List[ManifestLine], List[str]]:
-    """The lines of a manifest, and what is wrong with those that are none."""
+    """The lines of a manifest, and what is wrong with those that are none. Of these the first ones are named, and the others counted."""
     lines: List[ManifestLine] = []
     faults: List[str] = []
+    more = 0
     try:
         text = data.decode()
     except UnicodeDecodeError:
         return [], ["it is not UTF-8"]
-    for number, row in enumerate(BAG_END.split(text) if bag else PLAIN_END.split(text), 1):
+    for number, row in enumerate(rows(text, bag), 1):
         if not row:
             continue
         found = bag_row(row) if bag else plain_row(row)
-        if found is None:
+        if found is not None:
+            lines.append(found)
+        elif len(faults) < FAULTS_NAMED:
             faults.append(f"line {number} is none of a manifest")
         else:
-            lines.append(found)
-    return lines, faults
+            more += 1
+    return lines, faults + ([f"after these, {more:,} more of its lines are none"] if more else [])
+
+
+def rows(text: str, bag: bool) -> Iterator[str]:
+    """The lines of a text one by one, as it may have more of them than fit into memory at once."""
+    at = 0
+    for end in (BAG_END if bag else PLAIN_END).finditer(text):
+        yield text[at : end.start()]
+        at = end.end()
+    yield text[at:]
 
 
 def bag_row(row: str) -> "ManifestLine | None":
@@ -123,5 +138,5 @@ def manifest_line(digits: str, name: str) -> "ManifestLine | None":
 
 __all__ = [
     "BAG_DECLARATION", "BAG_END", "BAG_INFO", "DECLARATION", "LONGEST_MANIFEST", "LONGEST_WRITTEN", "MANIFEST", "MANIFESTS", "ManifestLine",
-    "PAYLOAD_FOLDER", "TAG_FILES", "TAG_MANIFEST", "bag_manifest", "plain_manifest", "read_manifest",
+    "PAYLOAD_FOLDER", "TAG_FILES", "TAG_MANIFEST", "bag_manifest", "plain_manifest", "read_manifest", "rows",
 ]

@@ -5,7 +5,7 @@ from __future__ import annotations
 import re
 from typing import Collection, Dict, FrozenSet, Iterator, List, NamedTuple, Optional, Set
 
-from ..base.manifest import MANIFESTS
+from ..base.manifest import MANIFESTS, rows
 from ..protocol.units import Address
 from ..reader.volume import Path
 
@@ -40,9 +40,9 @@ def listed_lines(folder: Path, data: bytes, is_bag: bool) -> Iterator[Listed]:
         yield Listed(folder + tuple(part for part in name.split("/") if part not in ("", ".")), found[2].lower())
 
 
-def split_lines(data: bytes, is_bag: bool) -> List[str]:
+def split_lines(data: bytes, is_bag: bool) -> Iterator[str]:
     """The lines of a manifest that are not empty. In names both forms write what ends a line otherwise."""
-    return [line for line in re.split("\r\n|\r|\n" if is_bag else "\r?\n", data.decode("utf-8", "replace")) if line]
+    return filter(None, rows(data.decode("utf-8", "replace"), is_bag))
 
 
 class ManifestDigest(NamedTuple):
@@ -128,7 +128,7 @@ def add_manifests(digests: Digests, found: List[Manifest], bags: Set[Path]) -> D
         doubted = manifest.hurt or known is not None and manifest.digest not in known
         for path, digest in listed:
             digests.add(path, ManifestDigest(digest, manifest.address, doubted))
-        count = len(split_lines(manifest.data, manifest.folder in bags))
+        count = sum(1 for _ in split_lines(manifest.data, manifest.folder in bags))
         is_read = len(listed) == count and not manifest.hurt
         paths[manifest.path] = frozenset([path for path, _ in listed] + ([] if is_read and listed else [None]))
     return paths
@@ -152,7 +152,7 @@ def manifest_data(pieces: Iterator[bytes]) -> bytes:
 def folder_of(data: bytes, paths: Collection[Path]) -> Optional[Path]:
     """The folder of a manifest whose name is lost: the one in which most of its files are. None where the bytes are no manifest."""
     listed = list(listed_lines((), data, False))
-    if not listed or len(listed) < len(split_lines(data, False)):
+    if not listed or len(listed) < sum(1 for _ in split_lines(data, False)):
         return None
     first = [line.path for line in listed[:20]]
     folders = {path[: len(path) - len(end)] for end in first for path in paths if path[len(path) - len(end) :] == end}
