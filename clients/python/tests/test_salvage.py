@@ -7,13 +7,18 @@ import random
 import struct
 import tempfile
 import unittest
+from contextlib import closing
+from hashlib import sha256
 from typing import Callable, Dict, List, Optional, Tuple
 from unittest import mock
 
 from udfburn.protocol import Create, MakeDir, Message, Path, Remove, Rename, Replace
 from udfburn.protocol.units import Address, Commit
 from udfburn.reader import FileType, Medium, Volume
-from udfburn.salvage.salvage import FILE_DAMAGED, FILE_EARLIER, FILE_LOST, FILE_NAMELESS, FILE_UNPROVED, UNFINISHED, NothingToSalvage, Salvage, SalvageOutcome
+from udfburn.salvage.salvage import (
+    FILE_DAMAGED, FILE_EARLIER, FILE_LOST, FILE_NAMELESS, FILE_UNPROVED, FILE_WHOLE, UNFINISHED, NothingToSalvage, Salvage, SalvageOutcome,
+)
+from udfburn.salvage.write import Output
 
 from .model import Volume as Model
 from .programs import UDFBURN
@@ -202,6 +207,22 @@ class Salvaging(Damaged):
             files, _ = self.salvage()
             if state == FILE_DAMAGED:
                 self.assertEqual(files[path][1].rstrip(b"\0"), self.model.files()[path].rstrip(b"\0"))
+
+    def test_the_moment_of_a_lost_entry(self) -> None:
+        """A file that comes out whole by its digest has its own moment, and not that of its earlier entry."""
+        self.fill()
+        files = self.model.files()
+        self.send(Create, ("manifest-sha256.txt",), "".join(f"{sha256(data).hexdigest()}  {'/'.join(path)}\n" for path, data in files.items()).encode())
+        sound = self.blocks()
+        for path, moment in ((("d", "large"), 7_000_000), (("top",), 4_000_000)):
+            self.put(sound)
+            self.damage(self.node(*path)[0], 0, bytes(BLOCK))
+            with Medium(self.image) as medium, closing(Output(os.path.join(self.room, path[-1]))) as output:
+                outcome = next(outcome for outcome in Salvage(medium).outcomes(output) if outcome.path == path)
+            self.assertEqual((outcome.state, outcome.moment), (FILE_WHOLE, moment))
+            assert outcome.written is not None
+            written = os.stat(os.path.join(self.room, path[-1], outcome.written))
+            self.assertEqual((written.st_size, written.st_mtime_ns), (len(files[path]), moment * 1000))
 
     def test_a_node_without_a_name(self) -> None:
         """A new file whose listing is lost goes to lost+found by its unique ID."""

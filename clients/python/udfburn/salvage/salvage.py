@@ -9,7 +9,7 @@ from typing import Dict, FrozenSet, Iterable, Iterator, List, NamedTuple, Option
 from ..base.errors import UdfburnError
 from ..base.manifest import BAG_DECLARATION, LONGEST_MANIFEST
 from ..protocol import escaped
-from ..protocol.units import Address, Commit, Size
+from ..protocol.units import Address, Commit, Moment, Size
 from ..reader import FileType, Medium, Note, Volume
 from ..reader.audit import audit
 from ..reader.basics import EXTENT_BYTES, address_of, crc
@@ -59,6 +59,8 @@ class SalvageOutcome(NamedTuple):
     ranges: Ranges
     why: str
     written: Optional[str]
+    moment: Optional[Moment] = None
+    """Its moment, where it is known."""
 
 
 class CarvedFile(NamedTuple):
@@ -255,7 +257,7 @@ class Salvage:
         why = "; ".join(filter(None, (why, self._unread.get(item.path))))
         self._digests_met.add(digest)
         ranges = read.ranges if state == FILE_DAMAGED else ()
-        return SalvageOutcome(item.path, item.kind, state, count, item.commit, ranges, why, None)
+        return SalvageOutcome(item.path, item.kind, state, count, item.commit, ranges, why, None, entry.moment)
 
     def _give(self, pieces: Iterable[bytes], take: Take) -> Tuple[int, str]:
         """Has the bytes of a file taken. Gives their count, and their digest where any is kept."""
@@ -268,15 +270,25 @@ class Salvage:
         read = FileReading(self.volume, carved.before) if carved.before is not None else None
         count, digest = self._give(carved_pieces(read, carved), take)
         self._digests_met.add(digest)
+        moment = self._written_at(item)
         if read is not None and digest != carved.digest:
             # The medium gave other bytes the second time.
             why = read.why or "its bytes do not have the digest that is kept of them"
-            return SalvageOutcome(item.path, FileType.FILE, FILE_DAMAGED, count, item.commit, read.ranges, why, None)
+            return SalvageOutcome(item.path, FileType.FILE, FILE_DAMAGED, count, item.commit, read.ranges, why, None, moment)
         if item.kind is None:
-            return SalvageOutcome(item.path, FileType.FILE, FILE_NAMELESS, count, None, (), "no name leads to it, and its entry is lost" + self._called(digest), None)
+            why = "no name leads to it, and its entry is lost" + self._called(digest)
+            return SalvageOutcome(item.path, FileType.FILE, FILE_NAMELESS, count, None, (), why, None, moment)
         is_listed = item.version is not None and item.commit == item.version.commit or item.commit is None
         state = FILE_WHOLE if is_listed else FILE_EARLIER
-        return SalvageOutcome(item.path, FileType.FILE, state, count, item.commit if state == FILE_EARLIER else None, (), "", None)
+        return SalvageOutcome(item.path, FileType.FILE, state, count, item.commit if state == FILE_EARLIER else None, (), "", None, moment)
+
+    def _written_at(self, item: Item) -> Optional[Moment]:
+        """The moment of a file whose newest entry is lost: that of the table of the commit that wrote it."""
+        address = self.tree.address(item)
+        commits = self.chain.commit_of(address) if address is not None else None
+        index = self.chain.index_of(commits.commit) if commits is not None and commits.commit is not None else None
+        table = self.chain.links[index].table if index is not None else None
+        return table.moment if table is not None else None
 
     def _called(self, digest: str) -> str:
         """What a manifest says of the path of a file without a name."""
@@ -350,8 +362,7 @@ class Salvage:
             yield outcome
             return
         waiting[key] = outcome
-        moment = item.entry.moment if item.entry is not None else None
-        yield from written_outcomes(waiting, output.name(key, target_of(item, outcome), moment, tail_of(item)))
+        yield from written_outcomes(waiting, output.name(key, target_of(item, outcome), outcome.moment, tail_of(item)))
 
     def _unmet(self) -> Iterator[SalvageOutcome]:
         """Files that a manifest has and that were not met, where nodes without a name were: it is not known which these are."""
