@@ -193,6 +193,18 @@ class Faults(unittest.TestCase):
                 assert found is not None, at
                 self.assertEqual((found._replace(check=0), found.proved), (short, True), at)
 
+    def test_a_wrong_bit_of_a_size_or_a_place_is_mended(self) -> None:
+        """The last extent's length is in a descriptor block: what agrees with the blocks and the CRC is the size. These lie before the entry."""
+        wanted = entry_of(243, 5000)
+        short = wanted._replace(others=wanted.others[:115])
+        hint = Hint(BlockNumber(FIRST + descriptor_blocks(wanted.size)), 30)
+        for at, bit in [(56 + bit // 8, bit % 8) for bit in range(64)] + [(LAST + 4 + bit // 8, bit % 8) for bit in range(32)]:
+            block = bytearray(write_entry(wanted))
+            block[at] ^= 1 << bit
+            found = mend_entry(bytes(block), hint, Budget(0))
+            assert found is not None, (at, bit)
+            self.assertEqual((found._replace(check=0), found.proved), (short, True), (at, bit))
+
 
 if __name__ == "__main__":
     unittest.main()

@@ -79,6 +79,25 @@ class Entries(unittest.TestCase):
                 assert found is not None, at
                 self.assertEqual((found._replace(check=0), found.proved), (wanted, True), at)
 
+    def test_a_wrong_place_is_mended(self) -> None:
+        """An earlier entry has the extents before the last one, and that one ends where the entry is. Else nothing says where it was."""
+        for size in (EXTENT_BYTES + 1, 3 * EXTENT_BYTES, ENTRY_FILE - 5):
+            wanted = entry_of(size)
+            count, end = len(wanted.extents), wanted.extents[-1].end
+            for index in {0, count // 2, count - 1}:
+                for at in range(END + EXTENT.size * index + 4, END + EXTENT.size * index + 8):
+                    block = bytearray(write_entry(wanted))
+                    block[at] ^= 0x41
+                    is_last = index == count - 1
+                    firsts = tuple(extent.first for extent in wanted.extents[:-1])
+                    for hint, is_known in (
+                        (Hint(end, 30, firsts=firsts), True), (Hint(end, 30), is_last), (Hint(BlockNumber(end + 1), 30, firsts=firsts), not is_last),
+                        (Hint(end, 30, firsts=(BlockNumber(5), *firsts[1:])), is_last),
+                    ):
+                        found = mend_entry(bytes(block), hint, Budget(0))
+                        self.assertEqual(found is not None and found.proved, is_known, (size, at, hint))
+                        self.assertTrue(not is_known or found is not None and found._replace(check=0) == wanted, (size, at))
+
 
 class OnAVolume(unittest.TestCase):
     """Files that were appended."""
@@ -141,6 +160,20 @@ class OnAVolume(unittest.TestCase):
             volume = Volume(medium)
             check_data(Coverage(volume, volume.state()), (), lambda path, how, commit: told.append(path))
         return told
+
+    def test_a_wrong_place(self) -> None:
+        """A wrong byte in an entry, where it says where an extent is: the file is whole, by a digest and without one."""
+        with open(self.image, "rb") as file:
+            sound = file.read()
+        entry = (self.appender.words[4] + PARTITION) * BLOCK
+        for commit, state in ((None, FILE_WHOLE), (Commit(7), FILE_UNPROVED)):
+            for at in (4, 6, 16 + 5, 32 + 4, 32 + 7):
+                with open(self.image, "r+b") as file:
+                    file.seek(entry + END + at)
+                    file.write(bytes([sound[entry + END + at] ^ 0x21]))
+                self.assertEqual(self.salvaged(commit)["three"], (state, self.data["three"], ()), at)
+                with open(self.image, "wb") as file:
+                    file.write(sound)
 
     def test_a_lost_entry(self) -> None:
         """The newest entry is lost: by a digest the file is whole, and without it all is there but the last piece."""

@@ -193,6 +193,22 @@ class OneBlock(OnImage):
         outcome, data = self.salvaged(Commit(commits[-2]))
         self.assertEqual((outcome.state, len(data)), (FILE_UNPROVED, 117 * EXTENT_BYTES))
 
+    def test_a_wrong_place_in_the_entry(self) -> None:
+        """An extent would end past the partition, or past the VAT ICB. The earlier entry says where it is, and the descriptor block is read."""
+        for wrong in (struct.pack("<I", BLOCK_NUMBERS), struct.pack("<I", BLOCK_NUMBERS - 600)):
+            for index in (0, 3, 115):
+                sound = bytearray()
+
+                def change(block: bytearray) -> None:
+                    sound[:] = block
+                    block[176 + 16 * index + 4 : 176 + 16 * index + 8] = wrong
+
+                self.change(self.entry, change)
+                outcome, data = self.salvaged()
+                self.assertEqual((outcome.state, outcome.ranges, outcome.why), (FILE_UNPROVED, (), ""), index)
+                self.require_pieces(data)
+                self.change(self.entry, lambda block: block.__setitem__(slice(None), sound))
+
     def test_another_location(self) -> None:
         self.require_one(Fault(other_location, DamageCause.TAG, True, FILE_DAMAGED))
 

@@ -21,12 +21,14 @@ T = TypeVar("T")
 
 
 class Hint(NamedTuple):
-    """What is known of an entry from elsewhere: the block number at which it is, and what a table and a directory say."""
+    """What is known of an entry from elsewhere: the block number at which it is, and what a table and a directory say; and the first blocks of
+    extents that an earlier entry of the file has, since an append leaves these where they are."""
 
     number: BlockNumber
     location: Optional[int] = None
     unique: Optional[int] = None
     kind: Optional[FileType] = None
+    firsts: Tuple[BlockNumber, ...] = ()
 
 
 def unlike(values: Iterable[Optional[T]]) -> List[T]:
@@ -82,7 +84,7 @@ def possible_entries(block: bytes, hint: Hint, location: int) -> Iterator[Entry]
             for links in links_of(kind, fields.links):
                 yield Entry(kind, moment, links, unique, size, place, inside, location, read_tag(block).crc, True)
         if kind is FileType.FILE:
-            for size, firsts, following in lists(block, fields):
+            for size, firsts, following in lists(block, fields, hint):
                 yield Entry(kind, moment, 1, unique, size, firsts[0], None, location, read_tag(block).crc, True, firsts[1:], following)
 
 
@@ -103,18 +105,25 @@ def places(
                     yield size, place, None
 
 
-def lists(block: bytes, fields: EntryFields) -> Iterator[Tuple[Size, Tuple[BlockNumber, ...], Optional[BlockNumber]]]:
-    """The sizes and the first blocks of several extents that a file's entry may say, and the number of its first descriptor block."""
+def lists(block: bytes, fields: EntryFields, hint: Hint) -> Iterator[Tuple[Size, Tuple[BlockNumber, ...], Optional[BlockNumber]]]:
+    """The sizes and the first blocks of several extents that a file's entry may say, and the number of its first descriptor block. What is
+    right before the entry is its descriptor blocks, or its last extent."""
     for size in long_sizes(block, fields):
         found = [EXTENT.unpack_from(block, END + EXTENT.size * index)[1] for index in range(min(extent_count(size), ENTRY_DESCRIPTORS))]
-        firsts, further = tuple(found[: own_extents(size)]), descriptor_blocks(size)
-        is_below = all(first + blocks_of(extent_size(size, index)) <= BLOCK_NUMBERS for index, first in enumerate(firsts))
-        if is_below and (not further or found[-1] + further <= BLOCK_NUMBERS):
-            yield size, firsts, found[-1] if further else None
+        own, further = own_extents(size), descriptor_blocks(size)
+        said = tuple(found[:own])
+        before = BlockNumber(hint.number - (further or blocks_of(extent_size(size, own - 1))))
+        for firsts in unlike((said, hint.firsts[:own] + said[len(hint.firsts) :])):
+            for last in unlike((found[-1] if further else firsts[-1], before)):
+                extents, following = (firsts, last) if further else (firsts[:-1] + (last,), None)
+                is_below = all(0 <= first <= BLOCK_NUMBERS - blocks_of(extent_size(size, index)) for index, first in enumerate(extents))
+                if is_below and (following is None or 0 <= following <= BLOCK_NUMBERS - further):
+                    yield size, extents, following
 
 
 def long_sizes(block: bytes, fields: EntryFields) -> List[Size]:
-    """The sizes above a mebibyte that a file's entry may say: in their field, by its last descriptor, and by its blocks."""
+    """The sizes above a mebibyte that a file's entry may say: in their field, by its last descriptor, and by its blocks. Where descriptor
+    blocks have the last descriptor, they are those that differ from the field in a bit and take the blocks."""
     found = [fields.size]
     for count in (extent_count(fields.size), fields.allocation_length // EXTENT.size):
         if 1 < count <= ENTRY_DESCRIPTORS:
@@ -122,6 +131,8 @@ def long_sizes(block: bytes, fields: EntryFields) -> List[Size]:
             found.append(Size((count - 1) * EXTENT_BYTES + last % 2**30))
     if fields.blocks != blocks_of(fields.size):
         found.append(Size(fields.blocks * BLOCK))
+    changed = (Size(fields.size ^ 1 << bit) for bit in range(64))
+    found += [size for size in changed if blocks_of(size) == fields.blocks and extent_count(size) > ENTRY_DESCRIPTORS]
     return [size for size in unlike(found) if EXTENT_BYTES < size <= LONGEST_FILE]
 
 

@@ -124,17 +124,28 @@ class SalvageTree:
         self, address: Address, virtual: VirtualAddress, unique: Optional[int], kind: Optional[FileType], is_told: bool = False,
     ) -> Optional[Entry]:
         """The entry at an address, where it is that of this node. What is wrong there is noted where a table leads to it."""
-        block = self.medium.block(address)
-        entry = mend_entry(block, Hint(number_of(address), virtual, unique, kind), self.volume.budget) if block is not None else None
+        block, hint = self.medium.block(address), Hint(number_of(address), virtual, unique, kind)
+        entry = mend_entry(block, hint, self.volume.budget) if block is not None else None
         if is_told and block is None:
             self.notes.add(address, DamageCause.MISSING, "an entry cannot be read")
         elif is_told and block is not None:
             self.notes.extend(address, read_entry(block, virtual)[1])
+            if entry is None or not entry.proved:
+                entry = self._by_extents(block, hint, virtual) or entry
         if entry is None or entry.kind is FileType.TABLE or kind is not None and entry.kind is not kind:
             return None
         if unique is not None and entry.unique != unique:
             return None
         return entry if entry.location == virtual or entry.proved and unique is not None else None
+
+    def _by_extents(self, block: bytes, hint: Hint, virtual: VirtualAddress) -> Optional[Entry]:
+        """The entry of a file in which the place of an extent is wrong, where its CRC agrees with what the newest earlier entry has."""
+        for at, _ in self.versions(virtual, address_of(hint.number)):
+            older = self._entry(at, virtual, hint.unique, FileType.FILE)
+            if older is not None and older.proved and older.first is not None:
+                entry = mend_entry(block, hint._replace(firsts=(older.first, *older.others)), self.volume.budget)
+                return entry if entry is not None and entry.proved else None
+        return None
 
     def _newest(self, version: Version, virtual: VirtualAddress, unique: Optional[int], kind: Optional[FileType]) -> Version:
         """The entry that the table leads to; where no other table says so, as in a block of an older table, the newer of two."""
@@ -324,8 +335,8 @@ class SalvageTree:
 
     def _descriptors(self, entry: Entry, is_unfinished: bool = False) -> List[DescriptorBlock]:
         """The descriptor blocks of an entry; none where they do not lie below the VAT ICB."""
-        end = self.medium.blocks if is_unfinished else self.link.address
-        if entry.end > number_of(Address(end)) or not self._takes(Work.DESCRIPTORS, descriptor_blocks(entry.size)):
+        end, count = self.medium.blocks if is_unfinished else self.link.address, descriptor_blocks(entry.size)
+        if entry.descriptors is None or entry.descriptors + count > number_of(Address(end)) or not self._takes(Work.DESCRIPTORS, count):
             return []
         return read_descriptors(self.medium, entry)
 
