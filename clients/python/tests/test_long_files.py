@@ -236,6 +236,18 @@ class OneBlock(OnImage):
             block[12], block[16], block[20] = block[12] ^ 1, 7, 99
         self.require_one(Fault(wrong, DamageCause.TAG, True, FILE_UNPROVED))
 
+    def test_a_wrong_bit_of_a_descriptor(self) -> None:
+        """Lengths follow from the size, the place of the first extent is in an earlier entry, and the last one ends where the block is."""
+        for at in (BEGIN, BEGIN + 2, BEGIN + 3, BEGIN + 4, BEGIN + 9, BEGIN + 16, BEGIN + 17, BEGIN + 20, BEGIN + 31):
+            self.require_one(Fault(lambda block: block.__setitem__(at, block[at] ^ 1), DamageCause.TAG, True, FILE_UNPROVED))
+            self.change(self.entry - 1, lambda block: block.__setitem__(at, block[at] ^ 1))
+        for at in (BEGIN + 6, BEGIN + 23):
+            self.change(self.entry - 1, lambda block: block.__setitem__(at, block[at] ^ 1))
+            outcome, data = self.salvaged()
+            self.assertEqual((outcome.state, outcome.ranges), (FILE_UNPROVED, ()), at)
+            self.require_pieces(data)
+            self.change(self.entry - 1, lambda block: block.__setitem__(at, block[at] ^ 1))
+
     def test_missing(self) -> None:
         """A block that cannot be read is named, and so is the only extent that nothing else leads to."""
         gone, size = self.entry - 1 + PARTITION, os.path.getsize(self.image)
@@ -289,6 +301,13 @@ class TwoBlocks(OnImage):
     def test_it_leads_elsewhere(self) -> None:
         elsewhere = put(BEGIN + 2004, struct.pack("<I", 300))
         self.require_fault(self.entry - 2, Fault(elsewhere, DamageCause.EXTENT, True, FILE_UNPROVED))
+
+    def test_a_wrong_bit_of_a_descriptor(self) -> None:
+        """Of each block: the first one and the last one, its length and its place."""
+        for number, last in ((self.entry - 2, 124), (self.entry - 1, 1)):
+            for at in (BEGIN + 1, BEGIN + 4, BEGIN + 16 * last + 1, BEGIN + 16 * last + 4):
+                self.require_fault(number, Fault(lambda block: block.__setitem__(at, block[at] ^ 1), DamageCause.TAG, True, FILE_UNPROVED))
+                self.change(number, lambda block: block.__setitem__(at, block[at] ^ 1))
 
     def test_pieces_of_earlier_entries(self) -> None:
         """What a damaged block has is taken from the newest entry before that has it, block by block."""

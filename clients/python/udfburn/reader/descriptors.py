@@ -9,7 +9,7 @@ import struct
 from typing import List, NamedTuple, Optional, Sequence, Tuple
 
 from ..protocol.units import BlockNumber, Size
-from .basics import BLOCK_DESCRIPTORS, address_of, descriptor, read_tag, tag_faults
+from .basics import BLOCK_DESCRIPTORS, BLOCK_NUMBERS, address_of, blocks_of, descriptor, read_tag, tag_faults
 from .entry import EXTENT, LEADS_ON, Entry, descriptor_blocks, descriptor_faults, extent_count, extent_faults, extent_size, firsts_at, own_extents
 from .medium import Medium
 from .mend import confirms
@@ -26,7 +26,8 @@ class DescriptorBlock(NamedTuple):
     """What a descriptor block says, of which this is the number.
 
     `firsts` are the numbers of the first blocks of its extents; None where it cannot be read, or where they make no sense. `proved` says
-    that its CRC agrees with them, and its location with the block. `faults` are all that is not as it must be.
+    that its CRC agrees with them, and its location with the block. `faults` are all that is not as it must be. `data` is the block, where
+    there are some.
     """
 
     number: BlockNumber
@@ -34,6 +35,7 @@ class DescriptorBlock(NamedTuple):
     firsts: Optional[Tuple[BlockNumber, ...]]
     proved: bool
     faults: Faults
+    data: bytes = b""
 
 
 def extents_in(size: Size, index: int) -> range:
@@ -67,16 +69,27 @@ def read_descriptor_block(block: Optional[bytes], number: BlockNumber, size: Siz
     """What a block says as the descriptor block of this number, for some extents of a file of this size."""
     if block is None:
         return DescriptorBlock(number, extents, None, False, [StructureFault(DamageCause.MISSING, "a descriptor block cannot be read")])
+    said = said_firsts(block, len(extents))
     firsts = firsts_at(block, LIST_BEGIN, extents, size)
-    if firsts is None:
-        return DescriptorBlock(number, extents, None, False, list_faults(block, number, size, extents))
-    written = write_descriptor_block(number, size, extents, firsts)
-    if block == written:
-        return DescriptorBlock(number, extents, firsts, True, [])
-    tag = read_tag(block)
+    proved = is_list(block, number, size, extents, said)
+    if proved and block == write_descriptor_block(number, size, extents, said):
+        return DescriptorBlock(number, extents, said, True, [])
+    return DescriptorBlock(number, extents, said if proved else firsts, proved, list_faults(block, number, size, extents), block)
+
+
+def said_firsts(block: bytes, count: int) -> Tuple[BlockNumber, ...]:
+    """The numbers of the first blocks of so many extents, as a descriptor block says them, whatever else it says of these."""
+    return tuple(BlockNumber(EXTENT.unpack_from(block, LIST_BEGIN + EXTENT.size * place)[1]) for place in range(count))
+
+
+def is_list(block: bytes, number: BlockNumber, size: Size, extents: range, firsts: Sequence[BlockNumber]) -> bool:
+    """Whether a block was written as the descriptor block of this number with these first blocks: its CRC or its checksum says so."""
+    if not all(0 <= first <= BLOCK_NUMBERS - blocks_of(extent_size(size, index)) for index, first in zip(extents, firsts)):
+        return False
+    written, tag = write_descriptor_block(number, size, extents, firsts), read_tag(block)
     # A block of another place has another location, and a checksum that agrees with it.
     is_here = tag.location == number or block[4] == written[4] and not tag.agrees
-    return DescriptorBlock(number, extents, firsts, is_here and confirms(block, written), list_faults(block, number, size, extents))
+    return is_here and confirms(block, written)
 
 
 def list_faults(block: bytes, number: BlockNumber, size: Size, extents: range) -> Faults:
@@ -134,5 +147,6 @@ def with_descriptors(entry: Entry, blocks: Sequence[DescriptorBlock]) -> Optiona
 
 
 __all__ = [
-    "DESCRIPTOR_BLOCK", "DescriptorBlock", "extents_in", "note_descriptors", "read_descriptor_block", "read_descriptors", "with_descriptors", "write_descriptor_block", "write_descriptors",
+    "DESCRIPTOR_BLOCK", "DescriptorBlock", "extents_in", "is_list", "note_descriptors", "read_descriptor_block", "read_descriptors", "said_firsts", "with_descriptors",
+    "write_descriptor_block", "write_descriptors",
 ]

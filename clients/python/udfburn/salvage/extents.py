@@ -5,9 +5,9 @@ from __future__ import annotations
 from typing import Dict, Iterable, NamedTuple, Sequence
 
 from ..protocol.units import BlockNumber, Size
-from ..reader.basics import EXTENT_BYTES, UNUSED
-from ..reader.descriptors import DescriptorBlock
-from ..reader.entry import Entry, extent_count, own_extents
+from ..reader.basics import EXTENT_BYTES, UNUSED, blocks_of
+from ..reader.descriptors import DescriptorBlock, is_list, said_firsts
+from ..reader.entry import Entry, extent_count, extent_size, own_extents
 
 
 class EarlierEntry(NamedTuple):
@@ -34,6 +34,10 @@ def whole_entry(entry: Entry, blocks: Sequence[DescriptorBlock], earlier: Iterab
             if not missing or all(block.proved for block in older.blocks):
                 # Those before it have fewer extents.
                 break
+    for block in blocks:
+        if missing.intersection(block.extents):
+            certain.update(mended(entry, block, certain))
+            missing -= certain.keys()
     doubted = said(blocks, False)
     others = [certain.get(index, doubted.get(index, UNUSED)) for index in range(own, count)]
     return entry._replace(others=entry.others[: own - 1] + tuple(others), proved=entry.proved and not missing)
@@ -46,6 +50,20 @@ def said(blocks: Sequence[DescriptorBlock], proved: bool) -> Dict[int, BlockNumb
         if block.firsts is not None and (block.proved or not proved):
             found.update(zip(block.extents, block.firsts))
     return found
+
+
+def mended(entry: Entry, block: DescriptorBlock, certain: Dict[int, BlockNumber]) -> Dict[int, BlockNumber]:
+    """Where the extents of a damaged descriptor block begin, by what is certain, else by the block: where its CRC agrees with that. The data of
+    the last extent of a file ends where its descriptor blocks begin."""
+    if not block.data or entry.descriptors is None:
+        return {}
+    firsts = [certain.get(index, first) for index, first in zip(block.extents, said_firsts(block.data, len(block.extents)))]
+    last = block.extents[-1]
+    before = BlockNumber(entry.descriptors - blocks_of(extent_size(entry.size, last)))
+    for known in (firsts, [*firsts[:-1], before] if last == extent_count(entry.size) - 1 else firsts):
+        if is_list(block.data, block.number, entry.size, block.extents, known):
+            return dict(zip(block.extents, known))
+    return {}
 
 
 def is_beginning(older: Entry, entry: Entry) -> bool:
