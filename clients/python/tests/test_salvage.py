@@ -224,6 +224,20 @@ class Salvaging(Damaged):
             written = os.stat(os.path.join(self.room, path[-1], outcome.written))
             self.assertEqual((written.st_size, written.st_mtime_ns), (len(files[path]), moment * 1000))
 
+    def test_an_earlier_entry_in_place_of_the_last_one(self) -> None:
+        """An entry of an earlier commit lies where the last one of a commit was: the table of that commit is right, and leads to the newest one."""
+        self.fill()
+        with Medium(self.image) as medium:
+            volume = Volume(medium)
+            old, root = volume.state(Commit(2)).find(("d", "large")), volume.state().root()
+            assert old is not None and root is not None
+            self.assertEqual(root.address + 1, volume.table().first + 257)
+            earlier = medium.block(old.address)
+            assert earlier is not None
+        self.damage(root.address, 0, earlier)
+        files, _ = self.salvage()
+        self.assertEqual([path for path, data in self.model.files().items() if path not in files or files[path][:2] != (FILE_UNPROVED, data)], [])
+
     def test_a_node_without_a_name(self) -> None:
         """A new file whose listing is lost goes to lost+found by its unique ID."""
         self.fill()

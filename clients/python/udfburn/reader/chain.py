@@ -154,11 +154,12 @@ class Chain:
         return self.volume.data_of(link.table).data == self.volume.data_of(known.table).data
 
     def _misses_last(self, link: Link) -> bool:
-        """Whether the entry right before a table's data is of a node for which the table has an earlier one, or none."""
+        """Whether the entry right before a table's data is of a node for which the table has an earlier one, or none. An entry with another
+        moment than the table's is of another commit: it is a copy that does not belong there."""
         at = Address(link.start - 1)
         block = self.volume.medium.block(at)
         entry = mend_entry(block, Hint(number_of(at)), self.volume.budget) if block is not None and is_entry_like(block) else None
-        if link.table is None or entry is None or not entry.proved or entry.kind is FileType.TABLE:
+        if link.table is None or entry is None or not entry.proved or entry.kind is FileType.TABLE or link.table.moment not in (None, entry.moment):
             return False
         run = self.volume.data_of(link.table)
         words = read_entries(run.data[: link.table.size], link.table.length)
