@@ -169,6 +169,15 @@ class Unsettled(WithGroup):
                 self.assertEqual((found["commits"], found["files"], found["written"], found["left"]), (3, 2, self.begin, 3000 - self.begin))
                 self.assertEqual((found["loose"], found["notes"]), (self.blocks - self.begin, []))
 
+    def test_map(self) -> None:
+        """The picture has as many blocks left as `status` says."""
+        picture = os.path.join(self.room, "map.svg")
+        for lost, left in (((1,), 3000 - self.begin), ((), 3000 - self.blocks)):
+            self.lose(lost)
+            self.assertEqual(self.command("map", self.image, picture, "--program", UDFBURN).returncode, 0)
+            with open(picture, encoding="utf-8") as file:
+                self.assertIn(f"left: {left:,} blocks<", file.read())
+
     def test_a_copy_by_ddrescue(self) -> None:
         """Its map has what is after the last block, or has it not."""
         self.lose((1,))

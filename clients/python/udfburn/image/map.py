@@ -12,7 +12,9 @@ from ..base.beneath import open_medium
 from ..base.progress import plural, size
 from ..protocol import limits
 from ..protocol.units import Address
+from ..reader import Medium
 from ..reader.basics import PARTITION
+from ..reader.group import counted_blocks
 from .past import LoggedCommit, commits
 
 WIDTH, LEFT, RIGHT = 1200, 80, 28
@@ -55,7 +57,8 @@ def read_medium(image: str, program: str) -> Picture:
         label = dstring(file.read(32))
         file.seek(34 * limits.BLOCK + 192)
         (partition,) = struct.unpack("<I", file.read(4))
-        written = os.fstat(file.fileno()).st_size // limits.BLOCK
+    with Medium(image) as medium:
+        written = counted_blocks(medium)
     return Picture(os.path.basename(image), label, partition + PARTITION, written, known)
 
 
