@@ -269,6 +269,25 @@ class Checked(WithPrograms):
         self.assertIn("another process has this ledger, so only the manifests", told)
         self.assertIn("0 by the ledger, 27 by manifests", told)
 
+    def test_a_directory_that_cannot_be_read(self) -> None:
+        """It is not called missing."""
+        with open(self.image, "rb") as file:
+            sound = file.read()
+        for path, asked in (((), ""), (("bag",), "/bag"), (("bag",), "/bag/data/f03")):
+            with Medium(self.image) as medium:
+                node = Volume(medium).state().find(path)
+                assert node is not None
+            with open(self.image, "r+b") as file:
+                file.seek(node.address * 2048)
+                file.write(bytes(2048))
+            done = run_client(["check", "--data", self.image, *filter(None, [asked])], self.environment())
+            self.assertEqual(done.returncode, 1)
+            self.assertIn(f"/{'/'.join(path)}: its entry cannot be read: 'udfburn-client salvage' gives back what can be read", done.stderr)
+            self.assertNotIn("is not there", done.stderr)
+            with open(self.image, "wb") as file:
+                file.write(sound)
+        self.assertIn("/bag/none: is not there", run_client(["check", "--data", self.image, "/bag/none"], self.environment()).stderr)
+
     def test_manifests_that_are_too_long(self) -> None:
         """All that are read have a limit together. One that is left out is named, and its files are compared with nothing."""
         with Medium(self.image) as medium:

@@ -5,7 +5,7 @@ from __future__ import annotations
 from hashlib import sha256
 from typing import Callable, Dict, Iterator, List, Optional
 
-from ..base.errors import NotFound
+from ..base.errors import Damaged, NotFound
 from ..protocol import Path, show
 from ..protocol.units import Address, Commit
 from ..reader import FileType, StateNode
@@ -27,6 +27,9 @@ def check_data(coverage: Coverage, path: Path, found: OnDifference) -> Result:
     """Reads each file at or below a path, in the order of the medium, and compares it."""
     result = Result()
     if path not in coverage.nodes:
+        broken = next((top for top in ((), *coverage.broken) if top not in coverage.nodes and is_below(path, top)), None)
+        if broken is not None:
+            raise Damaged(f"{show(broken)}: its entry cannot be read: 'udfburn-client salvage' gives back what can be read")
         raise NotFound(show(path))
     coverage.look_at_manifests()
     for broken in coverage.broken:
