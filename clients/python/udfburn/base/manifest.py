@@ -85,7 +85,7 @@ def read_manifest(data: bytes, bag: bool) -> Tuple[List[ManifestLine], List[str]
         text = data.decode()
     except UnicodeDecodeError:
         return [], ["it is not UTF-8"]
-    for number, row in enumerate(rows(text, bag), 1):
+    for number, row in enumerate(manifest_rows(text, bag), 1):
         if not row:
             continue
         found = bag_row(row) if bag else plain_row(row)
@@ -98,7 +98,7 @@ def read_manifest(data: bytes, bag: bool) -> Tuple[List[ManifestLine], List[str]
     return lines, faults + ([f"after these, {more:,} more of its lines are none"] if more else [])
 
 
-def rows(text: str, bag: bool) -> Iterator[str]:
+def manifest_rows(text: str, bag: bool) -> Iterator[str]:
     """The lines of a text one by one, as it may have more of them than fit into memory at once."""
     at = 0
     for end in (BAG_END if bag else PLAIN_END).finditer(text):
@@ -138,5 +138,5 @@ def manifest_line(digits: str, name: str) -> "ManifestLine | None":
 
 __all__ = [
     "BAG_DECLARATION", "BAG_END", "BAG_INFO", "DECLARATION", "LONGEST_MANIFEST", "LONGEST_WRITTEN", "MANIFEST", "MANIFESTS", "ManifestLine",
-    "PAYLOAD_FOLDER", "TAG_FILES", "TAG_MANIFEST", "bag_manifest", "plain_manifest", "read_manifest", "rows",
+    "PAYLOAD_FOLDER", "TAG_FILES", "TAG_MANIFEST", "bag_manifest", "manifest_rows", "plain_manifest", "read_manifest",
 ]

@@ -5,7 +5,7 @@ from __future__ import annotations
 import re
 from typing import Collection, Dict, FrozenSet, Iterator, List, NamedTuple, Optional, Set
 
-from ..base.manifest import MANIFESTS, rows
+from ..base.manifest import MANIFESTS, manifest_rows
 from ..protocol.units import Address
 from ..reader.volume import Path
 
@@ -42,7 +42,7 @@ def listed_lines(folder: Path, data: bytes, is_bag: bool) -> Iterator[Listed]:
 
 def split_lines(data: bytes, is_bag: bool) -> Iterator[str]:
     """The lines of a manifest that are not empty. In names both forms write what ends a line otherwise."""
-    return filter(None, rows(data.decode("utf-8", "replace"), is_bag))
+    return filter(None, manifest_rows(data.decode("utf-8", "replace"), is_bag))
 
 
 class ManifestDigest(NamedTuple):

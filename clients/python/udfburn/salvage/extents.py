@@ -36,7 +36,7 @@ def whole_entry(entry: Entry, blocks: Sequence[DescriptorBlock], earlier: Iterab
                 break
     for block in blocks:
         if missing.intersection(block.extents):
-            certain.update(mended(entry, block, certain))
+            certain.update(mended_firsts(entry, block, certain))
             missing -= certain.keys()
     doubted = said(blocks, False)
     others = [certain.get(index, doubted.get(index, UNUSED)) for index in range(own, count)]
@@ -52,7 +52,7 @@ def said(blocks: Sequence[DescriptorBlock], proved: bool) -> Dict[int, BlockNumb
     return found
 
 
-def mended(entry: Entry, block: DescriptorBlock, certain: Dict[int, BlockNumber]) -> Dict[int, BlockNumber]:
+def mended_firsts(entry: Entry, block: DescriptorBlock, certain: Dict[int, BlockNumber]) -> Dict[int, BlockNumber]:
     """Where the extents of a damaged descriptor block begin, by what is certain, else by the block: where its CRC agrees with that. The data of
     the last extent of a file ends where its descriptor blocks begin."""
     if not block.data or entry.descriptors is None:
