@@ -14,7 +14,7 @@ from ..protocol.units import Commit, Moment
 from ..wire.connection import LONGEST_WAIT
 from ..wire.endpoint import Endpoint
 from ..wire.operations import Operation, Outcome, now
-from ..wire.pieces import data_of, queries_of
+from ..wire.pieces import and_node, bytes_as_seen, queries_of
 from ..wire.refusals import Answered, commit_of, expected, met
 from ..wire.retrying import RetryingConnection
 
@@ -235,10 +235,10 @@ class Client:
     def pieces(self, path: PathLike) -> Iterator[bytes]:
         """The bytes of a file, a mebibyte at a time."""
         with self.held():
-            queries = queries_of([path_of(path)], self.stat(path).size)
-            with closing(self.ask_all(queries)) as answers:
-                for query, answer in zip(queries, answers):
-                    yield data_of(query, answer)
+            node = self.stat(path)
+            queries = queries_of([path_of(path)], node.size)
+            with closing(self.ask_all(and_node(queries))) as answers:
+                yield from bytes_as_seen(queries, node, answers)
 
     def list(self, path: PathLike = "/") -> Tuple[Name, ...]:
         """The names in a directory, with their kinds, in stored order. Raises `NotFound` or `NotDirectory`."""

@@ -10,7 +10,7 @@ from ..base.older_parts import base_of, is_in_parts, part_folders, stored_paths
 from ..base.unfinished import is_unfinished
 from ..local.sources import Scan, Source, scan
 from ..protocol import Node, NodeKind, Path, Stat, limits, show
-from ..wire.pieces import queries_of
+from ..wire.pieces import and_node, is_still, queries_of
 from .jobs import same_bytes
 from .older_parts import faults_of_parts
 from .walk import StepTold, quiet, walk
@@ -84,30 +84,37 @@ def compare_kind(path: str, kind: Optional[NodeKind], wanted: NodeKind, result: 
     return False
 
 
-def of_other_size(client: Client, sources: List[Source], parts: Set[Path]) -> Set[Path]:
-    """The files of more than a mebibyte that have another size on the volume: they are read piece by piece, as far as the local ones go."""
+def nodes_of_large(client: Client, sources: List[Source], parts: Set[Path]) -> Dict[Path, Optional[Node]]:
+    """The nodes of the files of more than a mebibyte, which are read piece by piece; None of one that has another size than the local one."""
     large = [source for source in sources if source.path not in parts and source.identity.size > limits.FILE]
     with closing(client.ask_all(Stat(source.path) for source in large)) as answers:
-        return {source.path for source, node in zip(large, answers) if not isinstance(node, Node) or node.size != source.identity.size}
+        return {
+            source.path: node if isinstance(node, Node) and node.size == source.identity.size else None for source, node in zip(large, answers)
+        }
 
 
 def compare_files(client: Client, sources: List[Source], parts: Set[Path], result: Comparison, told: StepTold) -> List[Source]:
     """Compares the bytes of local files with those that are stored, of which these are in parts. Gives those with the same bytes."""
     equal: List[Source] = []
-    others = of_other_size(client, sources, parts)
+    nodes = nodes_of_large(client, sources, parts)
+    others = {path for path, node in nodes.items() if node is None}
     asked = [
         [] if source.path in others
         else queries_of(stored_paths(source.path, source.identity.size) if source.path in parts else [source.path], source.identity.size)
         for source in sources
     ]
-    with closing(client.ask_all(query for queries in asked for query in queries)) as answers:
-        for source, count in zip(sources, map(len, asked)):
+    with closing(client.ask_all(query for queries in asked for query in and_node(queries))) as answers:
+        for source, queries in zip(sources, asked):
+            failure = None
             try:
-                same = same_bytes(source, count, answers)
+                same = same_bytes(source, len(queries), answers)
             except SourceError as error:
-                result.differences.append((show(source.path), str(error)))
+                failure = str(error)
+            still = is_still(queries, nodes.get(source.path), answers)
+            if failure is not None:
+                result.differences.append((show(source.path), failure))
                 continue
-            same = same and source.path not in others
+            same = same and still and source.path not in others
             result.files += 1
             result.bytes += source.identity.size
             told("same" if same else "differs", source.path, source.identity.size, 0)

@@ -13,8 +13,8 @@ from ..base.errors import DiskFull, SourceError
 from ..base.escape import decode
 from ..local.saving import SAVING_PREFIX, Saver, failure_line, remove_leftovers, save
 from ..local.sources import exactly
-from ..protocol import Path, shown
-from ..wire.pieces import data_of, queries_of
+from ..protocol import Node, NodeKind, Path, shown
+from ..wire.pieces import and_node, bytes_as_seen, queries_of
 from .compare import Comparison, verify_tree
 from .stored import StoredFile, StoredTree, find_file
 from .walk import StepTold, quiet
@@ -27,8 +27,8 @@ if TYPE_CHECKING:
 def parts_of(client: Client, files: Sequence[StoredFile]) -> Iterator[Iterator[Tuple[StoredFile, Iterator[bytes]]]]:
     """Files with their bytes, part by part or piece by piece. Those of one are to be taken before the next."""
     asked = [queries_of(file.parts, file.size) for file in files]
-    with closing(client.ask_all(query for queries in asked for query in queries)) as answers:
-        yield ((file, (data_of(query, next(answers)) for query in queries)) for file, queries in zip(files, asked))
+    with closing(client.ask_all(query for queries in asked for query in and_node(queries))) as answers:
+        yield ((file, bytes_as_seen(queries, Node(NodeKind.FILE, file.moment, file.size), answers)) for file, queries in zip(files, asked))
 
 
 class Target(NamedTuple):

@@ -8,10 +8,10 @@ from typing import Dict, Iterator, List, Literal, NamedTuple, Optional, Sequence
 
 from ..base.errors import SourceError
 from ..local.sources import Source, read_parts
-from ..protocol import Data, Path, Query, limits
+from ..protocol import Answer, Data, Node, NodeKind, Path, Query, limits
 from ..protocol.units import Moment
 from ..wire.operations import Whole
-from ..wire.pieces import queries_of
+from ..wire.pieces import and_node, is_still, queries_of
 
 
 class ImportOptions(NamedTuple):
@@ -83,8 +83,13 @@ class Job:
         return self.failure is None and self.done == self.count and self.named
 
     def queries(self) -> List[Query]:
-        """The queries that give its pieces."""
-        return queries_of(self.parts, self.source.identity.size)
+        """The queries that give its pieces, and what the file is after these."""
+        return and_node(queries_of(self.parts, self.source.identity.size))
+
+    def is_still(self, answers: Iterator[Answer]) -> bool:
+        """Whether others did not change it while its pieces were read, by the last answer to its queries."""
+        node = Node(NodeKind.FILE, self.moment, self.source.identity.size) if self.moment is not None else None
+        return is_still(queries_of(self.parts, self.source.identity.size), node, answers)
 
     def of_whole(self) -> Whole:
         """The whole file, once all of its pieces were read."""
@@ -118,14 +123,15 @@ def same_bytes(source: Source, count: int, answers: Iterator[object]) -> bool:
 
 
 def reads_back(job: Job, answers: Iterator[object]) -> bool:
-    """Whether answers have the bytes that were sent. As many are taken as the file has pieces."""
+    """Whether answers have the bytes that were sent, and no others after them. As many are taken as the file has queries."""
     read, same = sha256(), True
     for wanted in job.digests:
         answer = next(answers)
         if same and isinstance(answer, Data):
             read.update(answer.data)
         same = same and isinstance(answer, Data) and read.digest() == wanted
-    return same
+    node = next(answers) if job.grows else None
+    return same and (node is None or isinstance(node, Node) and node.size == job.source.identity.size)
 
 
 __all__ = ["ImportOptions", "ImportSummary", "Job", "reads_back", "same_bytes", "same_pieces"]

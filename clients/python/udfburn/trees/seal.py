@@ -17,7 +17,7 @@ from ..base.unfinished import is_unfinished
 from ..ledger.digests import SentFile
 from ..protocol import AnyRequest, Code, Create, Node, NodeKind, Path, Replace, Stat, printed, show
 from ..wire.operations import Operation, now
-from ..wire.pieces import data_of, queries_of
+from ..wire.pieces import and_node, bytes_as_seen, queries_of
 from ..wire.refusals import expected, refusal
 from .client import Client
 from .walk import StepTold, quiet, walk
@@ -149,9 +149,9 @@ def nodes_of(client: Client, paths: List[Path]) -> Dict[Path, Node]:
 def with_pieces(client: Client, nodes: Dict[Path, Node]) -> Iterator[Tuple[Path, Node, Iterator[bytes]]]:
     """Files with their nodes and their bytes, in pieces. Those of one are to be taken before the next."""
     asked = [queries_of([path], node.size) for path, node in nodes.items()]
-    with closing(client.ask_all(query for queries in asked for query in queries)) as answers:
+    with closing(client.ask_all(query for queries in asked for query in and_node(queries))) as answers:
         for (path, node), queries in zip(nodes.items(), asked):
-            yield path, node, (data_of(query, next(answers)) for query in queries)
+            yield path, node, bytes_as_seen(queries, node, answers)
 
 
 def require_agreement(found: FilesRead) -> None:

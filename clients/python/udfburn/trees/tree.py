@@ -342,6 +342,8 @@ class Importer:
                 # One that cannot be read is reported when it is stored.
                 with suppress(SourceError):
                     job.same = same_pieces(job.source, job.count, answers)
+                if not job.is_still(answers):
+                    job.same = {}
         self.same = [job for job in jobs if len(job.same) == job.count]
         found.same = [job.source for job in self.same]
         if self.options.moment == "mtime":
