@@ -72,7 +72,7 @@ class Digests(WithServer):
             client.create("/a", b"x")
         with closing(sqlite3.connect(self.ledger)) as base, base:
             base.execute("UPDATE request SET sha256 = NULL")
-        with self.assertRaisesRegex(ValueError, "^request 1 stored a file, and its digest is not known$"):
+        with self.assertRaisesRegex(e.LedgerError, r"ledger\.sqlite: is not a ledger \(request 1 stored a file, and its digest is not known\)"):
             self.files()
 
     def test_appended_to_by_an_earlier_version(self) -> None:

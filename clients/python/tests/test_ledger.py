@@ -2,6 +2,7 @@
 
 from __future__ import annotations
 
+import copy
 import os
 import random
 import resource
@@ -19,6 +20,7 @@ from unittest import mock
 from udfburn.base import errors as e
 from udfburn import protocol as p
 from udfburn.ledger.ledger import KnownVolume as Known, LOG_BYTES, Ledger, Lock, Pending, Reply
+from udfburn.ledger.records import LARGE_DATA
 from udfburn.protocol.units import Commit, Moment
 from udfburn.wire.operations import Operation
 from udfburn.trees.tree import ImportOptions, put_all
@@ -117,6 +119,41 @@ class Ledgers(WithServer):
                 self.assertIn(self.ledger, str(error))
                 met += 1
         self.assertGreater(met, 1)
+
+    def test_values_that_no_ledger_has(self) -> None:
+        """Whatever is in a row, the error names the file where it is none that a ledger has, and nothing else is raised than an error of the client."""
+        large = os.path.join(self.room, "large")
+        with open(large, "wb") as file:
+            file.write(bytes(p.limits.FILE + LARGE_DATA))
+        self.server.before = lambda payload: p.FAULT if request_of(payload) and self.volume.commits == 2 else None
+        with self.client(patience=0.1) as client, self.assertRaises(e.DriveFailed):
+            client.create("/a", b"a")
+            client.mkdir("/b")
+            put_all(client, [(large, ("large",))], ImportOptions())
+        self.server.before = lambda payload: None
+        with closing(sqlite3.connect(self.ledger)) as base:
+            base.execute("PRAGMA journal_mode = DELETE")
+            tables = ("ledger", "volume", "way", "request", "frame")
+            columns = {table: [row[1] for row in base.execute(f"PRAGMA table_info({table})")] for table in tables}
+        whole, met = Path(self.ledger).read_bytes(), 0
+        values = [-1, 99, 1 << 40, 1 << 62, -(1 << 63), 1.5, "x", "/x", b"/", bytes(p.limits.PAYLOAD + 1), "/" + "x/" * 300]
+        for table, column, value in [(table, column, value) for table in columns for column in columns[table] for value in [None, *values]]:
+            Path(self.ledger).write_bytes(whole)
+            self.server.volume = copy.deepcopy(self.volume)
+            try:
+                with closing(sqlite3.connect(self.ledger)) as base, base:
+                    where = {"request": " WHERE number = (SELECT max(number) FROM request)", "frame": " WHERE origin IS NOT NULL"}.get(table, "")
+                    base.execute(f"UPDATE {table} SET {column} = ?{where}", (value,))
+            except sqlite3.Error:
+                continue
+            with self.subTest(table=table, column=column, value=str(value)[:40]):
+                try:
+                    with self.client(patience=0.0) as client:
+                        client.resume()
+                        client.known_files()
+                except e.UdfburnError as error:
+                    met += str(error).startswith(f"{self.ledger}: is not a ledger")
+        self.assertGreater(met, 100)
 
     def test_a_lock_that_was_taken_away(self) -> None:
         """Who waits for the lock of what is no ledger does not have a lock that nobody else sees."""

@@ -11,9 +11,9 @@ from contextlib import closing
 from unittest import mock
 
 from udfburn.base import errors as e
-from udfburn.ledger.ledger import GREATEST_NUMBER, Ledger, Pending, Reply
+from udfburn.ledger.ledger import Ledger, Pending, Reply
 from udfburn.ledger.reading import ledger_to_read
-from udfburn.ledger.records import NOT_KEPT
+from udfburn.ledger.records import GREATEST_NUMBER, NOT_KEPT
 from udfburn.protocol.units import Commit
 
 

@@ -52,9 +52,12 @@ class Files:
         self.now: Dict[Path, SentFile] = {}
         self.by_commit: Dict[Commit, SentFile] = {}
         self._wholes: Dict[Path, KnownWhole] = {}
-        for sent in ledger.sent(volume):
-            if sent.code == Code.DONE and sent.confirmed:
-                self._take(sent)
+        try:
+            for sent in ledger.sent(volume):
+                if sent.code == Code.DONE and sent.confirmed:
+                    self._take(sent)
+        except ValueError as error:
+            raise ledger.unusable(error) from error
         self.wholes = {path: whole for path, whole in self._wholes.items() if self._is_there(whole)}
 
     def _take(self, sent: Sent) -> None:

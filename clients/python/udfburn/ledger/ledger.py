@@ -11,7 +11,7 @@ import os
 import sqlite3
 import time
 from contextlib import contextmanager
-from typing import Any, Dict, Iterable, Iterator, List, Mapping, Optional, Sequence, Set, Tuple, Union
+from typing import Any, Callable, Dict, Iterable, Iterator, List, Mapping, Optional, Sequence, Set, Tuple, TypeVar, Union
 
 from ..base.disk import why_base_failed
 from ..base.durable import make_folder, sync_file, sync_folder
@@ -20,12 +20,12 @@ from ..protocol import limits
 from ..protocol.units import Commit
 from .file import Lock, default_path, is_ledger, lengthen, open_private_base, remove_if_there
 from .records import (
-    FACTS, GIVEN_UP, NOT_KEPT, ORIGIN, PLACES, Identity, KnownVolume, Mark, Pending, Reply, Sent, facts_row, origin_row, row_facts, row_origin,
+    FACTS, GIVEN_UP, GREATEST_NUMBER, ORIGIN, PLACES, Identity, KnownVolume, Mark, Pending, Reply, Sent, facts_row, origin_row, pending_of,
+    row_reply, row_way, sent_of, volume_of, whole_number,
 )
 from .schema import KEPT_FRAME, LEDGER_VERSION, SCHEMA, frame_place, statements, upgrade
 
-GREATEST_NUMBER = (1 << 63) - 1
-"""The greatest number that the ledger's columns hold."""
+Made = TypeVar("Made")
 
 SELECT_LATEST = """
 SELECT max(latest, coalesce(
@@ -107,7 +107,7 @@ class Ledger:
                 raise ValueError("it has no client, though it was just made")
             return base, client
         except (sqlite3.DatabaseError, TypeError, ValueError) as error:
-            raise self._unusable(error) from error
+            raise self.unusable(error) from error
 
     def _begin(self, wanted: Optional[int]) -> Tuple[sqlite3.Connection, Optional[int]]:
         base = open_private_base(self.path)
@@ -122,7 +122,7 @@ class Ledger:
             raise
         return base, client
 
-    def _unusable(self, error: Exception) -> LedgerError:
+    def unusable(self, error: Exception) -> LedgerError:
         """What is reported if the database cannot be opened, or is not a ledger's."""
         if isinstance(error, sqlite3.OperationalError) and not str(error).startswith("no such"):
             return LedgerError(f"{self.path}: cannot be written ({error}): {why_base_failed(self.path, error)}")
@@ -135,7 +135,7 @@ class Ledger:
         version, client = base.execute("SELECT version, client FROM ledger").fetchone()
         if not 0 < version <= LEDGER_VERSION:
             raise LedgerError(f"{self.path}: has version {version}, and this program knows those up to {LEDGER_VERSION}: use a newer program")
-        number = int(client)
+        number = whole_number(int(client), 1, limits.U64)
         if wanted is not None and wanted != number:
             raise LedgerError(
                 f"{self.path}: is the ledger of client {client}, not {wanted}: leave --client out, or name another ledger"
@@ -158,7 +158,7 @@ class Ledger:
             sync_file(new)
             os.rename(new, self.path)
         except sqlite3.Error as error:
-            raise self._unusable(error) from error
+            raise self.unusable(error) from error
         finally:
             remove_if_there(new)
         sync_folder(os.path.dirname(self.path))
@@ -206,18 +206,22 @@ class Ledger:
         return self._volumes("ORDER BY id")
 
     def _volumes(self, where: str, *values: object) -> List[KnownVolume]:
-        return [volume_of(row) for row in self._rows(f"{SELECT_VOLUMES} {where}", *values)]
+        return self._read(volume_of, f"{SELECT_VOLUMES} {where}", *values)
 
-    def _rows(self, statement: str, *values: object) -> List[Any]:
-        """The rows that a statement gives."""
+    def _read(self, make: Callable[[Any], Made], statement: str, *values: object) -> List[Made]:
+        """What the rows say that a statement gives. Raises where they are none that a ledger has."""
         try:
-            return self._base.execute(statement, values).fetchall()
-        except sqlite3.Error as error:
-            raise self._unusable(error) from error
+            return [make(row) for row in self._base.execute(statement, values).fetchall()]
+        except (sqlite3.Error, ValueError) as error:
+            raise self.unusable(error) from error
+
+    def _number(self, statement: str, *values: object) -> int:
+        """The number that a statement gives; 0 where it gives none."""
+        return self._read(lambda row: whole_number(row[0] or 0), statement, *values)[0]
 
     def ways(self, volume: KnownVolume) -> List[Union[str, bytes]]:
         """The ways that lead to a volume."""
-        return [way for (way,) in self._rows("SELECT way FROM way WHERE volume = ? ORDER BY way", volume.id)]
+        return self._read(lambda row: row_way(row[0]), "SELECT way FROM way WHERE volume = ? ORDER BY way", volume.id)
 
     def learn(self, way: Union[str, bytes], latest: int, replies: Mapping[int, Tuple[int, Commit]] = {}) -> KnownVolume:
         """Keeps a volume that is met for the first time: the number that it knows of this client, and the codes and commits of the
@@ -259,26 +263,26 @@ class Ledger:
 
     def begun(self, volume: KnownVolume) -> int:
         """The number that the volume knew of this client when it was first met."""
-        return int(self._rows("SELECT latest FROM volume WHERE id = ?", volume.id)[0][0])
+        return self._number("SELECT latest FROM volume WHERE id = ?", volume.id)
 
     def found(self, volume: KnownVolume) -> Dict[int, Tuple[int, Commit]]:
         """Code and commit of each reply that the volume kept when it was first met, by number."""
-        rows = self._rows("SELECT number, code, commit_number FROM found WHERE volume = ?", volume.id)
-        return {number: (code, commit) for number, code, commit in rows}
+        statement = "SELECT number, code, commit_number FROM found WHERE volume = ?"
+        return dict(self._read(lambda row: (whole_number(row[0], 1), row_reply(*row[1:])), statement, volume.id))
 
     # ---- requests
 
     def pending(self, volume: KnownVolume) -> List[Pending]:
         """The requests without a reply, in order of their numbers."""
-        return [pending_of(row) for row in self._rows(PENDING, volume.id)]
+        return self._read(pending_of, PENDING, volume.id)
 
     def latest(self, volume: KnownVolume) -> int:
         """The number of the last request with a reply."""
-        return int(self._rows(f"SELECT ({SELECT_LATEST}) FROM volume WHERE id = ?", volume.id)[0][0])
+        return self._number(f"SELECT ({SELECT_LATEST}) FROM volume WHERE id = ?", volume.id)
 
     def last_commit(self, volume: KnownVolume) -> Commit:
         """The greatest commit that was acknowledged."""
-        return Commit(int(self._rows(LAST_COMMIT, volume.id, volume.id)[0][0] or 0))
+        return Commit(self._number(LAST_COMMIT, volume.id, volume.id))
 
     def record(self, volume: KnownVolume, replies: Sequence[Reply], requests: Sequence[Pending]) -> None:
         """Keeps replies that came and requests that are to be sent, as one: durable when it returns."""
@@ -317,7 +321,7 @@ class Ledger:
                 if self._base.in_transaction:
                     self._base.execute("ROLLBACK")
         except sqlite3.Error as error:
-            raise self._unusable(error) from error
+            raise self.unusable(error) from error
 
     def confirm(self, volume: KnownVolume, numbers: Iterable[int]) -> None:
         """Marks replies as those that the tree agrees with."""
@@ -344,24 +348,7 @@ class Ledger:
 
     def sent(self, volume: KnownVolume, after: int = 0) -> List[Sent]:
         """Each request that is kept above a number, in order of the numbers."""
-        rows = self._rows(f"{SELECT_SENT} WHERE volume = ? AND number > ? ORDER BY number", volume.id, after)
-        return [
-            Sent(n, path, row_facts(path, facts), None if code == NOT_KEPT else code, commit, bool(ok)) for n, path, code, commit, ok, *facts in rows
-        ]
-
-
-def volume_of(row: Sequence[Any]) -> KnownVolume:
-    """The volume of a row."""
-    number, way, latest, unsettled, label, formatted, capacity, commit, address, check = row
-    identity = None if label is None else Identity(label, formatted, capacity)
-    mark = None if check is None else Mark(commit, address, check)
-    return KnownVolume(number, way, latest, bool(unsettled), identity, mark)
-
-
-def pending_of(row: Sequence[Any]) -> Pending:
-    """The request of a row."""
-    number, payload, path, *rest = row
-    return Pending(number, payload, path, row_facts(path, tuple(rest[: len(FACTS)])), row_origin(tuple(rest[len(FACTS) :])))
+        return self._read(sent_of, f"{SELECT_SENT} WHERE volume = ? AND number > ? ORDER BY number", volume.id, after)
 
 
 __all__ = ["KnownVolume", "LOG_BYTES", "Ledger", "Lock", "Pending", "Reply", "default_path"]

@@ -5,7 +5,7 @@ from __future__ import annotations
 import os
 from typing import NamedTuple, Optional, Union
 
-from ..protocol import AnyRequest, Append, Create, Kind, Replace, path_of, show
+from ..protocol import AnyRequest, Append, Code, Create, Kind, Replace, limits, path_of, show
 from ..protocol.units import Address, Commit, Moment, Size
 from ..wire.operations import Deed, Origin, Whole, deed_of
 
@@ -126,6 +126,38 @@ half longer for that. Less is kept whole, since then a repeat needs no other fil
 GIVEN_UP = Origin("", 0, 0, 0)
 """The origin of data that was not found, and that no later process finds either."""
 
+# ---- rows: a ledger may be damaged, or none at all
+
+GREATEST_NUMBER = (1 << 63) - 1
+"""The greatest number that the ledger's columns hold."""
+
+
+def whole_number(value: object, least: int = 0, most: int = GREATEST_NUMBER) -> int:
+    """A whole number between two, or `ValueError`."""
+    if not isinstance(value, int) or not least <= value <= most:
+        raise ValueError(f"{value!r:.60} is no number from {least} to {most}")
+    return value
+
+
+def text(value: object) -> str:
+    """A text, or `ValueError`."""
+    if not isinstance(value, str):
+        raise ValueError(f"{value!r:.60} is no text")
+    return value
+
+
+def row_way(way: object) -> Union[str, bytes]:
+    """A way that leads to a volume."""
+    return way if isinstance(way, bytes) else text(way)
+
+
+def row_digest(value: object) -> bytes:
+    """A SHA-256."""
+    if not isinstance(value, bytes) or len(value) != 32:
+        raise ValueError(f"{value!r:.60} is no SHA-256")
+    return value
+
+
 ORIGIN = ("origin", "start", "size_then", "modified")
 """The columns of an origin."""
 
@@ -141,8 +173,11 @@ def row_origin(row: "tuple[object, ...]") -> Optional[Origin]:
     if local is None:
         return None
     if not (isinstance(local, bytes) and isinstance(start, int) and isinstance(size, int) and isinstance(modified, int)):
-        raise ValueError(f"no origin of data: {row!r}")
-    return Origin(os.fsdecode(local), start, size, modified)
+        raise ValueError(f"no origin of data: {row!r:.200}")
+    origin = Origin(os.fsdecode(local), start, size, modified)
+    if origin != GIVEN_UP and not local.strip(b"/"):
+        raise ValueError(f"no origin of data: {row!r:.200}")
+    return origin
 
 
 FACTS = ("kind", "target", "size", "moment", "sha256", "whole_path", "whole_size", "whole_sha256")
@@ -164,18 +199,52 @@ def row_facts(path: str, row: "tuple[object, ...]") -> Optional[Facts]:
     kind, target, size, moment, sha256, whole_path, whole_size, whole_sha256 = row
     if kind is None:
         return None
-    to = path_of(str(target)) if target is not None else ()
+    to = path_of(text(target)) if target is not None else ()
     whole = None
     if whole_path is not None:
-        if not (isinstance(whole_size, int) and isinstance(whole_sha256, bytes)):
-            raise ValueError(f"no facts of a file in parts: {row!r}")
-        whole = Whole(path_of(str(whole_path)), Size(whole_size), whole_sha256)
-    if not (isinstance(kind, int) and isinstance(size, int) and isinstance(moment, int) and (sha256 is None or isinstance(sha256, bytes))):
-        raise ValueError(f"no facts of a request: {row!r}")
-    return Facts(Deed(Kind(kind), path_of(path), to, Size(size), Moment(moment)), sha256, whole)
+        whole = Whole(path_of(text(whole_path)), Size(whole_number(whole_size)), row_digest(whole_sha256))
+    known = Kind(whole_number(kind))
+    bytes_then = whole_number(size, 1, limits.GREATEST_FILE) if known is Kind.APPEND else whole_number(size, 0, limits.FILE)
+    deed = Deed(known, path_of(path), to, Size(bytes_then), Moment(whole_number(moment, 0, limits.MOMENT - 1)))
+    return Facts(deed, None if sha256 is None else row_digest(sha256), whole)
+
+
+def volume_of(row: "tuple[object, ...]") -> KnownVolume:
+    """The volume of a row."""
+    number, way, latest, unsettled, label, formatted, capacity, commit, address, check = row
+    identity = None if label is None else Identity(text(label), Moment(whole_number(formatted)), whole_number(capacity))
+    mark = None if check is None else Mark(Commit(whole_number(commit)), Address(whole_number(address)), row_digest(check))
+    return KnownVolume(whole_number(number), row_way(way), whole_number(latest), bool(unsettled), identity, mark)
+
+
+def pending_of(row: "tuple[object, ...]") -> Pending:
+    """The request of a row."""
+    number, payload, path, *rest = row
+    facts, origin = row_facts(text(path), tuple(rest[: len(FACTS)])), row_origin(tuple(rest[len(FACTS) :]))
+    if not isinstance(payload, bytes) or origin is not None and facts is None:
+        raise ValueError(f"request {number!r} has no payload")
+    data = facts.deed.data_size() if facts is not None and origin is not None else 0
+    if len(payload) + data > limits.PAYLOAD:
+        raise ValueError(f"request {number!r} has {len(payload) + data} bytes")
+    return Pending(whole_number(number, 1), payload, text(path), facts, origin)
+
+
+def row_reply(code: object, commit: object) -> "tuple[int, Commit]":
+    """The code and the commit of a reply."""
+    return int(Code(whole_number(code))), Commit(whole_number(commit, 1))
+
+
+def sent_of(row: "tuple[object, ...]") -> Sent:
+    """The request of a row, with its reply."""
+    number, path, code, commit, confirmed, *facts = row
+    known = row_facts(text(path), tuple(facts))
+    if code is None or code == NOT_KEPT:
+        return Sent(whole_number(number, 1), text(path), known, None, None if commit is None else Commit(whole_number(commit)), bool(confirmed))
+    return Sent(whole_number(number, 1), text(path), known, *row_reply(code, commit), bool(confirmed))
 
 
 __all__ = [
-    "FACTS", "Facts", "GIVEN_UP", "Identity", "KnownVolume", "LARGE_DATA", "Mark", "NOT_KEPT", "ORIGIN", "PLACES", "Pending", "Reply", "Sent", "digest", "facts_of",
-    "facts_row", "origin_row", "row_facts", "row_origin",
+    "FACTS", "Facts", "GIVEN_UP", "GREATEST_NUMBER", "Identity", "KnownVolume", "LARGE_DATA", "Mark", "NOT_KEPT", "ORIGIN", "PLACES", "Pending",
+    "Reply", "Sent", "digest", "facts_of", "facts_row", "origin_row", "pending_of", "row_facts", "row_origin", "row_reply", "row_way", "sent_of",
+    "volume_of", "whole_number",
 ]
