@@ -7,6 +7,7 @@ import shutil
 import subprocess
 import sys
 import unittest
+from pathlib import Path
 from typing import Callable, Dict, List, Set
 from unittest import mock
 
@@ -170,6 +171,39 @@ class Goes(Local):
         summary = self.fetched(True)
         self.assertEqual((summary.files, summary.same, summary.failures), (2, 1, []))
         self.assertEqual(self.there(), {"a": b"a" * 10, "b": b"b" * 10, "d/c": b"d/c" * 10})
+
+    def test_two_files_with_one_local_name(self) -> None:
+        """One that somebody stored under what is no spelling, and the spelling of that: the second one is named, however often it is tried."""
+        with self.client() as client:
+            client.create(("x", "␛zz"), b"one")
+            client.create(("x", "␛E2␛90␛9Bzz"), b"three")
+        line = "/x/␛E2␛90␛9Bzz: has the local name of /x/␛zz: copy it by itself"
+        for force in (False, True, False, True):
+            self.assertEqual(self.fetched(force).failures, [line])
+            self.assertEqual(Path(self.back, "␛zz").read_bytes(), b"one")
+
+    def test_names_that_the_file_system_takes_for_one(self) -> None:
+        """Where case does not count, a file of a copy does not take the place of another one of it: written before, or there already."""
+        os.mkdir(self.back)
+        folder = Path(self.back)
+        folder.joinpath("b").write_bytes(b"of another copy")
+        named: List[int] = []
+        for unnamed in (saving.UNNAMED, 0):
+            with self.subTest(unnamed=unnamed), mock.patch.object(saving, "UNNAMED", unnamed), beneath.Root.open(self.back) as root:
+                folder.joinpath("there").write_bytes(b"same")
+                with saving.Saver(root, True) as saver:
+                    saver.has_copied(os.stat(folder.joinpath("there")))
+                    saver.save(("b",), [b"first"], None, named.append)
+                    if unnamed:
+                        saver.save(("b",), [b"second"], None, named.append)
+                    saver.flush()
+                    for name in ("b", "there"):
+                        with self.assertRaisesRegex(e.SourceError, f"{name}: is another file of this copy, since"):
+                            saver.save((name,), [b"third"], None, named.append)
+                    saver.finish()
+                self.assertEqual(len(saver.failures), 1 if unnamed else 0)
+                self.assertEqual({name: folder.joinpath(name).read_bytes() for name in sorted(os.listdir(folder))}, {"b": b"first", "there": b"same"})
+        self.assertEqual(named, [5, 5])
 
     def test_a_folder_of_others(self) -> None:
         """It is gone into by force alone."""

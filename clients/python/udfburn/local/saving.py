@@ -11,7 +11,7 @@ import errno
 import os
 import stat
 from contextlib import contextmanager, suppress
-from typing import Callable, Dict, Iterable, Iterator, List, NamedTuple, Optional
+from typing import Callable, Dict, Iterable, Iterator, List, NamedTuple, Optional, Tuple
 
 from ..base.beneath import NotFollowed, Place, RelativePath, Root, folder_mode, place_of
 from ..base.disk import is_full, sync_all
@@ -24,6 +24,9 @@ from .sources import odd
 
 SYNCED_FILES, SYNCED_BYTES = 128, 1 << 26
 """Files that are synchronised at once, and their bytes."""
+
+COPIED_KEPT = 1 << 16
+"""Files of a copy that are not replaced by later ones of it, at most."""
 
 UNNAMED: int = getattr(os, "O_TMPFILE", 0)
 
@@ -55,6 +58,8 @@ class Saver:
         self._bytes = 0
         self._folders: Dict[RelativePath, None] = {}
         self._above = False
+        # The last files of this copy by device and inode: a file system may take the names of two of them for one, as where case does not count.
+        self._copied: Dict[Tuple[int, int], None] = {}
 
     def __enter__(self) -> "Saver":
         return self
@@ -93,6 +98,13 @@ class Saver:
         """Has the names in a folder made durable at the end."""
         self._folders[names] = None
 
+    def has_copied(self, status: os.stat_result) -> None:
+        """Keeps a file of this copy from being replaced by another one of it. Of one with further names that is not known."""
+        if self.force and status.st_nlink == 1:
+            self._copied[status.st_dev, status.st_ino] = None
+            if len(self._copied) > COPIED_KEPT:
+                del self._copied[next(iter(self._copied))]
+
     def flush(self) -> None:
         """Makes what is written durable, and gives each file its name."""
         if not self._written:
@@ -112,6 +124,7 @@ class Saver:
             self._drop(self._written.pop(0))
             return
         self._written.pop(0)
+        self.has_copied(os.fstat(written.descriptor))
         os.close(written.descriptor)
         self.folder(written.names[:-1])
         written.named(written.size)
@@ -147,6 +160,8 @@ class Saver:
             raise name_taken(local)
         if not stat.S_ISREG(status.st_mode) and not stat.S_ISLNK(status.st_mode):
             raise SourceError(f"{shown(local)}: is {'a folder' if stat.S_ISDIR(status.st_mode) else odd(status)}, and is not replaced")
+        if (status.st_dev, status.st_ino) in self._copied:
+            raise SourceError(f"{shown(local)}: is another file of this copy, since the file system takes both names for one: copy this one elsewhere")
 
     def _open_new(self, names: RelativePath) -> "tuple[int, Optional[RelativePath]]":
         """A new file without a name, or with one that follows from its own."""
@@ -167,6 +182,8 @@ class Saver:
     def _give_name(self, written: UnnamedFile) -> None:
         """Gives a file its name; if asked to, in the place of an existing file."""
         names, temporary = written.names, written.temporary
+        if self.force:
+            self._require_place(names)
         if temporary is None and not (self.force and self.root.find(names) is not None):
             try:
                 return self.root.link_open(written.descriptor, names)

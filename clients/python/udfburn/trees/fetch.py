@@ -13,7 +13,7 @@ from ..base.errors import DiskFull, SourceError
 from ..base.escape import decode
 from ..local.saving import SAVING_PREFIX, Saver, failure_line, remove_leftovers, save
 from ..local.sources import exactly
-from ..protocol import Node, NodeKind, Path, shown
+from ..protocol import Node, NodeKind, Path, printed, shown
 from ..wire.pieces import and_node, bytes_as_seen, queries_of
 from .compare import Comparison, verify_tree
 from .stored import StoredFile, StoredTree, find_file
@@ -64,12 +64,21 @@ class Fetcher:
             tree = StoredTree().walk(self.client, path)
             files = tree.files(self.split)
             folders = [local_names(at[len(path) :]) for at in tree.directories(files)]
-            targets = [Target(local_names(file.path[len(path) :]), file) for file in files]
+            targets = self._apart([Target(local_names(file.path[len(path) :]), file) for file in files])
             if not self.force:
                 require_copy(local, {names[0] for names in folders + [target.names for target in targets] if names})
             with Root.make(local, folder_mode(self._mode)) as root:
                 self._copy(root, folders, targets)
         return self.summary
+
+    def _apart(self, targets: List[Target]) -> List[Target]:
+        """The first of the files that would have one local name, as those of a spelling and of what it spells. Each other one is a failure."""
+        first: Dict[RelativePath, Target] = {}
+        for target in targets:
+            other = first.setdefault(target.names, target)
+            if other is not target:
+                self.summary.failures.append(f"{printed(target.file.path)}: has the local name of {printed(other.file.path)}: copy it by itself")
+        return list(first.values())
 
     def file(self, path: Path, local: str) -> Fetched:
         """Copies a file."""
@@ -113,7 +122,7 @@ class Fetcher:
     def _files(self, targets: List[Target], saver: Saver) -> None:
         """Copies files, but those that are there whole."""
         there = {target.names: status for target in targets for status in [saver.root.find(target.names)] if status is not None}
-        same = self._same([target for target in targets if target.names in there and same_size(target, there[target.names])], saver)
+        same = self._same([target for target in targets if target.names in there and same_size(target, there[target.names])], there, saver)
         left = [target for target in targets if target.names not in same]
         refused = set() if self.force else set(there)
         for target in left:
@@ -125,13 +134,14 @@ class Fetcher:
                 self._save(target, parts, saver)
             saver.flush()
 
-    def _same(self, targets: List[Target], saver: Saver) -> "set[RelativePath]":
+    def _same(self, targets: List[Target], there: Dict[RelativePath, os.stat_result], saver: Saver) -> "set[RelativePath]":
         """Those of the local files that have all bytes of the volume's."""
         same = set()
         with parts_of(self.client, [target.file for target in targets]) as files:
             for target, (file, parts) in zip(targets, files):
                 if has_bytes(saver.root, target.names, parts):
                     same.add(target.names)
+                    saver.has_copied(there[target.names])
                     # A killed copy may have given it its name.
                     saver.folder(target.names[:-1])
                     self.summary.same += 1
