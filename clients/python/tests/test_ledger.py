@@ -85,6 +85,10 @@ class Ledgers(WithServer):
         base("none.sqlite", "CREATE TABLE ledger (version, client)")
         base("words.sqlite", "CREATE TABLE ledger (version, client)", "INSERT INTO ledger VALUES (1, 'me')")
         base("newer.sqlite", "CREATE TABLE ledger (version, client)", "INSERT INTO ledger VALUES (7, '5')")
+        base("view.sqlite", "CREATE VIEW ledger AS SELECT 6 AS version, '5' AS client")
+        base("trigger.sqlite", "CREATE TABLE ledger (version, client)", "INSERT INTO ledger VALUES (6, '5')",
+             "CREATE TRIGGER more AFTER UPDATE ON ledger BEGIN DELETE FROM ledger; END")
+        base("computed.sqlite", "CREATE TABLE ledger (version, client, large AS (zeroblob(900000000)))", "INSERT INTO ledger VALUES (6, '5')")
         os.mkdir(os.path.join(room, "folder"))
         os.mkfifo(os.path.join(room, "pipe"))
 
@@ -92,7 +96,7 @@ class Ledgers(WithServer):
             return {entry.name: Path(entry.path).read_bytes() if entry.is_file() else b"" for entry in os.scandir(room)}
 
         before = found()
-        self.assertEqual(len(before), 11)
+        self.assertEqual(len(before), 14)
         for name in before:
             with self.assertRaisesRegex(e.LedgerError, "up to 6: use a newer program" if name == "newer.sqlite" else "is not a ledger .*--ledger", msg=name):
                 Ledger(os.path.join(room, name))

@@ -57,6 +57,12 @@ SENT_COLUMNS = ("number", "path", "code", "commit_number", "confirmed", *FACTS)
 
 SELECT_SENT = f"SELECT {', '.join(SENT_COLUMNS)} FROM request"
 
+COMPUTED = """
+SELECT 1 FROM sqlite_master WHERE type NOT IN ('table', 'index')
+UNION ALL SELECT 1 FROM sqlite_master AS made, pragma_table_xinfo(made.name) WHERE made.type = 'table' AND hidden
+"""
+"""Views, triggers and columns that are computed: whoever made those of a file says how long they take, and how much memory."""
+
 LAST_COMMIT = """
 SELECT max(coalesce((SELECT commit_number FROM request WHERE volume = ? AND code IS NOT NULL ORDER BY number DESC LIMIT 1), 0),
     coalesce((SELECT commit_number FROM found WHERE volume = ? ORDER BY number DESC LIMIT 1), 0))
@@ -132,6 +138,8 @@ class Ledger:
         """The client that a database belongs to; None if it has no table at all."""
         if not base.execute("SELECT 1 FROM sqlite_master").fetchone():
             return None
+        if base.execute(COMPUTED).fetchone():
+            raise ValueError("it has more than tables of values")
         version, client = base.execute("SELECT version, client FROM ledger").fetchone()
         if not 0 < version <= LEDGER_VERSION:
             raise LedgerError(f"{self.path}: has version {version}, and this program knows those up to {LEDGER_VERSION}: use a newer program")
