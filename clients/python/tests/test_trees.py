@@ -7,7 +7,7 @@ import os
 import stat
 import struct
 import unittest
-from typing import Any, Dict, Iterator
+from typing import Any, Dict, Iterator, List, Optional
 from unittest import mock
 
 from udfburn import Client
@@ -98,6 +98,24 @@ class Fetch(Local):
             with open(replaced, "rb") as file:
                 self.assertEqual(file.read(), b"new")
         self.assertTrue(stat.S_ISFIFO(os.lstat(pipe).st_mode))
+
+    def test_a_server_names_more_than_a_volume_has(self) -> None:
+        """What has no end, by its depth or by its width, is no answer."""
+        asked: List[p.Path] = []
+        for width in (1, 100, 512):
+            names = p.Names(tuple([p.Name(p.NodeKind.DIRECTORY, str(index)) for index in range(width)]))
+
+            def before(payload: bytes, names: p.Names = names) -> Optional[p.Answer]:
+                message = p.decode_message(payload)
+                asked.extend([message.path] if isinstance(message, p.List) else [])
+                return names if isinstance(message, p.List) else None
+
+            self.server.before = before
+            with self.subTest(width=width), self.client() as client:
+                with self.assertRaisesRegex(p.BadAnswer, "more names than a volume has"):
+                    fetch.get_tree(client, (), os.path.join(self.room, "back"))
+            self.assertLess(len(asked), 300)
+            asked.clear()
 
     def test_a_server_names_no_other_place(self) -> None:
         """A name like `..` in a directory never reaches the local disk."""

@@ -2,10 +2,11 @@
 
 from __future__ import annotations
 
+from contextlib import closing
 from itertools import takewhile
 from typing import TYPE_CHECKING, Callable, Iterable, Iterator, List, Tuple
 
-from ..protocol import Code, List as ListQuery, Name, Names, Node, NodeKind, Path, Remove, Stat
+from ..protocol import BadAnswer, Code, List as ListQuery, Name, Names, Node, NodeKind, Path, Remove, Stat, limits, printed
 from ..wire.operations import Operation, Outcome, now
 from ..wire.refusals import expected, refusal
 from .preflight import Present
@@ -16,23 +17,29 @@ if TYPE_CHECKING:
 StepTold = Callable[[str, Path, int, int], None]
 """Is called for each step: what was done, the path, its bytes, its commit."""
 
+NAMES_MET = 4 * limits.NODES
+"""Names that a walk meets, at most. Those that others move meanwhile may be met again."""
+
 
 def quiet(*_: object) -> None:
     """Does nothing."""
 
 
 def walk(client: Client, path: Path) -> Iterator[Tuple[Path, Tuple[Name, ...]]]:
-    """Each directory from a path on, with its names in stored order: level by level."""
-    level = [path]
+    """Each directory from a path on, with its names in stored order: level by level. Raises where there are more than a volume has."""
+    level, met = [path], 0
     with client.held():
         while level:
-            below: List[Path] = []
+            found: List[Tuple[Path, Tuple[Name, ...]]] = []
             # All answers of a level are taken first, since whoever walks asks for more between.
-            for at, answer in zip(level, list(client.ask_all(ListQuery(at) for at in level))):
-                names = expected(Names, ListQuery(at), answer).names
-                yield at, names
-                below += [at + (name.name,) for name in names if name.kind is NodeKind.DIRECTORY]
-            level = below
+            with closing(client.ask_all(ListQuery(at) for at in level)) as answers:
+                for at, answer in zip(level, answers):
+                    found.append((at, expected(Names, ListQuery(at), answer).names))
+                    met += len(found[-1][1])
+                    if met > NAMES_MET or len(at) >= limits.DEPTH and found[-1][1]:
+                        raise BadAnswer(f"with those of {printed(at)} there are more names than a volume has")
+            yield from found
+            level = [at + (name.name,) for at, names in found for name in names if name.kind is NodeKind.DIRECTORY]
 
 
 def look_up(client: Client, paths: Iterable[Path], whole: bool) -> Present:
