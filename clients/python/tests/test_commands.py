@@ -63,6 +63,15 @@ class Commands(Local):
         self.assertEqual(self.words("resume"), ["0 requests were pending"])
         self.assertEqual(sorted(self.volume.nodes), [()])
 
+    def test_what_the_system_refuses(self) -> None:
+        """The path comes first, as in other messages, and no number of an error."""
+        self.words("put", self.write("a", b"1"), "/a")
+        missing = os.path.join(self.room, "no", "such\nfolder")
+        line = f"{escaped(missing)}: No such file or directory"
+        self.assertEqual(self.words("get", "/a", os.path.join(missing, "a"), status=1), [f"udfburn-client: {line}"])
+        failed, ended = map(json.loads, self.words("get", "--json", "/a", os.path.join(missing, "a"), status=1)[-2:])
+        self.assertEqual((failed["error"], failed["message"], ended["failures"]), ("FileNotFoundError", line, [line]))
+
     def test_progress_on_a_terminal(self) -> None:
         class Terminal(StringIO):
             def isatty(self) -> bool:

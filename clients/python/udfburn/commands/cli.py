@@ -3,6 +3,7 @@
 from __future__ import annotations
 
 import argparse
+import os
 import sys
 from typing import List, Optional
 
@@ -11,7 +12,7 @@ from ..base.completion import complete_line
 from ..base.errors import OutputFailed, UdfburnError, UsageError
 from ..base.progress import Progress
 from ..base.streams import drop_output, parsed, take_any_name, take_descriptors
-from ..protocol import BadAnswer, Fault, InvalidName, InvalidPath
+from ..protocol import BadAnswer, Fault, InvalidName, InvalidPath, shown
 from . import check, disc, mount, read, salvage, seal, volume, write
 
 MODULES = (write, seal, read, volume, check, disc, salvage, mount)
@@ -90,7 +91,10 @@ def run(arguments: argparse.Namespace, progress: Progress) -> int:
         return progress.fail(f"the program at the other end does not speak this protocol: {error}", 1)
     except (BrokenPipeError, OutputFailed):
         raise
-    except (UdfburnError, Fault, OSError) as error:
+    except OSError as error:
+        named = isinstance(error.filename, (str, bytes)) and error.strerror
+        return progress.fail(type(error)(f"{shown(os.fsdecode(error.filename))}: {error.strerror}") if named else error, 1)
+    except (UdfburnError, Fault) as error:
         return progress.fail(error, 1)
     except KeyboardInterrupt:
         return progress.fail(INTERRUPTED, 130)
