@@ -273,6 +273,22 @@ class Rclone(WithOpen):
         change(os.path.join(self.places()[0], name), 600_000)
         self.assertEqual(self.add("--delete-source", status=None).last()["deleted"], 0)
 
+    def test_close_leaves_what_the_image_lacks(self) -> None:
+        """The folder came from a backup, and was filled otherwise: the tails have files that are nowhere else."""
+        shutil.copytree(self.archive, self.path("backup"))
+        self.more()
+        self.add()
+        tails = [self.tails(place) for place in self.places()]
+        shutil.rmtree(self.archive)
+        shutil.copytree(self.path("backup"), self.archive)
+        self.assertEqual(self.do("close", status=1).errors.count("is not as the closed image has it, and is left alone"), 2)
+        for place, before in zip(self.places(), tails):
+            newest = sorted(before)[-1]
+            self.assertEqual(self.tails(place)[newest], before[newest])
+            os.rename(os.path.join(place, newest), os.path.join(place, "kept"))
+        self.do("close")
+        self.assertEqual([volume["state"] for volume in self.volumes()], ["copied"])
+
     def test_the_folder_is_lost(self) -> None:
         shutil.rmtree(self.archive)
         self.init("--copies", *self.remotes, "--capacity", "20000")

@@ -380,7 +380,7 @@ def send(catalogue: Catalogue, row: VolumeRow, image: str, name: str, told: Byte
         found = remote.look(base)
         if found != wanted:
             raise CopyFailed(f"what arrived is not what was sent, by its {'SHA-256' if found and found.length == wanted.length else 'length'}")
-    remote.drop_tails(base)
+    remote.drop_tails(image, base)
     for path in own_sidecars(image):
         remote.send(path, os.path.basename(path))
 

@@ -12,7 +12,7 @@ from hashlib import sha256
 from tempfile import TemporaryFile
 from typing import Any, BinaryIO, Dict, Iterator, List, NamedTuple, Optional, Sequence, Set
 
-from ..base.beneath import PIECE, Place
+from ..base.beneath import PIECE, Place, open_own
 from ..base.own_files import BytesTold, untold
 from .errors import CopyDiffers, CopyFailed
 from .remote import UNREADABLE, Print, Remote, failed, forget, last_line
@@ -247,10 +247,22 @@ class RcloneRemote(Remote):
         for tail in tails_of(name, self.names()):
             self._run(["moveto", self._path(tail.name(name)), self._path(tail.name(name) + end)])
 
-    def drop_tails(self, name: str) -> None:
-        own = re.compile(re.escape(name) + "[.][0-9]{12}-[0-9]{12}(?:[.]new)?")
-        for file in filter(own.fullmatch, self.names()):
-            self._run(["deletefile", self._path(file)], missing=True)
+    def drop_tails(self, local: str, name: str) -> None:
+        own = re.compile(re.escape(name) + "[.]([0-9]{12})-([0-9]{12})([.]new)?")
+        others: List[str] = []
+        image = open_own(local)
+        try:
+            length = os.fstat(image).st_size
+            for match in filter(None, map(own.fullmatch, self.names())):
+                file, start, end = match.group(), int(match.group(1)), int(match.group(2))
+                if match.group(3) or end <= length and self.ask(file) in (None, print_of_range(image, start, end)):
+                    self._run(["deletefile", self._path(file)], missing=True)
+                else:
+                    others.append(file)
+        finally:
+            os.close(image)
+        if others:
+            raise CopyFailed(f"{self._path(others[0])}: is not as the closed image has it, and is left alone: move it away, if nobody needs it")
 
 
 def started(words: List[str], **streams: Any) -> "subprocess.Popen[bytes]":

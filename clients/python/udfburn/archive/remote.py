@@ -158,5 +158,6 @@ class Remote:
         """Whether all of a file there counts, where it has this length."""
         return True
 
-    def drop_tails(self, name: str) -> None:
-        """Removes what the copy of an image was while that was open. The whole is there, and was read by this run."""
+    def drop_tails(self, local: str, name: str) -> None:
+        """Removes what the copy of an image was while that was open. The whole is there, and was read by this run. What is not as the image
+        has it may be all that is left of something else: it stays, and is `CopyFailed`."""
