@@ -128,6 +128,26 @@ class Folders(WithOpen):
         self.assertIn("and the image", self.do("copy", status=1).errors)
         self.assertEqual(self.read(self.copy()), newest)
 
+    def test_an_older_image_with_more_than_its_copies(self) -> None:
+        """`repair` puts none in the place of one that has more, though the catalogue knows of still more."""
+        for name in ("more", "newest"):
+            self.more(name)
+            self.add("--no-copy")
+            shutil.copy(self.image(), self.path(name))
+        shutil.copy(self.path("more"), self.image())
+        rows = self.rows()
+        self.assertIn("so it stays", self.do("repair", "T-000001", status=1).errors)
+        self.assertEqual(self.read(self.image()), self.read(self.path("more")))
+        self.assertEqual(self.rows(), rows)
+        # It goes on as the message says.
+        self.do("rebuild")
+        for name in os.listdir(os.path.dirname(self.image())):
+            if name.startswith("T-000001.ledger"):
+                os.unlink(os.path.join(os.path.dirname(self.image()), name))
+        self.assertEqual(self.add().last()["files"], 20)
+        self.assertEqual(self.get_all(), digests(self.source))
+        self.require_copied()
+
     def test_links_and_the_image_itself(self) -> None:
         target = write(self.path("target"), self.read(self.copy()))
         kept = self.read(target)

@@ -88,6 +88,7 @@ class BringBack:
     def _image(self, row: VolumeRow, image: str) -> None:
         with room(self.config.folder, self.config.room_name("repair")) as folder:
             best = self.newest(row, folder)
+            self._require_newer(row, image, best)
             self.forget(row, best)
             end = f".damaged-{now()}"
             for path in (tail_note(image), image, *(beside(image, each) for each in LEDGER)):
@@ -98,6 +99,18 @@ class BringBack:
         self.repaired += 1
         line = f"repaired the image of {row.label} from {best.remote}"
         self.tell.say_step(line, did="repaired", volume=row.label, what="the image", source=best.remote)
+
+    def _require_newer(self, row: VolumeRow, image: str, best: FetchedCopy) -> None:
+        """Raises where the image at hand is sound, and has more than a copy: it is older than the catalogue, and the copy is older still."""
+        try:
+            commit = Commit(0) if look(image).damaged else self._read(row, image, image).last_commit
+        except (ArchiveError, OSError):
+            return
+        if commit > best.last_commit:
+            raise VolumeDiffers(
+                f"{shown(image)}: has {commit} commits, and the newest copy, on {best.remote}, {best.last_commit}, so it stays: bring the right one back. "
+                "Or run 'rebuild', which names the files that it lacks, and remove its .ledger"
+            )
 
     def newest(self, row: VolumeRow, folder: str) -> FetchedCopy:
         """The copy with most commits of those that are sound, in a folder; `NotAtHand` where there is none."""
