@@ -8,6 +8,7 @@ import shutil
 import signal
 import subprocess
 import sys
+from contextlib import suppress
 from hashlib import sha256
 from pathlib import Path
 from typing import List, Optional, Sequence, Tuple
@@ -164,6 +165,34 @@ class Copies(WithRemotes):
         os.chmod(write(self.path("bin", "rclone"), f'#!/bin/sh\n{text}\nexec {real} "$@"\n'.encode()), 0o755)
         os.environ["PATH"] = self.path("bin") + ":" + path
         self.addCleanup(os.environ.__setitem__, "PATH", path)
+
+    def test_another_volume_with_its_name(self) -> None:
+        """It is not replaced, though no text beside it says what it is."""
+        other = self.path("other")
+        for archive in (self.archive, other):
+            if archive == other:
+                self.init(archive=other)
+            write(os.path.join(self.source, "f"), archive.encode())
+            self.run_in(archive, "add", self.source, "--at", "/s", "--no-copy")
+        self.do("remote", "remove", "dav:deep/er")
+        self.do("close")
+        for name in ("folder", "local/sub"):
+            write(self.path(name, "T-000001.info"), b"")
+        for name in (self.path("folder"), "here:sub"):
+            self.run_in(other, "remote", "add", name, "--same-device")
+        kept = [digests(place) for place in self.copies()[:2]]
+        for _ in range(2):
+            self.assertEqual(self.run_in(other, "close", status=1).errors.count("is no beginning of this image, and is not replaced"), 2)
+            for place, before in zip(self.copies(), kept):
+                after = digests(place)
+                self.assertEqual({name: after.get(name) for name in before}, before)
+                with suppress(FileNotFoundError):
+                    os.unlink(os.path.join(place, "T-000001.info"))
+                    before.pop(b"T-000001.info")
+        # What begins as the image is what a run that was killed has left.
+        shutil.copy(os.path.join(other, "closed", "T-000001.img"), os.path.join(self.copies()[1], "T-000001.img"))
+        change(os.path.join(self.copies()[1], "T-000001.img"), 600_000)
+        self.assertEqual(self.run_in(other, "close", status=1).last()["copied"], 1)
 
     def test_the_other_remotes_are_repaired(self) -> None:
         write(os.path.join(self.source, "f"), b"1")

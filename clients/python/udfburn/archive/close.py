@@ -375,7 +375,7 @@ def send(catalogue: Catalogue, row: VolumeRow, image: str, name: str, told: Byte
         raise CopyFailed("what is there is the image itself, and no copy")
     if remote.look(base) != wanted or not remote.counts(base, wanted.length):
         if not completed(remote, image, wanted.length):
-            require_no_other(remote, row, name in [copy.remote for copy in catalogue.copies(row.number)])
+            require_no_other(remote, row, image, name in [copy.remote for copy in catalogue.copies(row.number)])
             remote.send(image, base)
         found = remote.look(base)
         if found != wanted:
@@ -408,21 +408,31 @@ def complete(remote: Remote, image: str) -> None:
             remote.send(path, name)
 
 
-def require_no_other(remote: Remote, row: VolumeRow, known: bool) -> None:
+def require_no_other(remote: Remote, row: VolumeRow, image: str, known: bool) -> None:
     """Raises where a remote has another volume with the name of this one, as one of an archive with the same label: it is not replaced.
-    What nothing there describes may be a copy of an open volume: it is replaced only where it is `known` to the catalogue as one of this one."""
-    name = row.label + ".info"
-    if remote.look(name) is None:
-        if remote.grows and not known and remote.length(row.label + ".img") is not None:
-            raise CopyFailed(f"what it has as {row.label}.img is no beginning of this image, and is not replaced: move it away, if nobody needs it")
-        return
+    What nothing there describes may be a copy of an open volume: it is replaced only where it is `known` to the catalogue as one of this one,
+    or where the remote has no open volumes under this name, and it begins as the image."""
+    name, base = row.label + ".info", row.label + ".img"
+    digest = described(remote, name)
+    if digest is None:
+        if not known and remote.length(base) is not None and not remote.begins_as(image, base):
+            raise CopyFailed(f"what it has as {base} is no beginning of this image, and is not replaced: move it away, if nobody needs it")
+    elif digest != (row.sha256 or b"").hex():
+        raise CopyFailed(f"it has another volume with this name, as {name} there says: move that away, or name another remote in archive.toml")
+
+
+def described(remote: Remote, name: str) -> Optional[str]:
+    """The SHA-256 of a closed image on a remote, as the text beside it says; None where that is not there, or says nothing."""
+    length = remote.length(name)
+    if length is None:
+        return None
+    if length > limits.FILE:
+        raise CopyFailed(f"{name} there has {length} bytes, and describes no volume: move it away")
     with TemporaryDirectory() as folder:
         there = os.path.join(folder, name)
         remote.fetch(name, place_of(there))
         with open(there, "rb") as file:
-            digest = read_fields(file.read()).get("sha256")
-    if digest not in (None, (row.sha256 or b"").hex()):
-        raise CopyFailed(f"it has another volume with this name, as {name} there says: move that away, or name another remote in archive.toml")
+            return read_fields(file.read(limits.FILE)).get("sha256")
 
 
 def is_tag(path: Path, kind: str) -> bool:

@@ -15,7 +15,7 @@ from typing import Any, BinaryIO, Dict, Iterator, List, NamedTuple, Optional, Se
 from ..base.beneath import PIECE, Place, open_own
 from ..base.own_files import BytesTold, untold
 from .errors import CopyDiffers, CopyFailed
-from .remote import UNREADABLE, Print, Remote, failed, forget, last_line
+from .remote import BEGINNING, UNREADABLE, Print, Remote, failed, forget, last_line
 
 NOT_THERE = (3, 4)
 """The statuses of rclone where there is no such folder or file."""
@@ -242,6 +242,11 @@ class RcloneRemote(Remote):
     def first_bytes(self, name: str, count: int) -> bytes:
         tails = tails_of(name, self.names())
         return self._run(["cat", "--count", str(count), self._path(tails[0].name(name))], missing=True) or b"" if tails else b""
+
+    def begins_as(self, local: str, name: str) -> bool:
+        with open(open_own(local), "rb") as file:
+            wanted = file.read(BEGINNING)
+        return self._run(["cat", "--count", str(len(wanted)), self._path(name)], missing=True) == wanted
 
     def set_aside(self, name: str, end: str) -> None:
         for tail in tails_of(name, self.names()):

@@ -146,6 +146,11 @@ class Remote:
         """The first bytes of the copy of an open image."""
         raise NotImplementedError
 
+    def begins_as(self, local: str, name: str) -> bool:
+        """Whether a file there surely is a copy of a closed image, by its first blocks. Where copies of open images have the same name it
+        may be one of these."""
+        return False
+
     def set_aside(self, name: str, end: str) -> None:
         """Gives the copy of an open image a name with another end, in which nothing looks for it."""
         raise NotImplementedError
