@@ -103,6 +103,41 @@ class Machines(OnServer):
             self.assertEqual(self.rows(second), before)
             self.assertEqual([volume["state"] for volume in self.volumes(second)], [state])
 
+    def test_an_old_holder_rebuilds_nothing_else(self) -> None:
+        """Its image has more commits than that of the folder that took a copy over, and filled it otherwise."""
+        first, second = self.machine(1), self.machine(2)
+        os.mkdir(self.path("copies"))
+        for machine in (first, second):
+            self.run_in(machine, "remote", "add", self.path("copies"), "--same-device")
+        for name in "fgh":
+            write(os.path.join(self.source, name), name.encode())
+            self.run_in(first, "add", self.source, "--at", "/s", *(["--no-copy"] if name != "f" else []))
+        os.rename(first, self.path("away"))
+        self.run_in(second, "adopt", "T-000001", status=1)
+        os.rename(self.path("away"), first)
+        write(self.path("other", "i"), b"4")
+        self.run_in(second, "add", self.path("other"), "--at", "/t")
+        before = self.rows(second)
+        self.assertEqual([row["path"] for row in before], ["/s/f", "/t/i"])
+        self.assertIn("is not T-000001 as another folder of the archive has it", self.run_in(first, "rebuild", status=1).errors)
+        self.assertEqual(self.rows(second), before)
+        self.assertEqual(self.run_in(second, "add", self.path("other"), "--at", "/t").last()["same"], 1)
+
+    def test_a_number_that_was_given_twice(self) -> None:
+        """By a catalogue from a backup. The volume that it does not know takes no place of the other, though it is closed."""
+        first, second = self.machine(1), self.machine(2)
+        write(os.path.join(self.source, "f"), b"1")
+        self.run_in(first, "add", self.source, "--at", "/s")
+        self.run_in(first, "close")
+        for statement in ("DELETE FROM file", "DELETE FROM volume", "UPDATE archive SET next_volume = 1"):
+            self.server.sql(statement, "archive")
+        write(self.path("other", "i"), b"4")
+        self.run_in(second, "add", self.path("other"), "--at", "/t")
+        before = self.rows(second)
+        self.assertIn("is not T-000001 as another folder of the archive has it", self.run_in(first, "rebuild", status=1).errors)
+        self.assertEqual(self.rows(second), before)
+        self.assertEqual(self.run_in(second, "add", self.path("other"), "--at", "/t").last()["same"], 1)
+
     def test_an_open_image_that_is_named_stays_open(self) -> None:
         first, second = self.machine(1), self.machine(2)
         write(os.path.join(self.source, "f"), b"1")

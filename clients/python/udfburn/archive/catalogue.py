@@ -18,7 +18,8 @@ from .base import Base, Row, open_base
 from .config import Config
 from .errors import CatalogueError
 from .held import (
-    BYTES, COUNT, ColumnTypes, Held, as_of, below, folder_back, folder_text, held_row, is_whole, mebibytes_of, order, require_types, versions, volume_and_commit,
+    BYTES, COUNT, ColumnTypes, Held, as_of, below, folder_back, folder_text, has_all, held_row, is_whole, mebibytes_of, order, require_types, versions,
+    volume_and_commit,
 )
 from .names import is_bundle, kept_name, name_back
 from .schema import CATALOGUE_VERSION, COMMITS, LISTED, upgrade_statements
@@ -422,5 +423,5 @@ def odd_image(config: Config, row: VolumeRow) -> Optional[str]:
 
 __all__ = [
     "Catalogue", "Copy", "DISC", "DISC_NAME", "Held", "STATE_CLOSED", "STATE_CLOSING", "STATE_FULL", "STATE_NEW", "STATE_OPEN", "STATE_RETIRED", "VolumeRow", "as_of", "below", "folder_back",
-    "folder_text", "held_row", "image_of", "is_disc_name", "is_whole", "mebibytes_of", "odd_image", "versions", "volume_and_commit",
+    "folder_text", "has_all", "held_row", "image_of", "is_disc_name", "is_whole", "mebibytes_of", "odd_image", "versions", "volume_and_commit",
 ]

@@ -159,6 +159,11 @@ def mebibytes_of(size: int) -> int:
     return -(-size // limits.FILE)
 
 
+def has_all(rows: Sequence[Held], known: Sequence[Held]) -> bool:
+    """Whether rows of a volume are there for all that are known of it, with the same bytes."""
+    return {(held.key(), held.sha256) for held in known} <= {(held.key(), held.sha256) for held in rows}
+
+
 def is_whole(group: Sequence[Held]) -> bool:
     """Whether rows of one version have all its parts, or one has the file as a whole."""
     if any(row.parts is None for row in group):
@@ -172,6 +177,6 @@ def is_whole(group: Sequence[Held]) -> bool:
 
 
 __all__ = [
-    "BYTES", "COUNT", "ColumnTypes", "Held", "as_of", "below", "folder_back", "folder_text", "held_row", "is_whole", "line_path", "mebibytes_of", "order", "path_line",
-    "require_types", "versions", "volume_and_commit",
+    "BYTES", "COUNT", "ColumnTypes", "Held", "as_of", "below", "folder_back", "folder_text", "has_all", "held_row", "is_whole", "line_path", "mebibytes_of", "order",
+    "path_line", "require_types", "versions", "volume_and_commit",
 ]

@@ -24,7 +24,7 @@ from ..wire.operations import now
 from . import same_rows
 from .bag import manifest_size
 from .bundle import damaged_on
-from .catalogue import STATE_CLOSED, STATE_CLOSING, STATE_FULL, STATE_NEW, STATE_OPEN, STATE_RETIRED, Catalogue, Copy, Held, VolumeRow
+from .catalogue import STATE_CLOSED, STATE_CLOSING, STATE_FULL, STATE_NEW, STATE_OPEN, STATE_RETIRED, Catalogue, Copy, Held, VolumeRow, has_all
 from .claims import claims_of
 from .close import beside, sidecar
 from .config import Config, traces, volume_label
@@ -357,7 +357,7 @@ class Rebuilder:
         if read is None:
             return
         about, number = read.about, read.about.number
-        if about.label != self.config.label or not self._is_ours(about.archive):
+        if about.label != self.config.label or about.archive != self.catalogue.id:
             raise VolumeDiffers(f"{shown(image)}: belongs to another archive, {about.label} {about.archive}")
         if read.row.label != volume_label(self.config.label, number):
             raise VolumeDiffers(f"{shown(image)}: has the label {read.row.label!r}, and {ABOUT} says volume {number}: it was left out")
@@ -371,10 +371,14 @@ class Rebuilder:
         is_new, old = old is None and not known, old or self.kept.volumes.get(number)
         if old is not None and not closed and self._is_older(old, read.row):
             raise VolumeDiffers(f"{shown(image)}: is an older copy of {old.label}, which was closed or taken over since, and was left out")
-        self._seen[number] = state
         noted = same_rows.of_volume(self.catalogue.base, number)
         # What the catalogue has of a bundle whose list is damaged is all that is known of its files.
         lines = read.lines + [held._replace(there=True) for held in noted if held.is_member() and held.commit in read.unlisted]
+        others = old is not None and old.holder != self.config.id
+        if others and old and (old.formatted != read.row.formatted or not closed and not has_all(read.rows + lines, known + noted)):
+            # Its number was given twice, by a catalogue from a backup; or that folder took a copy over, and filled it otherwise.
+            raise VolumeDiffers(f"{shown(image)}: is not {old.label} as another folder of the archive has it, and was left out")
+        self._seen[number] = state
         self.summary.failures += read.unlisted.values()
         self.summary.failures += [f"{shown(image)}: {shown_path(held.path)} is not as it was stored" for held in read.damaged]
         if is_new:
@@ -398,10 +402,6 @@ class Rebuilder:
     def _is_older(self, old: VolumeRow, row: VolumeRow) -> bool:
         """Whether an open image is not the volume any more: that one was closed, or another folder has it and has filled it since."""
         return old.state in (STATE_CLOSED, STATE_RETIRED) or old.holder != self.config.id and row.last_commit < old.last_commit
-
-    def _is_ours(self, archive: str) -> bool:
-        """Whether a volume is of this archive."""
-        return bool(archive == self.catalogue.id)
 
     # ---- the archive of a catalogue that was made anew
 
