@@ -8,7 +8,7 @@ import shutil
 import subprocess
 from typing import List
 
-from .support import WithArchive, write
+from .support import WithArchive, change_in, write
 
 
 class Chosen(WithArchive):
@@ -110,6 +110,26 @@ class Chosen(WithArchive):
         self.assertEqual(self.kept(), ["archive"])
         markers = [name for name in os.listdir(self.copies) if name.startswith("udfburn-archive-")]
         self.assertEqual(markers, [f"udfburn-archive-{id}.txt"])
+
+
+class AsClosed(WithArchive):
+    def test_what_only_the_catalogue_knows(self) -> None:
+        """What a damaged image has now is not taken for what it had when it was closed, where nothing beside it says that."""
+        os.mkdir(self.path("copies"))
+        self.init("--copies", self.path("copies"))
+        data = os.urandom(5000)
+        write(os.path.join(self.source, "f"), data)
+        self.add()
+        self.do("close")
+        image = os.path.join(self.archive, "closed", "T-000001.img")
+        os.unlink(image[:-4] + ".info")
+        self.do("rebuild")
+        change_in(image, data)
+        self.assertIn("has another SHA-256 than when it was closed", self.do("rebuild", status=1).errors)
+        self.do("check", status=1)
+        self.do("repair")
+        self.do("rebuild")
+        self.assertEqual(self.do("check", "--data", "--remotes").last()["copies"], 1)
 
 
 class Left(WithArchive):

@@ -54,6 +54,15 @@ def beside(image: str, end: str) -> str:
 
 def sidecar(image: str) -> Tuple[Size, bytes]:
     """The length and the digest that an image had when it was closed; of one that has none kept, those that it has now."""
+    kept = kept_beside(image)
+    if kept is not None:
+        return kept
+    found = print_of_file(image)
+    return Size(found.length), found.sha256
+
+
+def kept_beside(image: str) -> Optional[Tuple[Size, bytes]]:
+    """The length and the digest that an image had when it was closed, as the text beside it has them; None where it has none."""
     try:
         with open(open_own(beside(image, ".info")), "rb") as file:
             fields = read_fields(file.read(limits.FILE))
@@ -62,8 +71,14 @@ def sidecar(image: str) -> Tuple[Size, bytes]:
             raise ValueError("no SHA-256")
         return Size(number(fields["length"], SIZE)), digest
     except (OSError, KeyError, ValueError):
-        found = print_of_file(image)
-        return Size(found.length), found.sha256
+        return None
+
+
+def as_closed(image: str, row: VolumeRow, known: Optional[VolumeRow]) -> VolumeRow:
+    """The row of a closed image, where nothing beside it says what it was when it was closed, with what a catalogue has of that."""
+    if known is None or known.sha256 is None or known.formatted != row.formatted or kept_beside(image) is not None:
+        return row
+    return row._replace(length=known.length, sha256=known.sha256)
 
 
 class Closer:

@@ -26,7 +26,7 @@ from .bag import manifest_size
 from .bundle import damaged_on
 from .catalogue import STATE_CLOSED, STATE_CLOSING, STATE_FULL, STATE_NEW, STATE_OPEN, STATE_RETIRED, Catalogue, Copy, Held, VolumeRow, has_all
 from .claims import claims_of
-from .close import beside, sidecar
+from .close import as_closed, beside, sidecar
 from .config import Config, traces, volume_label
 from .contents import ABOUT, ARCHIVE, About, Contents, about_of, read_fields
 from .deletions import Event, events_on, replace_events
@@ -386,18 +386,21 @@ class Rebuilder:
         else:
             self._compare(read.row.label, known + noted, read.rows + lines)
         if not self.dry_run:
-            self._keep(read, lines, old)
+            self._keep(image, read, lines, old)
         self.summary.volumes += 1
         self.summary.files += read.row.files
         self.tell.working(f"read {plural(self.summary.volumes, 'volume', 'volumes')}, {plural(self.summary.files, 'file', 'files')}")
 
-    def _keep(self, read: VolumeRead, lines: List[Held], old: Optional[VolumeRow]) -> None:
+    def _keep(self, image: str, read: VolumeRead, lines: List[Held], old: Optional[VolumeRow]) -> None:
         """Has the catalogue say what was read of a volume."""
         number, closed = read.about.number, read.row.state == STATE_CLOSED
         forget_beyond(self.catalogue, number, Commit(0) if closed else read.row.last_commit)
         replace_events(self.catalogue, number, read.events)
         same_rows.replace_lines(self.catalogue, number, lines)
-        self.catalogue.replace(self._row(read.row, closed, old), read.rows)
+        row = as_closed(image, read.row, old) if closed else read.row
+        if row.sha256 != read.row.sha256:
+            self.summary.failures.append(f"{shown(image)}: has another SHA-256 than when it was closed: run 'check {row.label}'")
+        self.catalogue.replace(self._row(row, closed, old), read.rows)
 
     def _is_older(self, old: VolumeRow, row: VolumeRow) -> bool:
         """Whether an open image is not the volume any more: that one was closed, or another folder has it and has filled it since."""
