@@ -5,17 +5,34 @@ from __future__ import annotations
 import os
 import random
 import shutil
+import signal
+import subprocess
+import sys
 import time
 from typing import Dict, Optional
 
 from .servers import Server
-from .support import LARGE, WithArchive, digests, kill, make_tree, standing_still, start, wait_until, write
+from .support import LARGE, WithArchive, digests, environment, kill, make_tree, standing_still, start, state_of, wait_until, write
 
 MACHINES = 4
 KILLS = 100 if LARGE else 12
 SERVER_KILLS = 10 if LARGE else 2
 FULL_LIST = 512
 """Files after which the catalogue has some of them, where a run stores more."""
+
+
+STOPS_BEFORE_THE_END = """
+import os, signal, sys
+from udfburn.archive.close import Closer
+end = Closer._end
+def ended(*words):
+    os.kill(os.getpid(), signal.SIGSTOP)
+    end(*words)
+Closer._end = ended
+from udfburn.archive.cli import main
+sys.exit(main(sys.argv[1:]))
+"""
+"""Runs the command, and stops it before it ends an image."""
 
 
 class OnServer(WithArchive):
@@ -178,6 +195,24 @@ class Machines(OnServer):
         self.run_in(first, "add", self.source, "--at", "/s", "--delete-source")
         self.assertEqual(self.get_all(first), before)
         self.require_agreed(first)
+
+    def test_lost_claims_close_nothing(self) -> None:
+        """Another folder has taken the volume over meanwhile."""
+        first, second = self.machine(1), self.machine(2)
+        write(os.path.join(self.source, "f"), b"1")
+        self.run_in(first, "add", self.source, "--at", "/s")
+        words = [sys.executable, "-c", STOPS_BEFORE_THE_END, "close", "--archive", first]
+        process = subprocess.Popen(words, env=environment(), stdout=subprocess.DEVNULL, stderr=subprocess.DEVNULL, start_new_session=True)
+        self.addCleanup(kill, process)
+        wait_until(lambda: process.poll() is not None or state_of(process.pid) == "T")
+        self.server.sql("SELECT pg_terminate_backend(pid) FROM pg_stat_activity WHERE datname = 'archive' AND state = 'idle in transaction'")
+        self.run_in(second, "adopt", "T-000001", os.path.join(first, "open", "T-000001.img"))
+        kept = self.server.sql("SELECT state, holder FROM volume", "archive")
+        process.send_signal(signal.SIGCONT)
+        self.assertEqual(process.wait(), 1)
+        self.assertEqual(self.server.sql("SELECT state, holder FROM volume", "archive"), kept)
+        self.run_in(second, "close")
+        self.run_in(second, "check", "--data")
 
     def test_what_a_killed_machine_left_is_not_there_twice(self) -> None:
         first, second = self.machine(1), self.machine(2)

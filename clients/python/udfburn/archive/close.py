@@ -141,6 +141,8 @@ class Closer:
                 self._keep_beside(source, target, contents)
                 # Below its bytes are compared with the digest. Reading its tree once more would show nothing else.
                 closed = contents.closed()
+            # Another folder may have taken the volume over, if the claim was lost meanwhile.
+            self.claims.require()
             # The image comes last, so what is in the folder `closed` has all that belongs to it.
             move(source, target)
         elif not os.path.isfile(target):
@@ -155,6 +157,7 @@ class Closer:
         if closed is None:
             raise VolumeDiffers(f"{shown(target)}: is among the closed volumes, but its bag was never finished")
         row = row._replace(state=STATE_CLOSED, length=length, sha256=digest, closed=closed, checked=now(), data_checked=now(), trouble=None)
+        self.claims.require()
         self.catalogue.save(row)
         forget_seen(self.catalogue, row.number)
         self._forget_ledger(row)
