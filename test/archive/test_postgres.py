@@ -12,7 +12,7 @@ import time
 from typing import Dict, Optional
 
 from .servers import Server
-from .support import LARGE, WithArchive, digests, environment, kill, make_tree, standing_still, start, state_of, wait_until, write
+from .support import LARGE, WithArchive, change, digests, environment, kill, make_tree, standing_still, start, state_of, wait_until, write
 
 MACHINES = 4
 KILLS = 100 if LARGE else 12
@@ -213,6 +213,25 @@ class Machines(OnServer):
         self.assertEqual(self.server.sql("SELECT state, holder FROM volume", "archive"), kept)
         self.run_in(second, "close")
         self.run_in(second, "check", "--data")
+
+    def test_damage_of_another_folder_s_image(self) -> None:
+        """A good copy in this folder says nothing of it."""
+        first, second = self.machine(1), self.machine(2)
+        os.mkdir(self.path("copies"))
+        for machine in (first, second):
+            self.run_in(machine, "remote", "add", self.path("copies"), "--same-device")
+        write(os.path.join(self.source, "f"), os.urandom(5000))
+        self.run_in(first, "add", self.source, "--at", "/s")
+        self.run_in(first, "close")
+        change(os.path.join(first, "closed", "T-000001.img"), 600_000)
+        self.run_in(first, "check", status=1)
+        self.assertEqual(self.run_in(second, "repair").last()["repaired"], 0)
+        self.assertIn("'repair T-000001' there", self.run_in(second, "repair", "T-000001", status=1).errors)
+        self.run_in(second, "check")
+        self.assertTrue(self.volumes(first)[0]["attention"])
+        self.run_in(first, "repair")
+        self.assertFalse(self.volumes(first)[0]["attention"])
+        self.run_in(first, "check", "--data")
 
     def test_what_a_killed_machine_left_is_not_there_twice(self) -> None:
         first, second = self.machine(1), self.machine(2)

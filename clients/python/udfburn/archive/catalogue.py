@@ -181,6 +181,11 @@ class Catalogue:
         """Each archive's folder: its host and its path, by its id."""
         return {id: f"{host}:{name_back(place)}" for id, host, place in self.base.run("SELECT id, host, place FROM holder")}
 
+    def is_here(self, volume: VolumeRow) -> bool:
+        """Whether this folder of the archive has a volume, by its id now or by the one of an `archive.toml` that was lost."""
+        holders = self.holders()
+        return volume.holder == self.config.id or holders.get(volume.holder, "") == holders.get(self.config.id)
+
     # ---- volumes
 
     def new_number(self) -> int:

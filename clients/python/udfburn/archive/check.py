@@ -106,7 +106,9 @@ class Checker:
             # Another process may have filled or closed it meanwhile.
             fresh, time = self.catalogue.volume(row.number) or row, now()
             data = time if self.options.data else fresh.data_checked
-            self.catalogue.save(fresh._replace(checked=time, data_checked=data, trouble=trouble if row.state == STATE_CLOSED else fresh.trouble))
+            # What is wrong with the image of another folder only that folder sees.
+            known = None if row.state == STATE_CLOSED and self.catalogue.is_here(fresh) else fresh.trouble
+            self.catalogue.save(fresh._replace(checked=time, data_checked=data, trouble=trouble if trouble and row.state == STATE_CLOSED else known))
         if trouble:
             self.bad.add((row.label, ""))
             self.failures.append(f"{row.label}: {trouble}: {self._cure(row)}")
@@ -287,8 +289,10 @@ class Repairer:
         image = self.config.path("closed", row.label + ".img")
         if not has_print(image, wanted, self.tell.passed):
             self._fetch(row, image, wanted)
-        if row.trouble:
+        if row.trouble and self.catalogue.is_here(row):
             self.catalogue.save(row._replace(trouble=None, checked=now()))
+        elif row.trouble:
+            self.failures.append(f"{row.label}: the image of the folder that has this volume is damaged: 'repair {row.label}' there, or 'adopt' it")
         for copy in self.catalogue.on_remotes(row.number):
             try:
                 remote = self._remote(row, copy.remote, "reading")

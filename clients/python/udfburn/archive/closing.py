@@ -136,7 +136,7 @@ def repair(arguments: argparse.Namespace) -> int:
 
         def needs(row: VolumeRow) -> bool:
             lost = is_lost(row, config, image_of(config, row) is not None, places.get(row.number))
-            return row.state != STATE_RETIRED and (bool(row.trouble) or row.number in copies or lost)
+            return row.state != STATE_RETIRED and (bool(row.trouble) and catalogue.is_here(row) or row.number in copies or lost)
 
         found = chosen(rows, arguments.volume, CheckOptions()) if arguments.volume else list(filter(needs, rows))
         repairer = Repairer(config, catalogue, claims, tell)
