@@ -210,6 +210,19 @@ class Folders(WithOpen):
             self.assertFalse([name for name in os.listdir(folder) if name.endswith((".tail", ".new"))])
         self.do("check", "--remotes", "--data")
 
+    def test_the_closed_image_itself(self) -> None:
+        """It is no copy, under whatever name."""
+        self.do("close")
+        os.unlink(self.copy())
+        os.link(self.image("closed"), self.copy())
+        self.assertIn("is the image itself, and no copy", self.do("check", "--remotes", status=1).errors)
+        self.assertEqual([volume["state"] for volume in self.volumes()], ["closed"])
+        self.do("repair", status=1)
+        os.unlink(self.copy())
+        self.do("repair")
+        self.do("check", "--remotes")
+        self.assertEqual([volume["state"] for volume in self.volumes()], ["copied"])
+
     def test_close_replaces_nothing_unknown(self) -> None:
         for index, data in enumerate((os.urandom(5000), None)):
             if data is not None:

@@ -192,12 +192,15 @@ class Checker:
     def _copy(self, row: VolumeRow, copy: Copy) -> None:
         """Looks at a copy on a remote."""
         self.tell.working(f"reading {row.label} on {copy.remote}")
+        remote, base, image = remote_of(self.catalogue, copy.remote, self.tell.passed), row.label + ".img", image_of(self.config, row)
         try:
-            found = remote_of(self.catalogue, copy.remote, self.tell.passed).look(row.label + ".img")
+            found = remote.look(base)
         except CopyFailed as error:
             self.failures.append(f"{row.label}: the copy on {copy.remote} cannot be checked: {error}")
             return
         trouble = None if found == Print(row.length or 0, row.sha256 or b"") else "is not there" if found is None else "is not as it was closed"
+        if image is not None and remote.is_file(image, base):
+            trouble = "is the image itself, and no copy: remove its name there, then"
         self.copies += 1
         self.catalogue.save_copy(copy._replace(checked=now(), trouble=trouble))
         if trouble:
@@ -296,7 +299,7 @@ class Repairer:
         for copy in self.catalogue.on_remotes(row.number):
             try:
                 remote = self._remote(row, copy.remote, "reading")
-                if remote.look(row.label + ".img") == wanted:
+                if remote.look(row.label + ".img") == wanted and not remote.is_file(image, row.label + ".img"):
                     complete(remote, image)
                 else:
                     self.tell.more(2 * wanted.length)
