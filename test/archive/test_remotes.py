@@ -6,9 +6,10 @@ import os
 import random
 import shutil
 import signal
+import sqlite3
 import subprocess
 import sys
-from contextlib import suppress
+from contextlib import closing, suppress
 from hashlib import sha256
 from pathlib import Path
 from typing import List, Optional, Sequence, Tuple
@@ -261,6 +262,14 @@ class Some(WithArchive):
             looked.append(line["volume"])
         self.assertEqual(sorted(looked), ["T-000001", "T-000002", "T-000003"])
         self.assertEqual(self.do("check", "--sample", "2").last()["volumes"], 2)
+        # One that nobody can look at here takes no turn, and one that was looked at by a clock that was ahead waits for none.
+        self.do("put-away", looked[0], "a shelf")
+        os.unlink(os.path.join(self.archive, "closed", looked[0] + ".img"))
+        with closing(sqlite3.connect(os.path.join(self.archive, "catalogue.sqlite"))) as base:
+            base.execute("UPDATE volume SET checked = checked + 30000000000000 WHERE label = ?", (looked[1],))
+            base.commit()
+        again = [line["volume"] for _ in range(2) for line in self.do("check", "--oldest").objects() if line.get("did") == "checked"]
+        self.assertEqual(sorted(again), sorted(looked[1:]))
 
 
 def linux_shows(test: WithArchive, images: Sequence[Tuple[str, Optional[int]]]) -> "List[linux.Mount]":

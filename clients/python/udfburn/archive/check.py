@@ -29,7 +29,7 @@ from .open_copies import GROWING, OpenCopies
 from .parity import durable, gathered, mended, parity_names, require_program
 from .remotes import Print, Remote, print_of_file, remote_of
 from .same import count_of, rows_on
-from .status import loss
+from .status import is_lost, loss
 from .tell import Tell, plural, shown_path
 
 
@@ -55,12 +55,28 @@ def chosen(rows: Sequence[VolumeRow], names: Sequence[str], options: CheckOption
         if retired:
             raise NotAtHand(f"{retired[0]}: was retired, and is not asked for any more")
         closed = [by_label[name] for name in dict.fromkeys(names)]
-    if options.oldest:
-        closed.sort(key=lambda row: (row.data_checked if options.data else row.checked) or 0)
-        return closed[: options.sample or 1]
-    if options.sample is not None:
+    if options.sample is not None and not options.oldest:
         return sorted(random.sample(closed, min(options.sample, len(closed))), key=lambda row: row.number)
     return closed
+
+
+def oldest(config: Config, catalogue: Catalogue, rows: Sequence[VolumeRow], options: CheckOptions) -> List[VolumeRow]:
+    """Those of the volumes that were not looked at for longest, by their images, or where these are not at hand by their copies. One of which
+    nothing can be looked at takes no turn; those that are lost are named each time."""
+    places, time = catalogue.put_away(), now()
+    lost: List[VolumeRow] = []
+    looked: Dict[int, int] = {}
+    for row in rows:
+        copies = catalogue.on_remotes(row.number) if options.remotes else []
+        if image_of(config, row) or odd_image(config, row):
+            looked[row.number] = (row.data_checked if options.data else row.checked) or 0
+        elif is_lost(row, config, False, places.get(row.number)):
+            lost.append(row)
+        elif copies:
+            looked[row.number] = min(copy.checked for copy in copies)
+    # What a clock that was ahead has noted says nothing.
+    found = sorted((row for row in rows if row.number in looked), key=lambda row: looked[row.number] if looked[row.number] <= time else 0)
+    return lost + found[: options.sample or 1]
 
 
 class Checker:

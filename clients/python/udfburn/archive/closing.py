@@ -9,7 +9,7 @@ from typing import Container, List, Sequence, Tuple
 from ..wire.operations import now
 from . import same_rows
 from .catalogue import STATE_CLOSED, STATE_CLOSING, STATE_FULL, STATE_RETIRED, Catalogue, VolumeRow, image_of
-from .check import CheckOptions, Checker, Repairer, chosen
+from .check import CheckOptions, Checker, Repairer, chosen, oldest
 from .claims import claims_of
 from .close import Closer
 from .config import Config, config_of
@@ -74,7 +74,8 @@ def check(arguments: argparse.Namespace) -> int:
     options = CheckOptions(arguments.data, arguments.remotes, arguments.sample, arguments.oldest)
     with Catalogue(config) as catalogue:
         checker = Checker(config, catalogue, tell, options)
-        checker.run(chosen(catalogue.volumes(), arguments.volume, options))
+        rows = chosen(catalogue.volumes(), arguments.volume, options)
+        checker.run(oldest(config, catalogue, rows, options) if options.oldest else rows)
         if options.remotes:
             check_open(checker, arguments.volume)
         places = catalogue.put_away()
