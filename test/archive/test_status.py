@@ -53,6 +53,16 @@ class WithCopies(WithArchive):
 
 
 class Needs(WithCopies):
+    def test_a_clock_that_was_ahead(self) -> None:
+        """What it has noted does not say that something was looked at."""
+        self.age("volume", -9000, 1)
+        self.age("copy", -9000, 2)
+        image, copy = self.needed()
+        self.assertRegex(image, r"^T-000001: was not checked at any known time \(a clock said 20..-..-..\): 'check T-000001'$")
+        self.assertRegex(copy, r"^T-000002: the copy on .* was not checked at any known time \(a clock said 20..-..-..\): 'check --remotes T-000002'$")
+        self.do("check", "--remotes")
+        self.assertEqual(self.needed(), [])
+
     def test_nothing(self) -> None:
         done = self.do("status", "--check")
         self.assertEqual(done.last()["attention"], 0)

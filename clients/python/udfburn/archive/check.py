@@ -43,8 +43,7 @@ class CheckOptions(NamedTuple):
 
 
 def chosen(rows: Sequence[VolumeRow], names: Sequence[str], options: CheckOptions) -> List[VolumeRow]:
-    """The volumes that are looked at: those that are named, each once, else all closed ones, of which some at random or those that were
-    not looked at for longest."""
+    """The volumes that are looked at: those that are named, each once, else all closed ones, of which some at random."""
     closed = [row for row in rows if row.state == STATE_CLOSED]
     if names:
         by_label = {row.label: row for row in rows}

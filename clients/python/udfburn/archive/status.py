@@ -10,6 +10,7 @@ from typing import Dict, List, NamedTuple, Optional, Sequence
 from ..base.errors import UsageError
 
 from ..protocol import limits
+from ..protocol.units import Moment
 from .catalogue import FILE_COLUMNS, STATE_CLOSED, STATE_CLOSING, STATE_FULL, STATE_NEW, STATE_RETIRED, Catalogue, Copy, Held, VolumeRow, folder_back, held_row, image_of, is_whole
 from .config import Config, volume_label
 from .errors import LOST, VolumeDiffers
@@ -18,7 +19,7 @@ from .open_copies import GROWING
 from .same_rows import WithoutBytes
 from .same_rows import lacking as without_bytes
 from .tail import sound_length
-from .tell import plural, shown_path
+from .tell import plural, shown_path, stamp
 from .tree import GREATEST_MANIFEST, most_nodes
 from .volume import look
 
@@ -28,6 +29,9 @@ UNITS = {"h": HOUR, "d": 24 * HOUR, "w": 168 * HOUR}
 
 STALE = 400 * UNITS["d"]
 """Microseconds after which a closed volume or a copy should be looked at again, and an open one copied, where no other age is asked for."""
+
+AHEAD = UNITS["d"]
+"""Microseconds by which the clock of another machine may be ahead of this one's."""
 
 NEED_KINDS = (
     "lost", "damaged", "copy_damaged", "not_closed", "not_copied", "not_checked", "copy_not_checked", "copy_behind", "older_image", "cut_short", "incomplete",
@@ -144,21 +148,30 @@ def needs(row: VolumeRow, at_hand: bool, copies: List[Copy], config: Config, now
 def unchecked(row: VolumeRow, at_hand: bool, copies: List[Copy], now: int, stale: int) -> List[Need]:
     """What was not looked at for longer than an age: a closed image at hand, and its good copies."""
     found: List[Need] = []
-    checked = row.checked or row.closed or 0
-    if row.state == STATE_CLOSED and at_hand and now - checked > stale:
-        found.append(Need("not_checked", f"was not checked for {days(now - checked)}: 'check {row.label}'"))
+    why = None if row.state != STATE_CLOSED or not at_hand else why_stale(row.checked or row.closed or 0, now, stale)
+    if why is not None:
+        found.append(Need("not_checked", f"was not checked {why}: 'check {row.label}'"))
     for copy in copies:
-        if row.state == STATE_CLOSED and not copy.trouble and now - copy.checked > stale:
+        why = None if row.state != STATE_CLOSED or copy.trouble else why_stale(copy.checked, now, stale)
+        if why is not None:
             disc = copy.disc()
             what, how = (f"the disc {disc}", f"'check --disc {disc}'") if disc else (f"the copy on {copy.remote}", f"'check --remotes {row.label}'")
-            found.append(Need("copy_not_checked", f"{what} was not checked for {days(now - copy.checked)}: {how}", copy.remote))
+            found.append(Need("copy_not_checked", f"{what} was not checked {why}: {how}", copy.remote))
     return found
+
+
+def why_stale(then: int, now: int, stale: int) -> Optional[str]:
+    """For how long nobody did what was last done at a moment, where that is too long; None where it is not. A moment that is yet to come is of
+    a clock that was wrong, and says nothing."""
+    if then - now > AHEAD:
+        return f"at any known time (a clock said {stamp(Moment(then))[:10]})"
+    return f"for {days(now - then)}" if now - then > stale else None
 
 
 def behind(lagging: Sequence[Lag], now: int, stale: int) -> List[Need]:
     """What the copies of an open volume lack for longer than an age."""
-    old = [(lag, now - lag.since) for lag in lagging if lag.since is not None and now - lag.since > stale]
-    return [Need("copy_behind", f"has what was not copied to {lag.remote} for {days(count)}: 'copy'", lag.remote) for lag, count in old]
+    old = [(lag, why_stale(lag.since, now, stale)) for lag in lagging if lag.since is not None]
+    return [Need("copy_behind", f"has what was not copied to {lag.remote} {why}: 'copy'", lag.remote) for lag, why in old if why is not None]
 
 
 def days(count: int) -> str:
