@@ -113,6 +113,32 @@ class Chosen(WithArchive):
 
 
 class AsClosed(WithArchive):
+    def catalogue(self, source: str, target: str) -> None:
+        """Copies a catalogue from one folder to another, in the place of what is there."""
+        for name in os.listdir(target):
+            if name.startswith("catalogue"):
+                os.unlink(os.path.join(target, name))
+        for name in os.listdir(source):
+            if name.startswith("catalogue"):
+                shutil.copy(os.path.join(source, name), target)
+
+    def test_what_the_catalogue_does_not_know(self) -> None:
+        """It came from a backup, and the volume was filled and closed since: `close` takes it for closed no more than `add` does."""
+        self.init()
+        os.mkdir(self.path("backup"))
+        write(os.path.join(self.source, "f"), b"1")
+        self.add()
+        self.catalogue(self.archive, self.path("backup"))
+        write(os.path.join(self.source, "g"), b"2")
+        self.add()
+        self.do("close")
+        self.catalogue(self.path("backup"), self.archive)
+        for done in (self.do("close", status=1), self.add(status=1)):
+            self.assertIn("older than the volumes: run 'udfburn-archive rebuild' first", done.errors)
+        self.do("rebuild")
+        self.assertEqual([row["path"] for row in self.rows()], ["/s/f", "/s/g"])
+        self.assertEqual(self.add().last()["same"], 2)
+
     def test_what_only_the_catalogue_knows(self) -> None:
         """What a damaged image has now is not taken for what it had when it was closed, where nothing beside it says that."""
         os.mkdir(self.path("copies"))

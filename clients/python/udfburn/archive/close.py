@@ -29,7 +29,7 @@ from .catalogue import Catalogue, Copy, Held, STATE_CLOSED, STATE_CLOSING, Volum
 from .claims import Claims
 from .config import Config
 from .contents import SIZE, Contents, File, number, read_fields
-from .errors import ArchiveError, CopyFailed, NotAtHand, VolumeDiffers
+from .errors import ArchiveError, CatalogueError, CopyFailed, NotAtHand, VolumeDiffers
 from .lag import forget_seen
 from .names import is_bundle
 from .parity import make as make_parity
@@ -38,7 +38,7 @@ from .remotes import Print, Remote, print_of_file, remote_of
 from .same import count_of, rows_on
 from .tail import locked
 from .tell import Tell, plural, shown_path, stamp
-from .volume import OpenVolume
+from .volume import REBUILD, OpenVolume
 
 READ_TO_CLOSE, READ_TO_SEND = 3, 2
 """How often the bytes of an image are read or written to close it, and for each copy."""
@@ -153,6 +153,10 @@ class Closer:
             raise VolumeDiffers(f"{shown(target)}: is not as it was closed: its length or SHA-256 differs")
         if closed is None:
             with closing(Contents(target)) as contents:
+                if (contents.label, contents.formatted) != (row.label, row.formatted):
+                    raise VolumeDiffers(f"{shown(target)}: is not {row.label}: its label or moment of format differs")
+                if contents.last_commit != row.last_commit:
+                    raise CatalogueError(f"{row.label} was closed as the catalogue does not know it: that is older than the volumes: {REBUILD}")
                 closed = contents.closed()
         if closed is None:
             raise VolumeDiffers(f"{shown(target)}: is among the closed volumes, but its bag was never finished")
