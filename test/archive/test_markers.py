@@ -3,6 +3,7 @@
 from __future__ import annotations
 
 import os
+import shutil
 import subprocess
 import tomllib
 from typing import Any, Dict, List
@@ -38,6 +39,26 @@ class Markers(WithArchive):
     def toml(self) -> Dict[str, Any]:
         with open(self.path("archive", "archive.toml"), "rb") as file:
             return tomllib.load(file)
+
+    def test_another_disk_in_its_place(self) -> None:
+        """It takes copies once it has a marker, and has none of those that the one before had."""
+        folder = self.path("disk")
+        os.mkdir(folder)
+        self.init("--copies", folder)
+        for name, command in (("f", "close"), ("g", "copy")):
+            write(os.path.join(self.source, name), name.encode())
+            self.add()
+            self.do(command)
+        self.do("status", "--check", "--stale", "1h")
+        shutil.rmtree(folder)
+        os.mkdir(folder)
+        self.do("remote", "add", folder)
+        self.assertIn(f"T-000001: the copy on {folder}: is not there", self.do("status", "--check", status=1).errors)
+        self.assertEqual([volume["state"] for volume in self.volumes()], ["closed", "open"])
+        self.do("repair")
+        self.do("copy")
+        self.assertEqual(self.do("check", "--remotes").last()["copies"], 2)
+        self.do("status", "--check")
 
     def test_a_disk_that_is_not_mounted(self) -> None:
         self.mount()

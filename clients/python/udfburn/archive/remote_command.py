@@ -9,7 +9,8 @@ from ..base.errors import UsageError
 from .catalogue import Catalogue, STATE_CLOSED
 from .config import Config, change, check_remote, config_of, quoted_list
 from .errors import BadConfig, CopyFailed
-from .markers import require_place, write_marker
+from .lag import forget_seen
+from .markers import opened_folder, require_place, write_marker
 from .remotes import owner_of, remote_of
 from .tell import Tell, plural, tell_of
 
@@ -55,12 +56,28 @@ def added(config: Config, catalogue: Catalogue, tell: Tell, name: str, same_devi
     if os.path.isabs(name):
         require_place(owner, name)
         write_marker(owner, name)
+        note_lacking(catalogue, tell, name)
     if same_device and not config.same_device:
         values["same_device"] = "true"
     changed = change(config, **values) if values else config
     wanted = f"copies_wanted is {changed.wanted} of {len(changed.copies)}"
     tell.result(f"{'added' if new else 'has already'} {name}: {wanted}", remote=name, new=new, remotes=len(changed.copies), wanted=changed.wanted)
     return 0
+
+
+def note_lacking(catalogue: Catalogue, tell: Tell, name: str) -> None:
+    """Has the catalogue say which copies are not in a folder: another disk may be there than the one that had them. Of the volumes of another
+    machine that has a disk there too nothing is said."""
+    with opened_folder(name) as root:
+        there = set(root.names_in(()))
+    for row in catalogue.volumes():
+        if row.label + ".img" in there or not catalogue.is_here(row):
+            continue
+        forget_seen(catalogue, row.number, name)
+        for copy in catalogue.copies(row.number):
+            if copy.remote == name and copy.trouble is None:
+                catalogue.save_copy(copy._replace(trouble="is not there"))
+                tell.note(f"{row.label}: the copy on {name} is not there: 'repair {row.label}'", did="lacks", volume=row.label, remote=name)
 
 
 def removed(config: Config, catalogue: Catalogue, tell: Tell, name: str) -> int:
