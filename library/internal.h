@@ -195,6 +195,7 @@ struct udfburn_port {
     int32_t number;             /* by which the core calls it */
     int32_t verifies;           /* what is written is read back */
     uint32_t end;               /* where the core goes on, while the drive goes on further; else 0 */
+    int32_t answers;            /* the core answers messages: what it reads then belongs to commits */
     struct udfburn_port *next;
 };
 

@@ -342,18 +342,27 @@ static int32_t find_group(struct udfburn_mmc *mmc, uint32_t address, struct udfb
     return outcome;
 }
 
+/* Copies a block of the medium. Zeros stand for one without data where the volume is looked for, and not where it belongs to a commit: they
+ * would be taken for bytes of a file. */
+static int32_t copy_block(struct udfburn_mmc *mmc, uint32_t address, uint8_t *block) {
+    struct udfburn_group *group;
+    int32_t outcome = find_group(mmc, address, &group);
+    if (outcome != 0) return outcome;
+    if (is_empty(mmc, address) && mmc->port && mmc->port->answers) return note_read(read_part(mmc, 0, address, 1, block));
+    memcpy(block, group->blocks + (size_t)(address - group->first) * UDFBURN_BLOCK, UDFBURN_BLOCK);
+    return 0;
+}
+
 int32_t udfburn_mmc_read(void *context, uint32_t address, uint32_t count, void *blocks) {
     struct udfburn_mmc *mmc = context;
     uint8_t *into = blocks;
     for (; count > 0; count--, address++, into += UDFBURN_BLOCK) {
-        struct udfburn_group *group;
         if (address >= mmc->next) {
             memcpy(into, mmc->held + (size_t)(address - mmc->next) * UDFBURN_BLOCK, UDFBURN_BLOCK);
             continue;
         }
-        int32_t outcome = find_group(mmc, address, &group);
+        int32_t outcome = copy_block(mmc, address, into);
         if (outcome != 0) return outcome;
-        memcpy(into, group->blocks + (size_t)(address - group->first) * UDFBURN_BLOCK, UDFBURN_BLOCK);
     }
     return 0;
 }

@@ -46,6 +46,7 @@ struct udfburn_group {
 
 struct udfburn_mmc {
     int fd;
+    const struct udfburn_port *port;    /* of the handle that is open, or NULL */
     pid_t process;              /* that opened it */
     uint32_t profile;           /* of the medium */
     uint32_t unit;              /* blocks that are written at once */

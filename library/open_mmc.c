@@ -96,6 +96,7 @@ static int32_t open_mmc(const char *device, uint32_t flags, udfburn **out) {
     status = udfburn_open_drive_in(&drive, 0, out);
     if (status == UDFBURN_OK) {
         (*out)->release = release;
+        mmc->port = (*out)->port;
         udfburn_keep_path(*out, device);
     } else {
         note_spoiled(mmc, status);

@@ -275,6 +275,14 @@ int udfburn_between_frames(const udfburn *handle) {
     return handle->length_bytes == 0 && udfburn_answered_in(handle) == 0;
 }
 
+static int32_t answer_part(udfburn *handle, const uint8_t *bytes, size_t count) {
+    struct udfburn_port *port = handle->port;
+    if (port) port->answers = 1;
+    int32_t status = udfburn_core_answer(handle->core, bytes, count);
+    if (port) port->answers = 0;
+    return status;
+}
+
 int32_t udfburn_answer_in(udfburn *handle, const void *bytes, size_t count) {
     const uint8_t *from = bytes;
     int32_t status = UDFBURN_OK;
@@ -283,7 +291,7 @@ int32_t udfburn_answer_in(udfburn *handle, const void *bytes, size_t count) {
     /* To a drive one message after another, since it may go on elsewhere after each commit. */
     while (count > 0 && status == UDFBURN_OK) {
         size_t part = handle->port ? follow(handle, from, count) : follow_all(handle, from, count);
-        status = udfburn_core_answer(handle->core, from, part);
+        status = answer_part(handle, from, part);
         if (status == UDFBURN_OK) status = udfburn_follow_drive(handle);
         from += part;
         count -= part;

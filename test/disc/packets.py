@@ -407,6 +407,25 @@ def client_faults(room: Room, kind: str) -> None:
     expect(said.status == 1 and "take another one" in said.errors, said)
 
 
+def client_reads(room: Room, kind: str) -> None:
+    """A file with a block that cannot be read any more is not given with zeros in its place, and its source is not deleted, though it has
+    zeros there. The other files are given."""
+    recorder, tree, unit = Recorder(f"SCRATCHED-{kind}", kind), tree_of(room, f"scratched-{kind}", 0), KINDS[kind].unit
+    (tree / "zeros").write_bytes(bytes(200_000) + b"end of zeros")
+    (tree / "other").write_bytes(b"other" * 20_000)
+    expect(room.client(recorder, "format", "--label", "SCRATCHED").status == 0, "format")
+    expect(room.client(recorder, "put", "-r", str(tree), "/tree").status == 0, "put")
+    at = recorder.data.index(b"end of zeros") // BLOCK - 2 * unit
+    recorder.spoiled.update(range(at - at % unit, at - at % unit + unit))
+    out = room.folder / f"out-scratched-{kind}"
+    said = room.client(recorder, "get", "/tree/zeros", str(out), "--wait", "0")
+    expect(said.status == 1 and not out.exists() and "the recorder fails, or its disc does" in said.errors, said)
+    said = room.client(recorder, "put", "-r", str(tree), "/tree", "--delete-source", "--wait", "0")
+    expect(said.status == 1 and (tree / "zeros").exists(), said)
+    said = room.client(recorder, "get", "/tree/other", str(out))
+    expect(said.status == 0 and out.read_bytes() == b"other" * 20_000, said)
+
+
 def tests(room: Room) -> List[Tuple[str, Callable[[], None]]]:
     found: List[Tuple[str, Callable[[], None]]] = []
     for kind in KINDS:
@@ -432,6 +451,7 @@ def tests(room: Room) -> List[Tuple[str, Callable[[], None]]]:
             (f"{kind}: the client", partial(by_client, room, kind)),
             (f"{kind}: the client deletes sources, and power is lost", partial(client_deletes, room, kind)),
             (f"{kind}: the client and writes that fail", partial(client_faults, room, kind)),
+            (f"{kind}: the client and blocks that cannot be read any more", partial(client_reads, room, kind)),
         ]
     found += [
         ("cdr: the last link is not counted", partial(good, room, "cdr", Faults(ends_early=True))),
