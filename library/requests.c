@@ -354,6 +354,9 @@ int32_t udfburn_read_in(udfburn *handle, const char *path, uint64_t offset, void
 
 int32_t udfburn_read(udfburn *handle, const char *path, uint64_t offset, void *into, size_t room, size_t *length) {
     struct udfburn_call call;
+    if (length) {
+        *length = 0;
+    }
     int32_t status = udfburn_enter(&call, handle);
     return status == UDFBURN_OK ? udfburn_leave(&call, udfburn_read_in(handle, path, offset, into, room, length)) : status;
 }

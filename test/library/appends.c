@@ -163,9 +163,15 @@ static void arguments(void) {
     STATUS(UDFBURN_ARGUMENT, udfburn_append(handle, &request, "/a", 0, bytes, SIZE_MAX));
     STATUS(UDFBURN_TEXT, udfburn_append(handle, &request, "a", 0, "x", 1));
     EXPECT(request.commit == 0);
+    count = 9;
     STATUS(UDFBURN_ARGUMENT, udfburn_read(NULL, "/a", 0, &byte, 1, &count));
+    EXPECT(count == 0);
+    count = 9;
     STATUS(UDFBURN_ARGUMENT, udfburn_read(handle, NULL, 0, &byte, 1, &count));
+    EXPECT(count == 0);
+    count = 9;
     STATUS(UDFBURN_ARGUMENT, udfburn_read(handle, "/a", 0, NULL, 1, &count));
+    EXPECT(count == 0);
     STATUS(UDFBURN_ARGUMENT, udfburn_read(handle, "/a", 0, &byte, 1, NULL));
     STATUS(UDFBURN_TEXT, udfburn_read(handle, "//", 0, &byte, 1, &count));
     STATUS(UDFBURN_NOT_FOUND, udfburn_read(handle, "/b", 0, &byte, 1, &count));

@@ -261,7 +261,9 @@ static void try_all(udfburn *handle) {
     STATUS(UDFBURN_MISUSE, udfburn_last_number(handle, 9, &number));
     STATUS(UDFBURN_MISUSE, udfburn_stat(handle, "/", &node));
     STATUS(UDFBURN_MISUSE, udfburn_get(handle, "/a", bytes, sizeof bytes, &count));
+    count = 9;
     STATUS(UDFBURN_MISUSE, udfburn_read(handle, "/a", 0, bytes, sizeof bytes, &count));
+    EXPECT(count == 0);
     STATUS(UDFBURN_MISUSE, udfburn_list(handle, "/", &names, &count));
     EXPECT(!names && count == 0);
     STATUS(UDFBURN_MISUSE, udfburn_entries(handle, "/", sizeof *entries, &entries, &count));
