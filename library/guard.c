@@ -65,8 +65,7 @@ static void begin_call(struct udfburn_call *call, udfburn *handle, const char *p
     call->outer = current;
     current = call;
     /* Each call returns the same from then on. */
-    if (handle && handle->lost && handle->port) udfburn_note_as(UDFBURN_DEVICE, "drive.next", EIO);
-    else if (handle && handle->lost) udfburn_note_as(UDFBURN_DEVICE, "fstat", ENOENT);
+    if (handle && handle->lost) udfburn_note_as(UDFBURN_DEVICE, handle->port ? "drive.next" : "fstat", handle->lost);
 }
 
 void udfburn_enter_without(struct udfburn_call *call, const char *path) { begin_call(call, NULL, path); }

@@ -91,7 +91,7 @@ struct udfburn {
     void *core;
     struct udfburn_file file;
     int32_t ended;              /* what udfburn_answer() returns from now on, or UDFBURN_OK */
-    int32_t lost;               /* the file is not there any more, or the drive gives another volume: no answer is given */
+    int32_t lost;               /* the file is not there any more, or the drive gives another volume: no answer is given; the errno, or 0 */
     int32_t in_group;           /* udfburn_begin() was called, and udfburn_settle() not yet */
     int32_t group_lost;         /* why the group was taken back, or UDFBURN_OK */
     unsigned length_bytes;      /* of the frame that has begun: how many bytes of its length came */

@@ -197,7 +197,7 @@ void udfburn_close(udfburn *handle) {
 
 int32_t udfburn_check_file(udfburn *handle) {
     if (!handle->lost && !udfburn_has_file(&handle->file)) {
-        handle->lost = 1;
+        handle->lost = udfburn_is_file(&handle->file) ? ENOENT : EBADF;
         handle->ended = UDFBURN_DEVICE;
     }
     return handle->lost ? UDFBURN_DEVICE : UDFBURN_OK;
@@ -247,7 +247,7 @@ int32_t udfburn_follow_drive(udfburn *handle) {
     if (status == UDFBURN_OK || status == UDFBURN_MEMORY) return status;
     /* A commit that the drive does not give any more is not acknowledged. */
     udfburn_note("drive.next", EIO);
-    handle->lost = 1;
+    handle->lost = EIO;
     return UDFBURN_DEVICE;
 }
 

@@ -206,6 +206,19 @@ static void of_a_lost_file(void) {
     udfburn_close(handle);
 }
 
+/* Its descriptor is closed by mistake, and its name is there: each call says so. */
+static void of_a_lost_descriptor(void) {
+    struct udfburn_node node;
+    make("lost.img");
+    udfburn *handle = opened("lost.img");
+    EXPECT(!close(descriptor_of("lost.img")));
+    for (int i = 0; i < 2; i++) {
+        STATUS(UDFBURN_DEVICE, udfburn_stat(handle, "/", &node));
+        EXPECT(is_told(handle, UDFBURN_DEVICE, EBADF, "fstat", "lost.img"));
+    }
+    udfburn_close(handle);
+}
+
 /* ---- Drives ---- */
 
 static struct {
@@ -264,6 +277,7 @@ int main(int argc, char **argv) {
     of_the_limit_of_a_process();
     of_a_full_disk(argv[2]);
     of_a_lost_file();
+    of_a_lost_descriptor();
     of_drives();
     EXPECT(descriptors() == before);
     return finish("reasons");
