@@ -103,6 +103,7 @@ int32_t udfburn_enter(struct udfburn_call *call, udfburn *handle) {
 int32_t udfburn_leave(struct udfburn_call *call, int32_t status) {
     udfburn *handle = call->handle;
     if (status == UDFBURN_DEVICE) status = handle && handle->in_memory ? UDFBURN_MEMORY : call->status;
+    if (status == UDFBURN_MISUSE) refused(status);
     if (status != UDFBURN_OK && status != UDFBURN_NONE) {
         struct udfburn_why *why = handle ? &handle->why : &last;
         why->status = status;

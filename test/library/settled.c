@@ -158,6 +158,9 @@ static void misuse(void) {
     STATUS(UDFBURN_MISUSE, udfburn_begin(handle));
     STATUS(UDFBURN_OK, udfburn_reason(handle, &reason));
     EXPECT(reason.status == UDFBURN_MISUSE && reason.error == 0);
+    /* It is told without the handle too, as each misuse. */
+    STATUS(UDFBURN_OK, udfburn_reason(NULL, &reason));
+    EXPECT(reason.status == UDFBURN_MISUSE);
     STATUS(UDFBURN_MISUSE, udfburn_answer(handle, get_a, sizeof get_a));
     STATUS(UDFBURN_OK, make_directory(handle, 2));
     STATUS(UDFBURN_OK, udfburn_settle(handle));
