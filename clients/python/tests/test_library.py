@@ -11,8 +11,9 @@ import time
 import unittest
 from contextlib import redirect_stderr
 from io import StringIO
+from threading import Event, Thread
 from types import SimpleNamespace
-from typing import Dict
+from typing import Dict, List
 from unittest import mock
 
 from udfburn import Client
@@ -220,6 +221,30 @@ class Statuses(WithStub):
             volume.close()
             volume.close()
         self.assertEqual([bool(call.args[0].value) for call in closed.call_args_list], [True, False])
+
+    def test_closed_by_another_thread(self) -> None:
+        """The library leaves a volume open that is in a call, so it is closed after the call."""
+        found, begun, goes_on = library.find_library(), Event(), Event()
+        volume = library.LibraryVolume(found, self.image)
+        done: List[str] = []
+
+        def answer(*words: object) -> int:
+            begun.set()
+            goes_on.wait(60)
+            done.append("answered")
+            return library.OK
+
+        closed = mock.patch.object(found.calls, "udfburn_close", lambda handle: done.append("closed"))
+        with closed, mock.patch.object(found.calls, "udfburn_answer", answer):
+            threads = [Thread(target=volume.answer, args=(b"",)), Thread(target=volume.close)]
+            threads[0].start()
+            self.assertTrue(begun.wait(60))
+            threads[1].start()
+            threads[1].join(0.2)
+            goes_on.set()
+            for thread in threads:
+                thread.join()
+        self.assertEqual(done, ["answered", "closed"])
 
 
 if __name__ == "__main__":

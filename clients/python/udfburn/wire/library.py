@@ -7,6 +7,8 @@ from __future__ import annotations
 
 import ctypes
 import os
+from contextlib import nullcontext
+from threading import RLock
 from typing import Dict, List, NamedTuple, Optional, Tuple
 
 from ..base.errors import DAMAGE, Damaged, DiskFull, UsageError
@@ -93,6 +95,7 @@ class LibraryVolume:
         self._library = library
         self._process = os.getpid()
         self._handle = HANDLE()
+        self._in_call = RLock()
         try:
             library.require(self._opened(path))
         except BaseException:
@@ -109,7 +112,13 @@ class LibraryVolume:
         """Sends bytes of the stream of messages. Every message that is complete is answered."""
         if os.getpid() != self._process:
             raise UsageError("the volume was opened before the fork and belongs to the parent: when the parent has closed it, close it in the child too and open it again")
-        self._library.require(self._library.calls.udfburn_answer(self._handle, frames, len(frames)), self._handle)
+        # The library itself refuses a call while another thread is in one.
+        is_first = self._in_call.acquire(blocking=False)
+        try:
+            self._library.require(self._library.calls.udfburn_answer(self._handle, frames, len(frames)), self._handle)
+        finally:
+            if is_first:
+                self._in_call.release()
 
     def take(self, most: int) -> bytes:
         """The next bytes of the answers, at most so many. Empty if no answer waits."""
@@ -120,11 +129,15 @@ class LibraryVolume:
     def close(self) -> None:
         """Closes the volume, so that others can open it. Everything that was answered is on the disk already.
 
+        A call of another thread is waited for, since the library would leave the volume open, and locked as long as this process is there.
+
         In a child after fork it closes the child's copy, which else keeps the lock after the parent has closed the volume. The
         parent loses nothing by it.
         """
-        handle, self._handle = self._handle, HANDLE()
-        self._library.calls.udfburn_close(handle)
+        # The threads of a parent are not in its child.
+        with self._in_call if os.getpid() == self._process else nullcontext():
+            handle, self._handle = self._handle, HANDLE()
+            self._library.calls.udfburn_close(handle)
 
 
 class LibraryConnection(Connection):
