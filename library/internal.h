@@ -191,6 +191,7 @@ int udfburn_is_file(const struct udfburn_file *file);
 /* A drive that is open. */
 struct udfburn_port {
     struct udfburn_drive drive;
+    pid_t process;              /* that writes to it */
     uint32_t capacity;
     int32_t number;             /* by which the core calls it */
     int32_t verifies;           /* what is written is read back */

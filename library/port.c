@@ -73,6 +73,7 @@ int32_t udfburn_make_port(const struct udfburn_drive *drive, struct udfburn_port
     struct udfburn_port *port = calloc(1, sizeof *port);
     if (!port) return UDFBURN_MEMORY;
     port->drive = *drive;
+    port->process = getpid();
     if (!enter(port)) {
         free(port);
         udfburn_note_as(UDFBURN_BUSY, "open", EBUSY);
@@ -161,6 +162,14 @@ static int is_there(const struct udfburn_port *port, uint32_t address, uint32_t 
     return 0;
 }
 
+/* Whether a function of the drive was divided by fork(), and this is the child: only the parent goes on with the call. */
+static int is_child(const struct udfburn_port *port) {
+    if (port->process == getpid()) return 0;
+    udfburn_note_as(UDFBURN_MISUSE, "drive.write", EPERM);
+    errno = EIO;
+    return 1;
+}
+
 ssize_t udfburn_port_pwrite(int number, const void *from, size_t count, off_t offset);
 ssize_t udfburn_port_pwrite(int number, const void *from, size_t count, off_t offset) {
     struct udfburn_port *port = port_of(number);
@@ -170,7 +179,9 @@ ssize_t udfburn_port_pwrite(int number, const void *from, size_t count, off_t of
     if (blocks_of(count, offset, &address, &blocks) || ask_next(port, &next)) return -1;
     /* No address is written twice, whatever became of the drive meanwhile. */
     if (address != next || blocks > port->capacity - next) return failed("drive.next", ERANGE);
+    if (is_child(port)) return -1;
     outcome = port->drive.write(port->drive.context, address, blocks, from);
+    if (is_child(port)) return -1;
     if (outcome != 0) return failed("drive.write", outcome);
     if (ask_next(port, &next)) return -1;
     /* A drive that does not have what it took has not kept it. */

@@ -327,6 +327,43 @@ static void from_within(void) {
     udfburn_close(handle);
 }
 
+/* ---- A drive whose function is divided by fork(), and returns in both processes ---- */
+
+static struct {
+    int is_due, writes;
+    pid_t child;
+} divided;
+
+static int32_t write_and_fork(void *context, uint32_t address, uint32_t count, const void *blocks) {
+    divided.writes++;
+    medium_write(context, address, count, blocks);
+    if (divided.is_due) {
+        fflush(stdout);
+        divided.is_due = 0;
+        divided.writes = 0;
+        divided.child = fork();
+    }
+    return 0;
+}
+
+/* The call goes on in the parent alone: the child writes nothing more, and is told that. */
+static void divided_call(void) {
+    const struct udfburn_drive drive = {&disc.medium, medium_capacity, medium_next, medium_read, write_and_fork};
+    udfburn *handle = NULL;
+    int status;
+    disc.medium.next = 0;
+    STATUS(UDFBURN_OK, udfburn_format_drive(&drive, "DISC", MOMENT));
+    STATUS(UDFBURN_OK, udfburn_open_drive(&drive, &handle));
+    divided.is_due = 1;
+    divided.child = -1;
+    int32_t outcome = create(handle, 0, 0);
+    if (divided.child == 0) _exit(outcome == UDFBURN_MISUSE && divided.writes == 0 ? 0 : 1);
+    STATUS(UDFBURN_OK, outcome);
+    EXPECT(divided.child > 0 && waitpid(divided.child, &status, 0) == divided.child && status == 0 && divided.writes > 0);
+    EXPECT(has(handle, 0, 0));
+    udfburn_close(handle);
+}
+
 int main(int argc, char **argv) {
     if (argc < 3 || chdir(argv[1])) return EXIT_FAILURE;
     int runs = atoi(argv[2]), before = descriptors();
@@ -339,6 +376,7 @@ int main(int argc, char **argv) {
         locks_of_duplicates();
         locks_of_others();
         from_within();
+        divided_call();
     }
     EXPECT(descriptors() == before);
     return finish("guards");
