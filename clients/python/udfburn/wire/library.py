@@ -7,7 +7,7 @@ from __future__ import annotations
 
 import ctypes
 import os
-from contextlib import nullcontext
+from contextlib import ExitStack
 from threading import RLock
 from typing import Dict, List, NamedTuple, Optional, Tuple
 
@@ -134,8 +134,10 @@ class LibraryVolume:
         In a child after fork it closes the child's copy, which else keeps the lock after the parent has closed the volume. The
         parent loses nothing by it.
         """
-        # The threads of a parent are not in its child.
-        with self._in_call if os.getpid() == self._process else nullcontext():
+        with ExitStack() as turn:
+            # The threads of a parent are not in its child.
+            if os.getpid() == self._process:
+                turn.enter_context(self._in_call)
             handle, self._handle = self._handle, HANDLE()
             self._library.calls.udfburn_close(handle)
 
