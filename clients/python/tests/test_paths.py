@@ -54,7 +54,7 @@ ALLOWED: Dict[str, Dict[str, str]] = {
     "archive.seen": {"os.path.lexists": FOLDER, "sqlite3.connect": OWN},
     "archive.scan": {"os.stat": KIND, "os.path.isdir": KIND},
     "archive.status": {"os.path.isfile": KIND},
-    "archive.volume": {"os.path.lexists": FOLDER, "os.path.getsize": KIND},
+    "archive.volume": {"os.access": KIND, "os.path.lexists": FOLDER, "os.path.getsize": KIND},
     "discs.burning": {"open": SYSTEM, "os.open": DEVICE, "os.path.samefile": DEVICE, "os.stat": DEVICE},
     "commands.check": {"os.stat": KIND},
     "wire.connection": {"open": SYSTEM, "os.readlink": SYSTEM, "os.open": NAMED, "tempfile.TemporaryFile": OURS},

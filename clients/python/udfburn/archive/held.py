@@ -20,7 +20,7 @@ COUNT = (int, type(None))
 
 BYTES = (bytes, memoryview)
 
-FILE_TYPES: ColumnTypes = (int, str, int, int, BYTES, int, COUNT, COUNT)
+HELD_TYPES: ColumnTypes = (int, str, int, int, BYTES, int, COUNT, COUNT)
 """The types of the values of a row of files."""
 
 
@@ -125,7 +125,7 @@ def require_types(row: Row, types: ColumnTypes) -> None:
 
 def held_row(folder: Path, row: Row) -> Held:
     """A row of files."""
-    require_types(row, FILE_TYPES)
+    require_types(row, HELD_TYPES)
     id, name, size, moment, sha256, added, first, count = row
     path = folder + (name_back(name),)
     return Held(*volume_and_commit(int(id)), path, Size(int(size)), Moment(int(moment)), bytes(sha256), Moment(int(added)), first, count)
