@@ -11,6 +11,7 @@ import unittest
 from hashlib import sha256
 from types import SimpleNamespace
 from typing import Any, Dict, List, Optional
+from unittest.mock import patch
 
 from .support import PACKAGE, write
 
@@ -19,7 +20,7 @@ sys.path.insert(0, PACKAGE)
 from udfburn.archive import closing  # noqa: E402
 from udfburn.archive.assemble import assembled, likeliest  # noqa: E402
 from udfburn.archive.catalogue import STATE_CLOSED, STATE_FULL, STATE_RETIRED  # noqa: E402
-from udfburn.archive.check import CheckOptions, chosen  # noqa: E402
+from udfburn.archive.check import CheckOptions, chosen, oldest  # noqa: E402
 from udfburn.archive.errors import NotAtHand  # noqa: E402
 from udfburn.archive.remotes import Print  # noqa: E402
 
@@ -96,18 +97,26 @@ class Chosen(unittest.TestCase):
         return [row.label for row in found]
 
     def test_those_that_are_checked(self) -> None:
-        some = rows("open", STATE_CLOSED, STATE_RETIRED, STATE_CLOSED, STATE_CLOSED, checked=[0, 9, 0, 3, 5], data_checked=[0, 1, 0, None, 7])
+        some = rows("open", STATE_CLOSED, STATE_RETIRED, STATE_CLOSED, STATE_CLOSED)
         self.assertEqual(self.labels(chosen(some, [], CheckOptions())), ["T-2", "T-4", "T-5"])
         self.assertEqual(self.labels(chosen(some, ["T-1", "T-5", "T-1"], CheckOptions())), ["T-1", "T-5"])
         for name in ("T-3", "T-9"):
             self.assertRaisesRegex(NotAtHand, name, chosen, some, [name], CheckOptions())
-        self.assertEqual(self.labels(chosen(some, [], CheckOptions(oldest=True))), ["T-4"])
-        self.assertEqual(self.labels(chosen(some, [], CheckOptions(oldest=True, sample=2))), ["T-4", "T-5"])
-        self.assertEqual(self.labels(chosen(some, [], CheckOptions(oldest=True, sample=2, data=True))), ["T-4", "T-2"])
         for count, size in ((1, 1), (2, 2), (9, 3)):
             found = self.labels(chosen(some, [], CheckOptions(sample=count)))
             self.assertEqual((len(found), found), (size, sorted(found)))
         self.assertEqual(CheckOptions(), (False, False, None, False))
+
+    def test_those_that_were_not_looked_at_for_longest(self) -> None:
+        some = rows(*[STATE_CLOSED] * 4, checked=[9, 3, 5, 1 << 62], data_checked=[1, None, 7, 9])
+        config, catalogue = SimpleNamespace(), SimpleNamespace(put_away=dict)
+        for asked, found in (
+            (CheckOptions(oldest=True), ["T-4"]), (CheckOptions(oldest=True, sample=3), ["T-4", "T-2", "T-3"]),
+            (CheckOptions(oldest=True, sample=2, data=True), ["T-2", "T-1"]),
+        ):
+            with self.subTest(asked=asked), patch("udfburn.archive.check.image_of", return_value="there"):
+                choose: Any = oldest
+                self.assertEqual(self.labels(choose(config, catalogue, some, asked)), found)
 
     def test_those_that_are_closed(self) -> None:
         some = rows("new", "open", "open", STATE_FULL, STATE_CLOSED, STATE_RETIRED, "open", files=[0, 0, 3, 0, 5, 1, 9], holder=["me"] * 6 + ["other"])
